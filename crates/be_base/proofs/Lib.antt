@@ -1,0 +1,4 @@
+pub mod SameText
+pub mod NameForms
+pub mod Lexing
+pub mod Scanning

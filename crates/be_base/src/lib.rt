@@ -1,0 +1,20 @@
+//! Names, numbers, tokens and limits that every layer uses.
+#![tactic(auto)]
+
+mod limits;
+mod names;
+mod numbers;
+mod terms;
+mod tokens;
+
+pub use limits::{
+    ATTRIBUTES, FILE_BYTES, FIRST_INT, LAST_INT, LINE_BYTES, LOG_CHANGES, NAME_BYTES, PREDICATES,
+    SET_VALUES, SOURCE_BYTES, SYMBOLS,
+};
+pub use names::{AttrNo, Id, Name, NameFault, NoMemory, NoRead, SessionNo};
+pub use numbers::{read_count, read_int};
+pub use terms::{Term, read_term};
+pub use tokens::{Scan, Token, is_word_byte, next_token};
+
+#[cfg(test)]
+mod tests;
