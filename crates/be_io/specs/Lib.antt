@@ -1,0 +1,10 @@
+pub mod Counts
+pub mod Told
+pub mod Calls
+pub mod Memory
+pub mod Lines
+pub mod Reader
+pub mod Reading
+pub mod Buffer
+pub mod Shelf
+pub mod Door

@@ -1,0 +1,26 @@
+//! What the product takes from the outside and gives to it, as traits with counts of faults.
+#![tactic(auto)]
+
+mod calls;
+mod door;
+mod faults;
+mod gate;
+mod lines;
+mod link;
+mod shelf;
+mod sink;
+mod source;
+mod standard;
+
+pub use door::{Door, DoorCount, NoDoor};
+pub use faults::{AcceptFault, Failed, LineFault, ListenFault, ShelfFault, SinkFault};
+pub use gate::{Gate, NoGate};
+pub use lines::{Line, LineReader};
+pub use link::{Link, Pair};
+pub use shelf::{MemShelf, Shelf};
+pub use sink::{MemSink, Sink, write_all};
+pub use source::{MemSource, Source};
+pub use standard::{FileShelf, StdinSource, StdoutSink};
+
+#[cfg(test)]
+mod tests;

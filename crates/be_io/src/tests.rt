@@ -1,0 +1,142 @@
+use super::*;
+use std::alloc::Global;
+use std::fmt::Write;
+use std::test::Fail;
+
+struct Case {
+    text: &'static [u8],
+    limit: u16,
+    answers: &'static str,
+}
+
+const CASES: [Case; 9] = [
+    Case {
+        text: b"",
+        limit: 4,
+        answers: "end",
+    },
+    Case {
+        text: b"\n",
+        limit: 4,
+        answers: "[] end",
+    },
+    Case {
+        text: b"a\nbb\n",
+        limit: 4,
+        answers: "[a] [bb] end",
+    },
+    Case {
+        text: b"a\nbb",
+        limit: 4,
+        answers: "[a] [bb] end",
+    },
+    Case {
+        text: b"four\nfives\nsix\n",
+        limit: 4,
+        answers: "[four] long 5 [six] end",
+    },
+    Case {
+        text: b"a\n\n\nfour",
+        limit: 4,
+        answers: "[a] [] [] [four] end",
+    },
+    Case {
+        text: b"a\nfives",
+        limit: 4,
+        answers: "[a] long 5 end",
+    },
+    Case {
+        text: b"b\r\nabcdefghijklmnopqrstuvwxyz\nc\n",
+        limit: 4,
+        answers: "[b\r] long 26 [c] end",
+    },
+    Case {
+        text: b"x\n\n",
+        limit: 0,
+        answers: "long 1 [] end",
+    },
+];
+
+fn answers<S: Source>(alloc: Global, source: &mut S, limit: u16) -> Result<String, Fail> {
+    let mut reader = LineReader::make(alloc, usize::from(limit))?;
+    let mut answers = String::new(alloc);
+    for _ in 0..20 {
+        match reader.next(source) {
+            Ok(Line::Text) => {
+                let text = str::from_utf8(reader.text())?;
+                write!(answers, "[{text}] ")?;
+            }
+            Ok(Line::Long { len }) => write!(answers, "long {len} ")?,
+            Ok(Line::End) => {
+                answers.push_str("end")?;
+                break;
+            }
+            Err(LineFault::ReadFault) => answers.push_str("fault ")?,
+            Err(LineFault::Spent) => answers.push_str("spent ")?,
+        }
+    }
+    Ok(answers)
+}
+
+#[test]
+fn lines_whatever_the_pieces(rt: HostRuntime) -> Result<(), Fail> {
+    let alloc = rt.alloc();
+    for case in &CASES {
+        for piece in 1..40usize {
+            let bytes = Vec::from_slice(alloc, case.text)?;
+            let mut source = MemSource::make(bytes, piece, Vec::new(alloc));
+            let found = answers(alloc, &mut source, case.limit)?;
+            assert_eq!(rt; found.as_str(), case.answers);
+        }
+    }
+    Ok(())
+}
+
+#[test]
+fn a_fault_stays(rt: HostRuntime) -> Result<(), Fail> {
+    let alloc = rt.alloc();
+    let bytes = Vec::from_slice(alloc, b"SUB a price >= 10\nPUB price=10\n")?;
+    let source = MemSource::make(bytes, 18, vec![in alloc; 2]?);
+    let sink = MemSink::make(alloc, Vec::new(alloc));
+    let mut link = Pair { source, sink };
+    let mut reader = LineReader::make(alloc, 65536)?;
+    assert_eq!(rt; reader.next(&mut link), Ok(Line::Text));
+    assert_eq!(rt; reader.text(), b"SUB a price >= 10".as_slice());
+    assert_eq!(rt; reader.next(&mut link), Err(LineFault::ReadFault));
+    assert_eq!(rt; reader.next(&mut link), Err(LineFault::ReadFault));
+    Ok(())
+}
+
+#[test]
+fn a_failed_write_takes_nothing(rt: HostRuntime) -> Result<(), Fail> {
+    let alloc = rt.alloc();
+    let mut sink = MemSink::make(alloc, vec![in alloc; 2]?);
+    assert_eq!(rt; write_all(&mut sink, b"one"), Ok(()));
+    assert_eq!(rt; write_all(&mut sink, b"two"), Err(SinkFault::Failed));
+    assert_eq!(rt; write_all(&mut sink, b""), Ok(()));
+    assert_eq!(rt; write_all(&mut sink, b"six"), Ok(()));
+    assert_eq!(rt; sink.bytes(), b"onesix".as_slice());
+    Ok(())
+}
+
+#[test]
+fn files_by_name(rt: HostRuntime) -> Result<(), Fail> {
+    let alloc = rt.alloc();
+    let bytes = Vec::from_slice(alloc, b"int price 0 1000")?;
+    let files = vec![in alloc; (String::from_str(alloc, "S")?, bytes)]?;
+    let mut shelf = MemShelf::make(files, vec![in alloc; 3]?);
+    let file = shelf.read_file(alloc, "S")?;
+    assert_eq!(rt; file.as_slice(), b"int price 0 1000".as_slice());
+    assert!(rt; shelf.read_file(alloc, "T") == Err(ShelfFault::Failed));
+    assert!(rt; shelf.read_file(alloc, "S") == Err(ShelfFault::Failed));
+    Ok(())
+}
+
+#[test]
+fn no_file_of_the_system(rt: HostRuntime) -> Result<(), Fail> {
+    let alloc = rt.alloc();
+    let mut shelf = FileShelf::make(&rt, alloc);
+    assert!(rt; shelf.read_file(alloc, "no-such-file") == Err(ShelfFault::Failed));
+    assert!(rt; shelf.read_file(alloc, "/") == Err(ShelfFault::Failed));
+    Ok(())
+}
