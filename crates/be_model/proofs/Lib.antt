@@ -1,0 +1,11 @@
+pub mod Lists
+pub mod Halvings
+pub mod Attributes
+pub mod Forms
+pub mod Spans
+pub mod FoundRows
+pub mod Ranges
+pub mod InSchema
+pub mod Orders
+pub mod AssignedValues
+pub mod Examples

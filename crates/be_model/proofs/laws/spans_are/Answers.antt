@@ -1,0 +1,5 @@
+use Rattle.be_model.proofs.Ranges.{spans_are}
+use Rattle.be_model.proofs.laws.spans_are.Goals as goal
+
+pub returns : goal.returns
+returns c = spans_are

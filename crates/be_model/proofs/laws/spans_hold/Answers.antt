@@ -1,0 +1,5 @@
+use Rattle.be_model.proofs.Ranges.{spans_hold}
+use Rattle.be_model.proofs.laws.spans_hold.Goals as goal
+
+pub returns : goal.returns
+returns c = spans_hold

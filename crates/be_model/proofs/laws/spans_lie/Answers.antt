@@ -1,0 +1,5 @@
+use Rattle.be_model.proofs.Ranges.{spans_lie}
+use Rattle.be_model.proofs.laws.spans_lie.Goals as goal
+
+pub returns : goal.returns
+returns c = spans_lie

@@ -1,0 +1,9 @@
+pub mod Domains
+pub mod Schemas
+pub mod Matching
+pub mod Hulls
+pub mod Lies
+pub mod Forms
+pub mod Rows
+pub mod Laws
+pub mod Assigned

@@ -1,0 +1,28 @@
+-- Rows behind shared references, as contracts see them.
+use Rattle.std.specs.Prelude.{ℕ, List, map}
+use Rattle.std.specs.Arc.{arc_value}
+use Rattle.std.specs.declared.sync.Arc.{Arc}
+use Rattle.be_base.specs.declared.names.SessionNo.{SessionNo}
+use Rattle.be_model.specs.declared.changes.Row.{Row}
+use Rattle.be_model.specs.declared.changes.Change.{Change}
+use Rattle.be_model.specs.declared.changes.Change.TheVariants.{Sub, Unsub, Bye}
+
+abbrev pub rows_in : {Z : Type 0} → List (Arc Row Z) → List Row
+rows_in xs = map (λ x. arc_value x) xs
+
+-- rows that were found, and how many more can be put without memory
+pub record FoundRows : Type 0 where
+  pub rows : List Row
+  pub spare : ℕ
+
+abbrev pub found : List Row → ℕ → FoundRows
+found rows spare = record { rows = rows; spare = spare }
+
+abbrev pub id_of : Row → ℕ
+id_of row = row.id.0
+
+-- the session that made a change
+abbrev pub session_of : Change → SessionNo
+session_of (Sub session serial row) = session
+session_of (Unsub session serial name) = session
+session_of (Bye session serial) = session

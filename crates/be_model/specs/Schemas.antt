@@ -1,0 +1,60 @@
+-- Schemas: which attributes there are.
+use Rattle.std.specs.Prelude.{◌≡◌, ℕ, pos, negsuc, ◌≤◌, ◌&&◌, not, Bool, true, List, [], ◌∷◌, length, map, nat_le, int_le, Option, option_map, slice_get, codes}
+use Rattle.std.specs.List.{list_all, list_any}
+use Rattle.be_base.specs.Text.{Text, same_text}
+use Rattle.be_base.specs.declared.names.AttrNo.{AttrNo}
+use Rattle.be_model.specs.declared.schemas.Domain.{Domain}
+use Rattle.be_model.specs.declared.schemas.Domain.TheVariants.{Int, Sym}
+use Rattle.be_model.specs.declared.schemas.Attribute.{Attribute}
+use Rattle.be_model.specs.Domains.{Range, bounds_of, place_of}
+
+-- a schema, as its attributes in order
+abbrev pub Attributes : Type 0
+Attributes = List Attribute
+
+abbrev pub names_of_attributes : Attributes → List Text
+names_of_attributes s = map (λ (a : Attribute). a.name) s
+
+-- `all`, `and`, `between`, `in` and `not`
+abbrev pub reserved_words : List Text
+reserved_words = codes "all" ∷ codes "and" ∷ codes "between" ∷ codes "in" ∷ codes "not" ∷ []
+
+abbrev pub is_among_texts : Text → List Text → Bool
+is_among_texts text texts = list_any (λ other. same_text other text) texts
+
+abbrev pub all_differ : List Text → Bool
+all_differ [] = true
+all_differ (text ∷ texts) = not (is_among_texts text texts) && all_differ texts
+
+abbrev pub is_domain : Domain → Bool
+is_domain (Int lo hi) = int_le (negsuc 2147483647) lo && int_le lo hi && int_le hi (pos 2147483647)
+is_domain (Sym words) = nat_le 1 (length words) && nat_le (length words) 4096 && all_differ words
+
+-- the form of a schema
+pub record IsSchema (s : Attributes) : Type 0 where
+  pub few : length s ≤ 256
+  pub differ : all_differ (names_of_attributes s) ≡ true
+  pub unreserved : list_all (λ name. not (is_among_texts name reserved_words)) (names_of_attributes s) ≡ true
+  pub domains : list_all (λ (a : Attribute). is_domain a.domain) s ≡ true
+
+-- whether an attribute may be put last
+abbrev pub takes : Attributes → Text → Domain → Bool
+takes s name domain =
+    not (nat_le 256 (length s)) && not (is_among_texts name (names_of_attributes s)) && not (is_among_texts name reserved_words) && is_domain domain
+
+abbrev pub attribute_of : Text → Domain → Attribute
+attribute_of name domain = record { name = name; domain = domain }
+
+abbrev pub numbered : ℕ → AttrNo
+numbered place = record { 0 = place }
+
+-- the attribute of this name
+abbrev pub attribute_named : Attributes → Text → Option AttrNo
+attribute_named s name = option_map numbered (place_of name (names_of_attributes s))
+
+abbrev pub attribute_at : Attributes → AttrNo → Option Attribute
+attribute_at s a = slice_get s a.0
+
+-- the range of an attribute that the schema has
+abbrev pub range_of : Attributes → AttrNo → Option Range
+range_of s a = option_map (λ (x : Attribute). bounds_of x.domain) (attribute_at s a)

@@ -1,0 +1,63 @@
+//! Subscriptions, and changes of what is subscribed.
+
+ghost use Rattle.std.specs.Prelude.{◌≡◌};
+ghost use Rattle.be_model.specs.Forms.{IsConj};
+ghost use Rattle.be_model.specs.Lies.{row_lies};
+ghost use Rattle.be_model.specs.Rows.{session_of};
+
+use crate::conditions::Conj;
+use crate::schemas::Schema;
+use be_base::{Id, Name, SessionNo};
+use std::sync::Arc;
+
+/// A subscription.
+#[derive(Drop)]
+pub struct Row {
+    pub id: Id,
+    pub session: SessionNo,
+    pub name: Name,
+    pub conj: Conj,
+}
+
+impl Row {
+    /// Whether the row's condition lies in the schema.
+    pub fn lies(&self, s: &Schema) -> bool
+        ensures lies { result ≡ row_lies s.now self.now }
+        ensures form { IsConj self.now.conj }
+    {
+        self.conj.lies(s)
+    }
+}
+
+/// A change, with the session that made it and its number among the changes of that session, from 0.
+#[derive(Drop)]
+pub enum Change {
+    Sub {
+        session: SessionNo,
+        serial: u64,
+        row: Arc<Row>,
+    },
+    Unsub {
+        session: SessionNo,
+        serial: u64,
+        name: Name,
+    },
+    /// The session has left, and its rows with it.
+    Bye {
+        session: SessionNo,
+        serial: u64,
+    },
+}
+
+impl Change {
+    /// The session that made the change.
+    pub fn session(&self) -> SessionNo
+        ensures { result ≡ session_of self.now }
+    {
+        match self {
+            Change::Sub { session, .. } => *session,
+            Change::Unsub { session, .. } => *session,
+            Change::Bye { session, .. } => *session,
+        }
+    }
+}

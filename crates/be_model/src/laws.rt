@@ -1,0 +1,33 @@
+//! What hulls, spans, halves and numbers of halvings are good for. The functions do nothing; each contract is a law.
+
+ghost use Rattle.be_model.specs.Laws.{HullsHold, SpansHold, SpansAre, SpansLie, HalvingsCount, HalvesSplit};
+
+/// A hull holds every value of the domain of which its predicate holds.
+pub fn hulls_hold()
+    ensures { HullsHold }
+{}
+
+/// A span holds every value of the domain that satisfies all predicates on its attribute.
+pub fn spans_hold()
+    ensures { SpansHold }
+{}
+
+/// A span isn't empty and lies in the domain.
+pub fn spans_lie()
+    ensures { SpansLie }
+{}
+
+/// There is no span exactly where no predicate is on the attribute.
+pub fn spans_are()
+    ensures { SpansAre }
+{}
+
+/// A range of one value isn't halved. Another one is halved, and then its greater half.
+pub fn halvings_count()
+    ensures { HalvingsCount }
+{}
+
+/// The halves of a range aren't empty, cover it and have no value in common.
+pub fn halves_split()
+    ensures { HalvesSplit }
+{}

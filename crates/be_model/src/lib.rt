@@ -1,0 +1,17 @@
+//! Schemas, conditions, events, rows and changes, and when an event satisfies a condition.
+#![tactic(auto)]
+
+mod assigned;
+mod changes;
+mod conditions;
+mod events;
+mod found;
+mod laws;
+mod schemas;
+
+pub use changes::{Change, Row};
+pub use conditions::{Conj, DomFault, Op, Pred, Values, check_conj};
+pub use events::Event;
+pub use found::Found;
+pub use laws::{halves_split, halvings_count, hulls_hold, spans_are, spans_hold, spans_lie};
+pub use schemas::{Attribute, Domain, Names, Schema, is_reserved};
