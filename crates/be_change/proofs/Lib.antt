@@ -1,0 +1,9 @@
+pub mod Extends
+pub mod Grows
+pub mod Forms
+pub mod Names
+pub mod Alone
+pub mod Places
+pub mod Examples
+pub mod Free
+pub mod Walks

@@ -1,0 +1,74 @@
+-- Ids and places in the list of changes, and counts over it.
+use Rattle.std.proofs.Common.{◌≡◌, ℕ, suc, ◌+◌, ◌≤◌, ◌==◌, Bool, true, false, cond, ◌||◌, List, [], ◌∷◌, ◌++◌, length, refl, sym, ap, ◌∙◌, subst, arith, zero-add, length-append}
+use Rattle.std.proofs.lemmas.List.{map-append, length-map, append-nil}
+use Rattle.std.proofs.lemmas.List.Folds.{list_any-append}
+use Rattle.std.proofs.lemmas.List.Sums.{length-filter}
+use Rattle.std.specs.Arc.{arc_value}
+use Rattle.std.specs.declared.sync.Arc.{Arc}
+use Rattle.std.specs.List.{list_any, count_by, filter}
+use Rattle.be_model.specs.declared.changes.Change.{Change}
+use Rattle.be_change.specs.History.{Entry, session_of, entries_of, is_leave_of, has_left, places_of, places_from}
+use Rattle.be_change.specs.Sound.{StartsWith}
+use Rattle.be_change.proofs.Extends.{places_of-append}
+use Rattle.be_change.specs.Entries.{entry_of, entries_in, HasIdAt, HaveIdsFrom, IdsArePlaces, IsLog, spare_of}
+
+ids_from-snoc : (n : ℕ) (h : List Entry) (e : Entry) → HaveIdsFrom n h → HasIdAt (n + length h) e → HaveIdsFrom n (h ++ e ∷ [])
+ids_from-snoc n [] e a b = (subst (λ (i : ℕ). HasIdAt i e) (omega arith) b, tt)
+ids_from-snoc n (x ∷ xs) e a b = (a.0, ids_from-snoc (n + 1) xs e a.1 (subst (λ (i : ℕ). HasIdAt i e) (omega arith) b))
+
+-- one more entry with its place as id
+pub ids-snoc : (h : List Entry) (e : Entry) → IdsArePlaces h → HasIdAt (length h) e → IdsArePlaces (h ++ e ∷ [])
+ids-snoc h e a b = ids_from-snoc 0 h e a (subst (λ (i : ℕ). HasIdAt i e) (sym (zero-add (length h))) b)
+
+pub left_in : {Z : Type 0} (k : ℕ) (xs : List (Arc Change Z)) → has_left k (entries_in xs) ≡ list_any (λ x. is_leave_of k (entry_of (arc_value x))) xs
+left_in k [] = refl
+left_in k (x ∷ xs) = ap (λ (b : Bool). is_leave_of k (entry_of (arc_value x)) || b) (left_in k xs)
+
+same_length_if : {A B : Type 0} (b : Bool) (x : A) (xs : List A) (y : B) (ys : List B) → length xs ≡ length ys → length (cond b (x ∷ xs) xs) ≡ length (cond b (y ∷ ys) ys)
+same_length_if true x xs y ys h = ap (λ n. suc n) h
+same_length_if false x xs y ys h = h
+
+filtered_in : {Z : Type 0} (k : ℕ) (xs : List (Arc Change Z)) → length (entries_of k (entries_in xs)) ≡ length (filter (λ x. session_of (entry_of (arc_value x)) == k) xs)
+filtered_in k [] = refl
+filtered_in k (x ∷ xs) =
+    let e : Entry = entry_of (arc_value x) in
+    same_length_if (session_of e == k) e (entries_of k (entries_in xs)) x (filter (λ y. session_of (entry_of (arc_value y)) == k) xs) (filtered_in k xs)
+
+pub count_in : {Z : Type 0} (k : ℕ) (xs : List (Arc Change Z)) → length (entries_of k (entries_in xs)) ≡ count_by (λ x. session_of (entry_of (arc_value x)) == k) xs
+count_in k xs = filtered_in k xs ∙ length-filter (λ x. session_of (entry_of (arc_value x)) == k) xs
+
+-- one more change, for which there was room
+pub pushed : {Z : Type 0} (xs ys : List (Arc Change Z)) (x : Arc Change Z) (n cap cap' : ℕ) (old : List Entry) → IsLog (entries_in xs) cap → n ≡ length xs → 1 ≤ spare_of n cap → entries_in xs ≡ old
+    → HasIdAt (length old) (entry_of (arc_value x)) → ys ≡ xs ++ x ∷ [] → cap' ≡ cap → IsLog (entries_in ys) cap'
+pushed xs ys x n cap cap' old i count room same id more kept =
+    let e : Entry = entry_of (arc_value x) in
+    let now : entries_in ys ≡ entries_in xs ++ e ∷ [] = ap entries_in more ∙ map-append (λ y. entry_of (arc_value y)) xs (x ∷ []) in
+    let long : length (entries_in ys) ≡ length xs + 1 = ap (λ (l : List Entry). length l) now ∙ omega (arith, length-append (entries_in xs) (e ∷ []), length-map xs (λ y. entry_of (arc_value y))) in
+    record {
+      fits = omega arith;
+      few = omega arith;
+      ids = subst IdsArePlaces (sym now) (ids-snoc (entries_in xs) e i.ids (subst (λ (l : List Entry). HasIdAt (length l) e) (sym same) id));
+    }
+
+places_from-count : (k n : ℕ) (h : List Entry) → length (places_from k n h) ≡ length (entries_of k h)
+places_from-count k n [] = refl
+places_from-count k n (x ∷ xs) = same_length_if (session_of x == k) n (places_from k (n + 1) xs) x (entries_of k xs) (places_from-count k (n + 1) xs)
+
+-- a session has as many places as entries
+pub places_count : (k : ℕ) (h : List Entry) → length (places_of k h) ≡ length (entries_of k h)
+places_count k h = places_from-count k 0 h
+
+no_length : (xs : List ℕ) → length xs ≡ 0 → xs ≡ []
+no_length [] e = refl
+no_length (x ∷ xs) e = absurd (omega arith)
+
+-- a list that begins with another, and has no more entries of the session than it, has them at the same places
+pub places_same : (k : ℕ) (h seen : List Entry) → StartsWith h seen → length (entries_of k h) ≡ length (entries_of k seen) → places_of k h ≡ places_of k seen
+places_same k h seen s n =
+    let all : places_of k h ≡ places_of k seen ++ places_from k (length seen) s.0 = ap (places_of k) s.1 ∙ places_of-append k seen s.0 in
+    let none : length (places_from k (length seen) s.0) ≡ 0 =
+    omega (arith, places_count k h, places_count k seen, ap (λ (l : List ℕ). length l) all, length-append (places_of k seen) (places_from k (length seen) s.0)) in
+    all ∙ (ap (λ (l : List ℕ). places_of k seen ++ l) (no_length (places_from k (length seen) s.0) none) ∙ append-nil (places_of k seen))
+
+pub left-append : (k : ℕ) (h more : List Entry) → has_left k (h ++ more) ≡ (has_left k h || has_left k more)
+left-append k h more = list_any-append (is_leave_of k) h more

@@ -1,0 +1,59 @@
+-- The list of changes as contracts see it.
+use Rattle.std.specs.Prelude.{◌≡◌, ℕ, ◌+◌, ◌-◌, ◌≤◌, List, [], ◌∷◌, length, map, min, Option, Some, None}
+use Rattle.std.specs.Arc.{arc_value}
+use Rattle.std.specs.declared.sync.Arc.{Arc}
+use Rattle.be_model.specs.declared.changes.Change.{Change}
+use Rattle.be_model.specs.declared.changes.Change.TheVariants.{Sub, Unsub, Bye}
+use Rattle.be_model.specs.declared.changes.Row.{Row}
+use Rattle.be_change.specs.History.{Entry, subscribed, unsubscribed, left}
+
+abbrev pub entry_of : Change → Entry
+entry_of (Sub k n row) = subscribed k.0 n (arc_value row)
+entry_of (Unsub k n name) = unsubscribed k.0 n name
+entry_of (Bye k n) = left k.0 n
+
+abbrev pub entries_in : {Z : Type 0} → List (Arc Change Z) → List Entry
+entries_in xs = map (λ x. entry_of (arc_value x)) xs
+
+-- a Sub's row has this place as its id
+abbrev pub HasIdAt : ℕ → Entry → Type 0
+HasIdAt place (subscribed k n row) = row.id.0 ≡ place
+HasIdAt place (unsubscribed k n name) = Unit {0}
+HasIdAt place (left k n) = Unit {0}
+
+abbrev pub HaveIdsFrom : ℕ → List Entry → Type 0
+HaveIdsFrom place [] = Unit {0}
+HaveIdsFrom place (e ∷ es) = HasIdAt place e × HaveIdsFrom (place + 1) es
+
+-- the id of each Sub's row is its place
+abbrev pub IdsArePlaces : List Entry → Type 0
+IdsArePlaces h = HaveIdsFrom 0 h
+
+-- the row, where there is an entry and it is a Sub
+abbrev pub row_in : Option Entry → Option Row
+row_in None = None
+row_in (Some (subscribed k n row)) = Some row
+row_in (Some (unsubscribed k n name)) = None
+row_in (Some (left k n)) = None
+
+-- 2^48: no list has more entries, those counted for which there is room
+abbrev pub most_entries : ℕ
+most_entries = 281474976710656
+
+-- the changes, and how many more can be put without memory
+pub record Log : Type 0 where
+  pub list : List Entry
+  pub spare : ℕ
+
+abbrev pub log : List Entry → ℕ → Log
+log list spare = record { list = list; spare = spare }
+
+-- the room behind so many changes
+abbrev pub spare_of : (len capacity : ℕ) → ℕ
+spare_of len capacity = min capacity most_entries - len
+
+-- what the type keeps
+pub record IsLog (h : List Entry) (capacity : ℕ) : Type 0 where
+  pub fits : length h ≤ capacity
+  pub few : length h ≤ most_entries
+  pub ids : IdsArePlaces h

@@ -1,0 +1,74 @@
+-- What a reader may rely on of each list of changes.
+use Rattle.std.specs.Prelude.{◌≡◌, ℕ, ◌≤◌, ◌↔◌, true, List, [], ◌∷◌, ◌++◌, length, take, Some, slice_get}
+use Rattle.be_model.specs.Matching.{Assignments}
+use Rattle.be_change.specs.History.{Text, Entry, unsubscribed, left, serial_of, entries_of, places_of, live, after_entry, hits, names_of, MayFollow, IsWellFormed}
+use Rattle.be_change.specs.Requests.{Exchange}
+use Rattle.be_change.specs.Walk.{Walk, IsLegal, IsLegalSession, names_of_session}
+use Rattle.be_change.specs.LiveRows.{AllBelow, Rising, SayIds, names_differ, LosesOne}
+
+-- a list is well formed exactly where each entry may follow those before it
+abbrev pub FormIsByPlace : Type 0
+FormIsByPlace = (h : List Entry) → IsWellFormed h ↔ ((i : ℕ) (e : Entry) → slice_get h i ≡ Some e → MayFollow (take i h) e)
+
+-- one more entry that may follow keeps a list well formed
+abbrev pub FormIsKept : Type 0
+FormIsKept = (h : List Entry) (e : Entry) → IsWellFormed h → MayFollow h e → IsWellFormed (h ++ e ∷ [])
+
+-- a beginning of a well formed list is well formed
+abbrev pub BeginningsAreFormed : Type 0
+BeginningsAreFormed = (h more : List Entry) → IsWellFormed (h ++ more) → IsWellFormed h
+
+-- the serials of a session are 0, 1, 2, .. in their order
+abbrev pub SerialsCount : Type 0
+SerialsCount =
+    (h : List Entry) (k i : ℕ) (e : Entry) → IsWellFormed h → slice_get (entries_of k h) i ≡ Some e → serial_of e ≡ i
+
+-- after a session's Bye there is no entry of that session
+abbrev pub ByeIsLast : Type 0
+ByeIsLast = (h more : List Entry) (k n : ℕ) → IsWellFormed (h ++ left k n ∷ more) → entries_of k more ≡ []
+
+-- live ids are places in the list, and rise
+abbrev pub LiveIdsRise : Type 0
+LiveIdsRise = (h : List Entry) → AllBelow (length h) (live h) × Rising (live h)
+
+-- each live row says its id, and the names of live rows differ
+abbrev pub LiveNamesDiffer : Type 0
+LiveNamesDiffer = (h : List Entry) → IsWellFormed h → SayIds (live h) × (names_differ (names_of (live h)) ≡ true)
+
+-- an Unsub removes exactly one row, of its session and of its name
+abbrev pub UnsubRemovesOne : Type 0
+UnsubRemovesOne =
+    (h : List Entry) (k n : ℕ) (name : Text) → IsWellFormed h → MayFollow h (unsubscribed k n name) → LosesOne (live h) (live (h ++ unsubscribed k n name ∷ [])) k name
+
+-- what is live after the first n entries, and what is found there, doesn't depend on what follows
+abbrev pub BeginningsStay : Type 0
+BeginningsStay =
+    (h more : List Entry) (n : ℕ) → n ≤ length h
+    → (live (take n (h ++ more)) ≡ live (take n h))
+    × ((e : Assignments) → hits (take n (h ++ more)) e ≡ hits (take n h) e)
+    × ((k : ℕ) → names_of_session k (take n (h ++ more)) ≡ names_of_session k (take n h))
+
+-- a legal session stays legal, whatever other sessions add to the list
+abbrev pub LegalIsKept : Type 0
+LegalIsKept =
+    (k : ℕ) (h more : List Entry) (ps : List Exchange) → places_of k more ≡ [] → IsLegalSession k h ps → IsLegalSession k (h ++ more) ps
+
+-- what a session was told, and where its last change stands, doesn't fall, and stays within the list
+pub record NumbersRise (h : List Entry) (w w' : Walk) : Type 0 where
+  pub seen : w.seen ≤ w'.seen
+  pub own : w.own ≤ w'.own
+  pub seen_within : w.seen ≤ length h → w'.seen ≤ length h
+  pub own_within : w.own ≤ length h → w'.own ≤ length h
+
+abbrev pub ToldNumbersRise : Type 0
+ToldNumbersRise = (k : ℕ) (h : List Entry) (ps : List Exchange) (w w' : Walk) → IsLegal k h ps w w' → NumbersRise h w w'
+
+-- what is live after one more entry: a Sub adds its row at its place, an Unsub takes away the rows of its name and
+-- session, a Bye those of its session
+abbrev pub LiveGrows : Type 0
+LiveGrows = (h : List Entry) (e : Entry) → live (h ++ e ∷ []) ≡ after_entry (live h) (length h) e
+
+-- replies that are legal over a list are legal over each longer one
+abbrev pub WalkIsKept : Type 0
+WalkIsKept =
+    (k : ℕ) (h more : List Entry) (ps : List Exchange) (w w' : Walk) → IsLegal k h ps w w' → IsLegal k (h ++ more) ps w w'

@@ -1,0 +1,9 @@
+pub mod History
+pub mod Entries
+pub mod Sound
+pub mod Requests
+pub mod Walk
+pub mod Made
+pub mod LiveRows
+pub mod Alone
+pub mod Laws

@@ -1,0 +1,27 @@
+-- Lists of changes that are well formed and lie in a schema, and beginnings of lists.
+use Rattle.std.specs.Prelude.{◌≡◌, Bool, true, List, ◌++◌}
+use Rattle.std.specs.List.{list_all}
+use Rattle.be_model.specs.Schemas.{Attributes}
+use Rattle.be_model.specs.Lies.{row_lies}
+use Rattle.be_change.specs.History.{Entry, subscribed, unsubscribed, left, IsWellFormed, MayFollow}
+
+abbrev pub entry_lies : Attributes → Entry → Bool
+entry_lies s (subscribed k n row) = row_lies s row
+entry_lies s (unsubscribed k n name) = true
+entry_lies s (left k n) = true
+
+abbrev pub all_lie : Attributes → List Entry → Bool
+all_lie s h = list_all (entry_lies s) h
+
+pub record Sound (s : Attributes) (h : List Entry) : Type 0 where
+  pub formed : IsWellFormed h
+  pub lies : all_lie s h ≡ true
+
+-- the entry may come next
+pub record MayAppend (s : Attributes) (h : List Entry) (e : Entry) : Type 0 where
+  pub follows : MayFollow h e
+  pub lies : entry_lies s e ≡ true
+
+-- the list begins with these entries
+abbrev pub StartsWith : List Entry → List Entry → Type 0
+StartsWith h seen = (rest : List Entry) × (h ≡ seen ++ rest)
