@@ -1,0 +1,5 @@
+pub mod Naming
+pub mod Outcomes
+pub mod Answered
+pub mod Runs
+pub mod InMemory

@@ -1,0 +1,4 @@
+pub mod Acts
+pub mod World
+pub mod Memory
+pub mod Sessions
