@@ -1,0 +1,4 @@
+pub mod ItemLies
+pub mod FirstLines
+pub mod DeclaredNames
+pub mod SchemaForms
