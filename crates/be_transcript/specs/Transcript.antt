@@ -1,0 +1,94 @@
+-- Which bytes a session may be given for its lines.
+use Rattle.std.specs.Prelude.{◌≡◌, ℕ, ◌<◌, ◌≤◌, ◌⊎◌, Bool, true, false, List, [], ◌∷◌, ◌++◌, length, map, Option}
+use Rattle.std.specs.List.{flat_map, list_all}
+use Rattle.be_io.specs.Told.{WhereTold}
+use Rattle.be_io.specs.Lines.{TextLine, lines}
+use Rattle.be_model.specs.Schemas.{Attributes}
+use Rattle.be_change.specs.History.{Entry, IsWellFormed}
+use Rattle.be_change.specs.Requests.{Request, Reply, held, split, shut, Exchange}
+use Rattle.be_change.specs.Walk.{IsLegalSession}
+use Rattle.be_change.specs.Made.{made}
+use Rattle.be_transcript.specs.Readings.{reading}
+use Rattle.be_transcript.specs.Replies.{reply_text}
+
+-- the list begins with these
+abbrev pub BeginsWith : {X : Type 0} → List X → List X → Type 0
+BeginsWith {X} all front = (rest : List X) × (all ≡ front ++ rest)
+
+-- each line is answered, up to the one that ended the session
+abbrev pub AnswersEach : Bool → List Request → List Request → Type 0
+AnswersEach true asked answered = BeginsWith asked answered
+AnswersEach false asked answered = answered ≡ asked
+
+abbrev pub requests : List Exchange → List Request
+requests ps = map (λ (p : Exchange). p.0) ps
+
+-- the replies, one after another, and no other byte
+abbrev pub texts : List Exchange → List ℕ
+texts ps = flat_map (λ (p : Exchange). reply_text p.1) ps
+
+-- these exchanges are session k's, over the list h, for its lines
+pub record AreExchanges (s : Attributes) (k : ℕ) (h : List Entry) (ls : List TextLine) (ps : List Exchange) : Type 0 where
+  pub session : IsLegalSession k h ps
+  pub each : AnswersEach session.end.ended (map (reading s) ls) (requests ps)
+
+-- out is a legal transcript of session k's lines over the list h
+abbrev pub IsTranscript : Attributes → ℕ → List Entry → List TextLine → List ℕ → Type 0
+IsTranscript s k h ls out = (ps : List Exchange) × AreExchanges s k h ls ps × (out ≡ texts ps)
+
+-- a run with one session publishes each change at once and refuses no reader
+abbrev pub comes_in_run : Reply → Bool
+comes_in_run (held n) = false
+comes_in_run (split a b) = false
+comes_in_run shut = false
+comes_in_run _ = true
+
+-- the exchanges of a run with one session, number 1, over the list that they make
+pub record AreRun (s : Attributes) (ls : List TextLine) (ps : List Exchange) : Type 0 where
+  pub exchanges : AreExchanges s 1 (made 1 ps) ls ps
+  pub formed : IsWellFormed (made 1 ps)
+  pub plain : list_all (λ (p : Exchange). comes_in_run p.1) ps ≡ true
+
+-- out is a legal transcript of the lines over the list that the lines and the replies make
+abbrev pub IsRunTranscript : Attributes → List TextLine → List ℕ → Type 0
+IsRunTranscript s ls out = (ps : List Exchange) × AreRun s ls ps × (out ≡ texts ps)
+
+-- out is such a transcript, but that the last reply is cut short
+abbrev pub IsCutWithin : Attributes → List TextLine → List ℕ → Type 0
+IsCutWithin s ls out =
+    (ps : List Exchange) × (last : Exchange) × AreRun s ls (ps ++ last ∷ [])
+    × (missing : List ℕ) × (0 < length missing) × (texts (ps ++ last ∷ []) ≡ out ++ missing)
+    × BeginsWith out (texts ps)
+
+-- out is such a transcript, whole or cut within its last reply
+abbrev pub IsCutTranscript : Attributes → List TextLine → List ℕ → Type 0
+IsCutTranscript s ls out = IsRunTranscript s ls out ⊎ IsCutWithin s ls out
+
+-- the bytes of a session's line before its LF
+abbrev pub line_limit : ℕ
+line_limit = 65536
+
+-- at most so many bytes are read beyond the lines that were answered
+abbrev pub read_ahead : ℕ
+read_ahead = 131072
+
+-- these are the first lines of what the source had left, and no more was read than them and what a reader keeps
+pub record AreFirstLines (before after : List ℕ) (ls : List TextLine) : Type 0 where
+  pub front : List ℕ
+  pub ahead : List ℕ
+  pub parts : before ≡ front ++ (ahead ++ after)
+  pub few : length ahead ≤ read_ahead
+  pub are_lines : ls ≡ lines line_limit true front
+  pub first : BeginsWith (lines line_limit true before) ls
+
+abbrev pub ReadFirstLines : Option (List ℕ) → Option (List ℕ) → List TextLine → Type 0
+ReadFirstLines before after ls = WhereTold before after (λ b a. AreFirstLines b a ls)
+
+-- the source was read to its end, and these are the lines of what was read
+abbrev pub ReadToEnd : Option (List ℕ) → Option (List ℕ) → List TextLine → Type 0
+ReadToEnd before after ls = WhereTold before after (λ b a. (a ≡ []) × (ls ≡ lines line_limit true b))
+
+-- a part of what the source had left was read, and these are the whole lines of that part
+abbrev pub ReadInPart : Option (List ℕ) → Option (List ℕ) → List TextLine → Type 0
+ReadInPart before after ls =
+    WhereTold before after (λ b a. (taken : List ℕ) × (b ≡ taken ++ a) × (ls ≡ lines line_limit false taken))
