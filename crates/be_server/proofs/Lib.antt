@@ -1,0 +1,5 @@
+pub mod Commanded
+pub mod Steps
+pub mod Serves
+pub mod Turning
+pub mod Exactness

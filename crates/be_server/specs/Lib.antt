@@ -1,0 +1,14 @@
+pub mod Words
+pub mod Commands
+pub mod Shorts
+pub mod Asked
+pub mod Table
+pub mod Ties
+pub mod Wrote
+pub mod Turns
+pub mod Serving
+pub mod Ends
+pub mod Statuses
+pub mod Outcome
+pub mod Loads
+pub mod Entry

@@ -1,0 +1,14 @@
+//! Sessions and commands: the one call that the program makes.
+#![tactic(auto)]
+
+mod entry;
+mod requests;
+mod run;
+mod session;
+mod short;
+mod status;
+mod table;
+mod words;
+
+pub use entry::be_main;
+pub use status::{Rift, Shade, Status, Stray};

@@ -1,0 +1,24 @@
+//! The words after the program's name.
+
+ghost use Rattle.std.specs.Prelude.{◌≡◌, string_bytes, map};
+ghost use Rattle.be_server.specs.Words.{command_of};
+ghost use Rattle.be_server.specs.Commands.{plain_command};
+
+/// What the words ask for.
+#[derive(Clone, Copy, Debug)]
+pub enum Command<'a> {
+    /// One session over the input and the output, with the schema in the file of this name.
+    Run { schema: &'a str },
+}
+
+/// Reads the words. They are compared by hand while `run SCHEMA` is the one reading.
+pub fn read_words(words: &[String]) -> Option<Command<'_>>
+    ensures { plain_command result ≡ command_of (map (λ word. string_bytes word) words.now) }
+{
+    match words {
+        [command, schema] if command.as_str() == "run" => Some(Command::Run {
+            schema: schema.as_str(),
+        }),
+        _ => None,
+    }
+}
