@@ -1,0 +1,141 @@
+#!/usr/bin/env bash
+# Runs the program as the gate built it, or builds it, and compares its exit codes, standard output and
+# standard error byte for byte. Ends with 1 at the first difference.
+set -u
+top="$(cd "$(dirname "${BASH_SOURCE[0]}")/.." && pwd)"
+room="$(mktemp -d)"
+trap 'chmod -R u+rwx "$room" 2>/dev/null; rm -rf "$room"' EXIT
+passed=0
+
+# builds where the gate has left no program, and says so on standard error
+"$top/justmeadow" >/dev/null 2>"$room/first"
+if [ $? -ne 2 ]; then
+    cat "$room/first"
+    echo "FAILED: the program can't be run"
+    exit 1
+fi
+program="$room/program"
+cp "$top/crates/justmeadow/out/justmeadow" "$program"
+# another user may be the one that runs it
+chmod 711 "$room"
+chmod 755 "$program"
+nobody=(setpriv --reuid=65534 --regid=65534 --clear-groups)
+
+# same NAME CODE OUT ERR: what the last call left is as wanted, where OUT and ERR are texts for printf
+same() {
+    printf "$3" >"$room/want-out"
+    printf "$4" >"$room/want-err"
+    if [ "$code" -ne "$2" ]; then
+        echo "FAILED: $1: ended with $code, and not $2"
+        cat "$room/err"
+        exit 1
+    fi
+    if ! cmp -s "$room/want-out" "$room/out"; then
+        echo "FAILED: $1: standard output differs"
+        diff "$room/want-out" "$room/out" | head -n 20
+        exit 1
+    fi
+    if ! cmp -s "$room/want-err" "$room/err"; then
+        echo "FAILED: $1: standard error differs"
+        diff "$room/want-err" "$room/err" | head -n 20
+        exit 1
+    fi
+    passed=$((passed + 1))
+}
+
+# call WORD..: runs the program on the file `in`
+call() {
+    "$program" "$@" <"$room/in" >"$room/out" 2>"$room/err"
+    code=$?
+}
+
+cd "$room" || exit 1
+three='SUB a price >= 10\nPUB price=10\nPUB price=9\n'
+replies='OK 1\nHIT 1 1 a\nHIT 1 0\n'
+printf 'int price 0 1000\nint qty -5 5\nint one 7 7\n' >schema.txt
+printf "$three" >in
+
+# words
+call; same 'no word' 2 '' 'words refused\n'
+call run; same 'one word' 2 '' 'words refused\n'
+call schema.txt; same 'a schema alone' 2 '' 'words refused\n'
+call run schema.txt schema.txt; same 'three words' 2 '' 'words refused\n'
+call fly schema.txt; same 'an unknown command' 2 '' 'words refused\n'
+call RUN schema.txt; same 'a command in capitals' 2 '' 'words refused\n'
+call --help; same 'a flag' 2 '' 'words refused\n'
+call run $'\xff'; same 'a word that is no text' 2 '' 'words refused\n'
+
+# schemas
+call run missing.txt; same 'a missing schema' 4 '' 'read fault\n'
+call run ''; same 'a file without a name' 4 '' 'read fault\n'
+call run .; same 'a folder as schema' 4 '' 'read fault\n'
+call run schema.txt/inner; same 'a file as a folder' 4 '' 'read fault\n'
+printf 'int price 0 1000\n' >closed.txt
+chmod 000 closed.txt
+if [ ! -r closed.txt ]; then
+    call run closed.txt; same 'a schema without permission' 4 '' 'read fault\n'
+elif "${nobody[@]}" true 2>/dev/null; then
+    "${nobody[@]}" "$program" run closed.txt <in >out 2>err; code=$?
+    same 'a schema without permission' 4 '' 'read fault\n'
+else
+    echo 'skipped: a schema without permission: this user may read every file'
+fi
+: >empty.txt
+call run empty.txt; same 'an empty schema' 0 'BAD\nBAD\nBAD\n' ''
+printf 'int price 10 1\nint qty -5 5\nint one 7 7\n' >first.txt
+call run first.txt; same 'a fault on line 1' 3 '' 'schema line 1: Form\n'
+printf 'int price 0 1000\nint qty -5 5\nint one 7\n' >third.txt
+call run third.txt; same 'a fault on line 3' 3 '' 'schema line 3: Form\n'
+printf 'int price 0 1000\nint qty -5 5\nint one 7' >short.txt
+call run short.txt; same 'a fault on a last line without LF' 3 '' 'schema line 3: Form\n'
+truncate -s 67108865 over.txt
+call run over.txt; same 'a file over the limit' 4 '' 'file over 67108864 bytes\n'
+truncate -s 67108864 limit.txt
+call run limit.txt; same 'a file at the limit' 3 '' 'schema line 1: Form\n'
+
+# sessions
+call run schema.txt; same 'the three lines' 0 "$replies" ''
+call run "$room/schema.txt"; same 'a schema by its whole path' 0 "$replies" ''
+printf 'SUB a price >= 10\nPUB price=10' >in
+call run schema.txt; same 'a last line without LF' 0 'OK 1\nHIT 1 1 a\n' ''
+: >in
+call run schema.txt; same 'an empty input' 0 '' ''
+{ head -c 65537 /dev/zero; printf '\n'; head -c 65536 /dev/zero; printf "\n$three"; } >in
+call run schema.txt; same 'lines about the limit' 0 "LONG\nBAD\n$replies" ''
+printf "$three" | "$program" run schema.txt >out 2>err; code=$?
+same 'input from a pipe' 0 "$replies" ''
+printf "$three" >in
+
+# input and output that fail
+: >out; "$program" run schema.txt <&- >out 2>err; code=$?
+same 'a closed input' 4 '' 'read fault\n'
+"$program" run schema.txt </ >out 2>err; code=$?
+same 'a folder as input' 4 '' 'read fault\n'
+: >out; "$program" run schema.txt <in >&- 2>err; code=$?
+same 'a closed output' 5 '' 'write fault\n'
+if [ -w /dev/full ]; then
+    "$program" run schema.txt <in >/dev/full 2>err; code=$?
+    same 'a full output' 5 '' 'write fault\n'
+else
+    echo 'skipped: a full output: there is no /dev/full here'
+fi
+mkfifo pipe
+exec 3<>pipe 4>pipe 3<&-
+"$program" run schema.txt <in >&4 2>err; code=$?
+exec 4>&-
+same 'a pipe that nobody reads' 5 '' 'write fault\n'
+yes 'PUB price=1' | head -n 200000 >many
+"$program" run schema.txt <many 2>err | head -c 0 >out; code=${PIPESTATUS[0]}
+same 'a pipe that is left' 5 '' 'write fault\n'
+"$program" 2>&- >out <in; code=$?; : >err
+same 'a closed standard error' 2 '' ''
+
+# examples
+for folder in "$top"/examples/*/; do
+    name="$(basename "$folder")"
+    "$program" run "$folder/schema.txt" <"$folder/script.txt" >out 2>err; code=$?
+    # (no text of an example has a % or a \)
+    same "example $name" 0 "$(cat "$folder/expected.txt")\n" ''
+done
+
+echo "$passed passed, 0 failed"
