@@ -1,0 +1,13 @@
+//! Tests alone: rows of input and output, worked by hand from the rules, through the program's one call.
+#![tactic(auto)]
+
+#[cfg(test)]
+mod faults;
+#[cfg(test)]
+mod memory;
+#[cfg(test)]
+mod refusals;
+#[cfg(test)]
+mod rows;
+#[cfg(test)]
+mod setting;
