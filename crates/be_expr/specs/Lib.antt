@@ -1,1 +1,5 @@
+pub mod Written
+pub mod Readings
 pub mod Expressions
+pub mod Canonical
+pub mod Changes

@@ -8,7 +8,7 @@ ghost use Rattle.be_base.specs.Scans.{lexeme};
 ghost use Rattle.be_model.specs.Lies.{conj_lies};
 ghost use Rattle.be_expr.specs.Expressions.{comparison, predicate, expression, Reads};
 
-use be_base::{Token, read_term};
+use be_base::{AttrNo, Name, Token, read_term};
 use be_model::{Conj, Op, Pred, Schema};
 use std::alloc::Global;
 use thiserror::Error;
@@ -19,6 +19,15 @@ pub enum ExprFault {
     /// It has no reading.
     #[error("no reading")]
     Bad,
+    /// The first attribute that the schema doesn't have.
+    #[error("unknown attribute {name}")]
+    Attr { name: Name },
+    /// The attribute of the first value outside its domain.
+    #[error("a value outside the domain of attribute {}", .attr.0)]
+    Dom { attr: AttrNo },
+    /// How many predicates there are, where there are too many, or else how many values the first set has that has too many.
+    #[error("too many: {count}")]
+    Many { count: u64 },
     #[error("out of memory")]
     NoMemory,
 }
