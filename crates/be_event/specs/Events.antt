@@ -30,4 +30,4 @@ event s text = event_of s (tokens text)
 abbrev pub Reads : Result Assignments EventFault → Result Assignments EventFault → Type 0
 Reads (Ok e) read = read ≡ Ok e
 Reads (Err NoMemory) read = (e : Assignments) × (read ≡ Ok e)
-Reads (Err Bad) read = read ≡ Err Bad
+Reads (Err fault) read = read ≡ Err fault

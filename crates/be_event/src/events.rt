@@ -6,7 +6,7 @@ ghost use Rattle.be_base.specs.Terms.{term_of};
 ghost use Rattle.be_model.specs.Lies.{event_lies};
 ghost use Rattle.be_event.specs.Events.{item, event, Reads};
 
-use be_base::{AttrNo, Token, read_term};
+use be_base::{AttrNo, Name, Token, read_term};
 use be_model::{Event, Schema};
 use std::alloc::Global;
 use thiserror::Error;
@@ -17,6 +17,15 @@ pub enum EventFault {
     /// It has no reading.
     #[error("no reading")]
     Bad,
+    /// The first attribute that the schema doesn't have.
+    #[error("unknown attribute {name}")]
+    Attr { name: Name },
+    /// The attribute of the first value outside its domain.
+    #[error("a value outside the domain of attribute {}", .attr.0)]
+    Dom { attr: AttrNo },
+    /// The first attribute that stands a second time.
+    #[error("attribute {} stands twice", .attr.0)]
+    Twice { attr: AttrNo },
     #[error("out of memory")]
     NoMemory,
 }

@@ -94,8 +94,8 @@ fn events_are_read(rt: HostRuntime) -> Result<(), Fail> {
     ] {
         let found = match read_event(alloc, &schema, text.as_bytes()) {
             Ok(event) => item_of(&event),
-            Err(EventFault::Bad) => None,
             Err(EventFault::NoMemory) => Some((9, 9)),
+            Err(_) => None,
         };
         assert!(rt; found == want);
     }

@@ -1,5 +1,1 @@
-pub mod Written
-pub mod Readings
 pub mod Expressions
-pub mod Canonical
-pub mod Changes
