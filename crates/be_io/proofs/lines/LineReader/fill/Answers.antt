@@ -12,7 +12,7 @@ returns-in-Ok-clause-takes g c =
     let part = c.read.new.buf in
     let unread = take (end - start) (drop start buf) in
     let long : length unread ≡ end - start = length-take-le (end - start) (drop start buf) (omega (arith, length-drop start buf, c.self.invariant.end, c.self.invariant.start)) in
-    let front : take (end - start) c.deref_mut.result.now ≡ unread = ap (λ b. take (end - start) b) c.deref_mut.ensures.value ∙ c.move_to_front.ensures.front in
+    let front : take (end - start) c.deref_mut.result.now ≡ unread = rw c.deref_mut.ensures.value c.move_to_front.ensures.front in
     let within : k ≤ length part = c.in-Ok.ensures.bytes.0 in (
       take k part,
       length-take-le k part within,
