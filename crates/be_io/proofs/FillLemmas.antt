@@ -1,7 +1,6 @@
 -- What one read leaves in the buffer.
 use Rattle.std.proofs.Common.{◌≡◌, ℕ, ◌+◌, ◌-◌, ◌≤◌, List, [], ◌++◌, length, take, drop, Option, Some, None, sym, ap, ◌∙◌, arith, length-append}
-use Rattle.std.specs.List.{copy_within}
-use Rattle.std.proofs.lemmas.List.{take_at, take-append-drop, take-append-le, take-take}
+use Rattle.std.proofs.lemmas.List.{take-append-drop, take-append-le, take-take}
 use Rattle.std.proofs.Math.Seq.{take-append-add}
 use Rattle.be_io.specs.Told.{GivesBytes, WhereTold}
 
@@ -29,8 +28,3 @@ unread-after_read unread part behind old kept k room kept_is within fits =
     let short : kept + k ≤ length whole = omega (arith, length-append unread (part ++ behind), length-append part behind) in
     let plain : kept + k - 0 ≡ kept + k = omega arith in
     ap (λ n. take n (take room (whole ++ old))) plain ∙ take-take (kept + k) room (whole ++ old) fits ∙ take-append-le (kept + k) whole old short ∙ ap (λ n. take (n + k) whole) (sym kept_is) ∙ take-written unread part behind k within
-
--- the bytes that were moved to the front of the buffer
-pub moved_to_front : (buf moved now : List ℕ) (start end : ℕ) → now ≡ moved → moved ≡ copy_within buf start end 0 → length (take (end - start) (drop start buf)) ≡ end - start → take (end - start) now ≡ take (end - start) (drop start buf)
-moved_to_front buf moved now start end now_is moved_is long =
-    ap (λ b. take (end - start) b) (now_is ∙ moved_is) ∙ take_at (take (end - start) (drop start buf)) (drop (0 + (end - start)) buf) (end - start) long

@@ -1,6 +1,6 @@
 -- The lines of a text, from its front.
 use Rattle.std.proofs.Common.{◌≡◌, ℕ, ◌==◌, ◌||◌, ◌<◌, ◌++◌, Bool, true, false, List, [], ◌∷◌, length, map, refl, ap, ◌∙◌, arith, if◌then◌else◌}
-use Rattle.be_io.specs.Lines.{has_lf, closed_lines, open_line, put_first, last_line, lines, line_of}
+use Rattle.be_io.specs.Lines.{has_lf, closed_lines, open_line, put_first, last_line, lines, line_of, closed_line}
 use Rattle.be_io.specs.Reader.{ClosedLine, OpenLine}
 use Rattle.be_io.proofs.LfLemmas.{has_lf-append}
 
@@ -48,19 +48,19 @@ last_line-false [] = refl
 last_line-false (b ∷ line) = refl
 
 -- a line that an LF closes is the first line
-pub lines-ClosedLine : (limit : ℕ) (ended : Bool) (bytes line rest : List ℕ) → ClosedLine bytes line rest → lines limit ended bytes ≡ line_of limit line ∷ lines limit ended rest
+pub lines-ClosedLine : (limit : ℕ) (ended : Bool) (bytes line rest : List ℕ) → ClosedLine bytes line rest → lines limit ended bytes ≡ closed_line limit line ∷ lines limit ended rest
 lines-ClosedLine limit ended bytes line rest closed =
-    ap (λ b. lines limit ended b) closed.1 ∙ ap (λ front. map (λ l. line_of limit l) (front ++ last_line ended (open_line (line ++ 10 ∷ rest)))) (closed_lines-append line rest closed.0) ∙ ap (λ l. line_of limit line ∷ map (λ l. line_of limit l) (closed_lines rest ++ last_line ended l)) (open_line-append line rest)
+    ap (λ b. lines limit ended b) closed.1 ∙ ap (λ front. map (λ l. closed_line limit l) front ++ map (λ l. line_of limit l) (last_line ended (open_line (line ++ 10 ∷ rest)))) (closed_lines-append line rest closed.0) ∙ ap (λ l. closed_line limit line ∷ map (λ l. closed_line limit l) (closed_lines rest) ++ map (λ l. line_of limit l) (last_line ended l)) (open_line-append line rest)
 
 -- at the end of the input the bytes after the last LF are the last line
 pub lines-OpenLine : (limit : ℕ) (bytes line rest : List ℕ) → OpenLine bytes line rest → lines limit true bytes ≡ line_of limit line ∷ []
 lines-OpenLine limit bytes line rest last =
-    ap (λ b. lines limit true b) last.2 ∙ ap (λ front. map (λ l. line_of limit l) (front ++ last_line true (open_line line))) (closed_lines-none line last.0) ∙ ap (λ l. map (λ l. line_of limit l) l) (ap (λ l. last_line true l) (open_line-none line last.0) ∙ last_line-some line last.1)
+    ap (λ b. lines limit true b) last.2 ∙ ap (λ front. map (λ l. closed_line limit l) front ++ map (λ l. line_of limit l) (last_line true (open_line line))) (closed_lines-none line last.0) ∙ ap (λ l. map (λ l. line_of limit l) l) (ap (λ l. last_line true l) (open_line-none line last.0) ∙ last_line-some line last.1)
 
 -- bytes without an LF are no line before the end of the input
 pub lines-begun : (limit : ℕ) (begun : List ℕ) → has_lf begun ≡ false → lines limit false begun ≡ []
 lines-begun limit begun none =
-    ap (λ front. map (λ l. line_of limit l) (front ++ last_line false (open_line begun))) (closed_lines-none begun none) ∙ ap (λ l. map (λ l. line_of limit l) l) (last_line-false (open_line begun))
+    ap (λ front. map (λ l. closed_line limit l) front ++ map (λ l. line_of limit l) (last_line false (open_line begun))) (closed_lines-none begun none) ∙ ap (λ l. map (λ l. line_of limit l) l) (last_line-false (open_line begun))
 
 pub lines-nil : (limit : ℕ) (ended : Bool) → lines limit ended [] ≡ []
 lines-nil limit ended = refl

@@ -4,9 +4,9 @@ use Rattle.std.proofs.lemmas.List.{append-nil, take_all, take_at, nil_from_lengt
 use Rattle.std.proofs.lemmas.Bool.Decides.{nat_tests}
 use Rattle.be_io.specs.declared.lines.Line.{Line}
 use Rattle.be_io.specs.declared.lines.Line.TheVariants.{Text, Long, End}
-use Rattle.be_io.specs.Lines.{has_lf}
+use Rattle.be_io.specs.Lines.{has_lf, without_cr}
 use Rattle.be_io.specs.Told.{WhereTold}
-use Rattle.be_io.specs.Reader.{ReaderState, NextLine, GivesLine, BreaksOff}
+use Rattle.be_io.specs.Reader.{ReaderState, NextLine, GivesLine, BreaksOff, text_of}
 use Rattle.be_io.specs.Reading.{IsFirstLf, IsReading, Takes, answer_of, shown}
 use Rattle.be_io.proofs.LfLemmas.{has_lf-append, has_lf-none}
 
@@ -119,19 +119,18 @@ bytes_are : (old new : ReaderState) (before after : Option (List ℕ)) (skipped 
 bytes_are old new before after skipped scanned reading left rest is =
     ap (λ l. old.unread ++ l) is ∙ sym (append_assoc old.unread reading.given rest) ∙ ap (λ front. front ++ rest) reading.parts
 
-GivesLine-by : (new : ReaderState) (line : Line) (total : ℕ) (whole tail bytes rest : List ℕ) (t : Bool) → nat_lt new.limit total ≡ t → line ≡ (if t then Long total else Text) → new.text ≡ (if t then [] else tail) → length whole ≡ total → (total ≤ new.limit → whole ≡ tail) → NextLine new.ended bytes whole rest → GivesLine new line bytes rest
+GivesLine-by : (new : ReaderState) (line : Line) (total : ℕ) (whole tail bytes rest : List ℕ) (t : Bool) → nat_lt new.limit total ≡ t → line ≡ (if t then Long total else Text) → new.text ≡ text_of new.ended (if t then [] else tail) → length whole ≡ total → (total ≤ new.limit → whole ≡ tail) → NextLine new.ended bytes whole rest → GivesLine new line bytes rest
 GivesLine-by new line total whole tail bytes rest true test line_is text_is total_is same next =
     let P : Line → Type 0 = λ l. GivesLine new l bytes rest in
     subst P (sym line_is) (whole, total_is, grind (arith, nat_tests), next)
 GivesLine-by new line total whole tail bytes rest false test line_is text_is total_is same next =
     let P : Line → Type 0 = λ l. GivesLine new l bytes rest in
-    let Q : List ℕ → Type 0 = λ text. (length text ≤ new.limit) × NextLine new.ended bytes text rest in
     let short : total ≤ new.limit = grind (arith, nat_tests) in
     let within : length whole ≤ new.limit = omega arith in
-    subst P (sym line_is) (subst Q (same short ∙ sym text_is) (within, next))
+    subst P (sym line_is) (whole, within, text_is ∙ ap (λ l. text_of new.ended l) (sym (same short)), next)
 
 -- a line of so many bytes, of which the tail stood in the buffer, as an answer
-GivesLine-answer : (new : ReaderState) (line : Line) (total : ℕ) (whole tail bytes rest : List ℕ) → line ≡ answer_of new.limit total → new.text ≡ shown new.limit total tail → length whole ≡ total → (total ≤ new.limit → whole ≡ tail) → NextLine new.ended bytes whole rest → GivesLine new line bytes rest
+GivesLine-answer : (new : ReaderState) (line : Line) (total : ℕ) (whole tail bytes rest : List ℕ) → line ≡ answer_of new.limit total → new.text ≡ text_of new.ended (shown new.limit total tail) → length whole ≡ total → (total ≤ new.limit → whole ≡ tail) → NextLine new.ended bytes whole rest → GivesLine new line bytes rest
 GivesLine-answer new line total whole tail bytes rest =
     GivesLine-by new line total whole tail bytes rest (nat_lt new.limit total) refl
 
@@ -142,7 +141,7 @@ whole_is begun tail skipped limit len skipped_is long within =
     ap (λ b. b ++ tail) (nil_from_length begun (skipped_is ∙ few))
 
 -- the line before the first LF
-pub IsReading-close : (old a new : ReaderState) (before after : Option (List ℕ)) (skipped scanned len : ℕ) (line : Line) → IsReading old a before after skipped scanned → old.ended ≡ false → IsFirstLf a.unread len → line ≡ answer_of a.limit (skipped + len) → new ≡ record a { unread = drop (len + 1) a.unread; text = shown a.limit (skipped + len) (take len a.unread) } → WhereTold before after (λ left rest. GivesLine new line (old.unread ++ left) (new.unread ++ rest))
+pub IsReading-close : (old a new : ReaderState) (before after : Option (List ℕ)) (skipped scanned len : ℕ) (line : Line) → IsReading old a before after skipped scanned → old.ended ≡ false → IsFirstLf a.unread len → line ≡ answer_of a.limit (skipped + len) → new ≡ record a { unread = drop (len + 1) a.unread; text = without_cr (shown a.limit (skipped + len) (take len a.unread)) } → WhereTold before after (λ left rest. GivesLine new line (old.unread ++ left) (new.unread ++ rest))
 IsReading-close old a new before after skipped scanned len line reading open_now lf line_is new_is =
     let begun = reading.begun in
     let tail : List ℕ = take len a.unread in
@@ -153,10 +152,10 @@ IsReading-close old a new before after skipped scanned len line reading open_now
     let limit : new.limit ≡ a.limit = ap (λ r. r.limit) new_is in
     let rest_is : new.unread ≡ behind = ap (λ r. r.unread) new_is in
     WhereTold-map before after (λ left rest. left ≡ reading.given ++ rest) (λ left rest. GivesLine new line (old.unread ++ left) (new.unread ++ rest)) (λ left rest is.
-    GivesLine-answer new line (skipped + len) (begun ++ tail) tail (old.unread ++ left) (new.unread ++ rest) (line_is ∙ ap (λ n. answer_of n (skipped + len)) (sym limit)) (ap (λ r. r.text) new_is ∙ ap (λ n. shown n (skipped + len) tail) (sym limit)) whole_len (λ h. whole_is begun tail skipped new.limit len reading.skipped_is (λ (few : skipped ≤ new.limit). reading.long (omega arith)) h) (inl (ended, (has_lf-none begun tail reading.passed lf.1.0, bytes_are old a before after skipped scanned reading left rest is ∙ ap (λ u. begun ++ u ++ rest) lf.1.1 ∙ ap (λ f. f ++ rest) (sym (append_assoc begun tail (10 ∷ behind))) ∙ append_assoc (begun ++ tail) (10 ∷ behind) rest ∙ ap (λ u. begun ++ tail ++ 10 ∷ (u ++ rest)) (sym rest_is))))) reading.told
+    GivesLine-answer new line (skipped + len) (begun ++ tail) tail (old.unread ++ left) (new.unread ++ rest) (line_is ∙ ap (λ n. answer_of n (skipped + len)) (sym limit)) (ap (λ r. r.text) new_is ∙ ap (λ n. without_cr (shown n (skipped + len) tail)) (sym limit) ∙ ap (λ e. text_of e (shown new.limit (skipped + len) tail)) (sym ended)) whole_len (λ h. whole_is begun tail skipped new.limit len reading.skipped_is (λ (few : skipped ≤ new.limit). reading.long (omega arith)) h) (inl (ended, (has_lf-none begun tail reading.passed lf.1.0, bytes_are old a before after skipped scanned reading left rest is ∙ ap (λ u. begun ++ u ++ rest) lf.1.1 ∙ ap (λ f. f ++ rest) (sym (append_assoc begun tail (10 ∷ behind))) ∙ append_assoc (begun ++ tail) (10 ∷ behind) rest ∙ ap (λ u. begun ++ tail ++ 10 ∷ (u ++ rest)) (sym rest_is))))) reading.told
 
 -- the end of the input, or the line before it
-answer_by : (new : ReaderState) (line : Line) (total : ℕ) (whole bytes rest tail : List ℕ) (t : Bool) → (total == 0) ≡ t → line ≡ (if t then End else answer_of new.limit total) → new.text ≡ shown new.limit total tail → length whole ≡ total → (total ≤ new.limit → whole ≡ tail) → new.ended ≡ true → has_lf whole ≡ false → bytes ≡ whole → rest ≡ [] → GivesLine new line bytes rest
+answer_by : (new : ReaderState) (line : Line) (total : ℕ) (whole bytes rest tail : List ℕ) (t : Bool) → (total == 0) ≡ t → line ≡ (if t then End else answer_of new.limit total) → new.text ≡ text_of new.ended (shown new.limit total tail) → length whole ≡ total → (total ≤ new.limit → whole ≡ tail) → new.ended ≡ true → has_lf whole ≡ false → bytes ≡ whole → rest ≡ [] → GivesLine new line bytes rest
 answer_by new line total whole bytes rest tail true test line_is text_is total_is same ended none bytes_is rest_is =
     let P : Line → Type 0 = λ l. GivesLine new l bytes rest in
     let nothing : total ≡ 0 = grind (arith, nat_tests) in
@@ -173,6 +172,7 @@ IsReading-finish old b c new before middle after skipped line reading c_is takes
     let limit : new.limit ≡ b.limit = ap (λ r. r.limit) new_is ∙ ap (λ r. r.limit) c_is in
     let same : new.limit ≡ c.limit = ap (λ r. r.limit) new_is in
     let rest_is : new.unread ≡ [] = ap (λ r. r.unread) new_is in
+    let ended : new.ended ≡ true = ap (λ r. r.ended) new_is in
     let nothing : takes.0 ≡ [] = nil_from_length takes.0 takes.1 in
     let tail : c.unread ≡ b.unread = takes.2 ∙ ap (λ l. b.unread ++ l) nothing ∙ append-nil b.unread in
     let none : has_lf (begun ++ c.unread) ≡ false = has_lf-none begun c.unread reading.passed (ap has_lf tail ∙ IsReading-none old b before middle skipped reading) in
@@ -180,7 +180,7 @@ IsReading-finish old b c new before middle after skipped line reading c_is takes
     WhereTold-join before middle after (λ left rest. left ≡ reading.given ++ rest) (λ left rest. (left ≡ takes.0 ++ rest) × (0 ≡ 0 → rest ≡ [])) (λ left rest. GivesLine new line (old.unread ++ left) (new.unread ++ rest)) (λ left between rest first second.
     let gone : rest ≡ [] = second.1 refl in
     let empty : between ≡ [] = second.0 ∙ ap (λ l. l ++ rest) nothing ∙ gone in
-    answer_by new line (skipped + length c.unread) (begun ++ c.unread) (old.unread ++ left) (new.unread ++ rest) c.unread (skipped + length c.unread == 0) refl (line_is ∙ ap (λ n. if skipped + length c.unread == 0 then End else answer_of n (skipped + length c.unread)) (sym same)) (ap (λ r. r.text) new_is ∙ ap (λ n. shown n (skipped + length c.unread) c.unread) (sym same)) whole_len (λ h. whole_is begun c.unread skipped new.limit (length c.unread) reading.skipped_is (λ (few : skipped ≤ new.limit). reading.long (omega arith)) h) (ap (λ r. r.ended) new_is) none (bytes_are old b before middle skipped (length b.unread) reading left between first ∙ ap (λ l. begun ++ b.unread ++ l) empty ∙ append-nil (begun ++ b.unread) ∙ ap (λ u. begun ++ u) (sym tail)) (ap (λ u. u ++ rest) rest_is ∙ gone)) reading.told takes.3
+    answer_by new line (skipped + length c.unread) (begun ++ c.unread) (old.unread ++ left) (new.unread ++ rest) c.unread (skipped + length c.unread == 0) refl (line_is ∙ ap (λ n. if skipped + length c.unread == 0 then End else answer_of n (skipped + length c.unread)) (sym same)) (ap (λ r. r.text) new_is ∙ ap (λ n. shown n (skipped + length c.unread) c.unread) (sym same) ∙ ap (λ e. text_of e (shown new.limit (skipped + length c.unread) c.unread)) (sym ended)) whole_len (λ h. whole_is begun c.unread skipped new.limit (length c.unread) reading.skipped_is (λ (few : skipped ≤ new.limit). reading.long (omega arith)) h) ended none (bytes_are old b before middle skipped (length b.unread) reading left between first ∙ ap (λ l. begun ++ b.unread ++ l) empty ∙ append-nil (begun ++ b.unread) ∙ ap (λ u. begun ++ u) (sym tail)) (ap (λ u. u ++ rest) rest_is ∙ gone)) reading.told takes.3
 
 -- what was taken before a fault has no LF
 pub IsReading-broken : (old b : ReaderState) (before middle after : Option (List ℕ)) (skipped : ℕ) → IsReading old b before middle skipped (length b.unread) → after ≡ middle → WhereTold before after (λ left rest. BreaksOff (old.unread ++ left) rest)

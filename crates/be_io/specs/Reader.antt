@@ -1,6 +1,6 @@
 -- A reader of lines, and what it answers.
 use Rattle.std.specs.Prelude.{◌≡◌, ℕ, ◌+◌, ◌<◌, ◌≤◌, ◌++◌, ◌⊎◌, Bool, true, false, List, [], ◌∷◌, length, Option}
-use Rattle.be_io.specs.Lines.{has_lf}
+use Rattle.be_io.specs.Lines.{has_lf, without_cr}
 use Rattle.be_io.specs.declared.faults.LineFault.{LineFault}
 use Rattle.be_io.specs.declared.lines.Line.{Line}
 use Rattle.be_io.specs.declared.lines.Line.TheVariants.{Text, Long, End}
@@ -31,9 +31,15 @@ abbrev pub NextLine : Bool → List ℕ → List ℕ → List ℕ → Type 0
 NextLine ended bytes line rest =
     ((ended ≡ false) × ClosedLine bytes line rest) ⊎ ((ended ≡ true) × OpenLine bytes line rest)
 
+-- the text of a line, at the end of the input or before an LF
+abbrev pub text_of : Bool → List ℕ → List ℕ
+text_of true line = line
+text_of false line = without_cr line
+
 -- what the reader answers, where bytes are all that it and its source had left, and rest is what they have left now
 abbrev pub GivesLine : ReaderState → Line → List ℕ → List ℕ → Type 0
-GivesLine new Text bytes rest = (length new.text ≤ new.limit) × NextLine new.ended bytes new.text rest
+GivesLine new Text bytes rest =
+    (line : List ℕ) × (length line ≤ new.limit) × (new.text ≡ text_of new.ended line) × NextLine new.ended bytes line rest
 GivesLine new (Long len) bytes rest =
     (line : List ℕ) × (length line ≡ len) × (new.limit < len) × NextLine new.ended bytes line rest
 GivesLine new End bytes rest = (new.ended ≡ true) × (bytes ≡ []) × (rest ≡ [])

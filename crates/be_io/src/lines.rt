@@ -1,9 +1,9 @@
 //! Lines of bytes from a source.
 
-ghost use Rattle.std.specs.Prelude.{◌≡◌, ℕ, ◌+◌, ◌-◌, ◌<◌, ◌≤◌, ◌++◌, List, [], length, take, drop, true, false, not, Some, None, Ok, Err, IfOk, IfErr, IfSome, OnOk, OnErr, MatchOption, nat_lt, ◌||◌, ◌==◌, if◌then◌else◌};
+ghost use Rattle.std.specs.Prelude.{◌≡◌, ℕ, ◌+◌, ◌-◌, ◌<◌, ◌≤◌, ◌++◌, List, [], length, take, drop, slice_index, vec_len, true, false, not, Some, None, Ok, Err, IfOk, IfErr, IfSome, OnOk, OnErr, MatchOption, nat_lt, ◌||◌, ◌==◌, if◌then◌else◌};
 ghost use Rattle.be_io.specs.Counts.{raised, HasRisen, RisesBy};
 ghost use Rattle.be_io.specs.Told.{WhereTold};
-ghost use Rattle.be_io.specs.Lines.{has_lf};
+ghost use Rattle.be_io.specs.Lines.{has_lf, without_cr};
 ghost use Rattle.be_io.specs.Reader.{ReaderState, GivesLine, FitsLine, BreaksOff, MovesOn};
 ghost use Rattle.be_io.specs.Reading.{IsFirstLf, answer_of, shown, Takes};
 
@@ -28,8 +28,8 @@ pub enum Line {
     End,
 }
 
-/// Reads a source's bytes line by line. An LF ends a line and isn't part of it. What follows the
-/// last LF is a line where it isn't empty.
+/// Reads a source's bytes line by line. An LF ends a line and isn't part of it, nor is one CR
+/// directly before it. What follows the last LF is a line where it isn't empty.
 #[derive(Drop)]
 pub struct LineReader {
     buf: Vec<u8>,
@@ -56,8 +56,8 @@ impl Model for LineReader {
 }
 
 impl LineReader {
-    /// A reader of lines of at most `limit` bytes, the LF aside. It takes all the memory that it
-    /// ever uses.
+    /// A reader of lines of at most `limit` bytes, the LF aside. A CR before the LF counts. It takes
+    /// all the memory that it ever uses.
     pub fn make(alloc: Global, limit: usize) -> Result<LineReader, NoMemory>
         requires { limit ≤ 67108864 }
         ensures { IfOk result (λ reader. reader ≡ record {
@@ -203,11 +203,12 @@ impl LineReader {
         ensures line { result ≡ answer_of self.old.limit (skipped + len) }
         ensures after { self.new ≡ record self.old {
           unread = drop (len + 1) self.old.unread;
-          text = shown self.old.limit (skipped + len) (take len self.old.unread);
+          text = without_cr (shown self.old.limit (skipped + len) (take len self.old.unread));
         } }
         ensures buffered { length self.new.unread ≤ self.new.limit + 65536 }
     {
         let line = self.show(len, skipped);
+        self.drop_cr();
         let after = self.start + len + 1;
         self.start = after;
         line
@@ -256,6 +257,15 @@ impl LineReader {
         Line::Text
     }
 
+    /// Leaves out the CR at the end of the text.
+    fn drop_cr(&mut self)
+        ensures { self.new ≡ record self.old { text = without_cr self.old.text } }
+    {
+        if ends_with_cr(self.text()) {
+            self.text_len -= 1;
+        }
+    }
+
     /// Passes over the unread bytes where they belong to a line over the limit, and says how many
     /// they were.
     fn skip(&mut self, skipped: u64) -> u64
@@ -296,7 +306,7 @@ impl LineReader {
         ensures buffered { length self.new.unread ≤ self.new.limit + 65536 }
     {
         let kept = self.end - self.start;
-        self.buf.copy_within(self.start..self.end, 0);
+        move_to_front(&mut self.buf, self.start, self.end);
         self.start = 0;
         self.end = kept;
         self.text_len = 0;
@@ -323,4 +333,22 @@ fn first_lf(bytes: &[u8]) -> Option<usize>
     ensures { MatchOption result (has_lf bytes.now ≡ false) (IsFirstLf bytes.now) }
 {
     memchr(b'\n', bytes)
+}
+
+fn ends_with_cr(bytes: &[u8]) -> bool
+    ensures { result ≡ (slice_index bytes.now (length bytes.now - 1) == 13) }
+{
+    bytes.last() == Some(&b'\r')
+}
+
+/// Moves the bytes of this range to the front, where they don't stand there already.
+fn move_to_front(buf: &mut Vec<u8>, start: usize, end: usize)
+    requires in_order { start ≤ end }
+    requires within { end ≤ vec_len buf.old }
+    ensures front { take (end - start) buf.new.items ≡ take (end - start) (drop start buf.old.items) }
+    ensures len { vec_len buf.new ≡ vec_len buf.old }
+{
+    if start > 0 {
+        buf.copy_within(start..end, 0);
+    }
 }

@@ -1,3 +1,5 @@
+ghost use Rattle.std.specs.Prelude.{◌≡◌, ◌<◌, ◌≤◌, length, None, IfOk};
+
 use super::*;
 use std::alloc::Global;
 use std::fmt::Write;
@@ -9,7 +11,7 @@ struct Case {
     answers: &'static str,
 }
 
-const CASES: [Case; 9] = [
+const CASES: [Case; 16] = [
     Case {
         text: b"",
         limit: 4,
@@ -48,7 +50,42 @@ const CASES: [Case; 9] = [
     Case {
         text: b"b\r\nabcdefghijklmnopqrstuvwxyz\nc\n",
         limit: 4,
-        answers: "[b\r] long 26 [c] end",
+        answers: "[b] long 26 [c] end",
+    },
+    Case {
+        text: b"a\r\r\nb\n",
+        limit: 4,
+        answers: "[a\r] [b] end",
+    },
+    Case {
+        text: b"\r\n\r",
+        limit: 4,
+        answers: "[] [\r] end",
+    },
+    Case {
+        text: b"a\rb\nc\r",
+        limit: 4,
+        answers: "[a\rb] [c\r] end",
+    },
+    Case {
+        text: b"fou\r\nfour\r\nfour\n",
+        limit: 4,
+        answers: "[fou] long 5 [four] end",
+    },
+    Case {
+        text: b"fou\r",
+        limit: 4,
+        answers: "[fou\r] end",
+    },
+    Case {
+        text: b"four\r",
+        limit: 4,
+        answers: "long 5 end",
+    },
+    Case {
+        text: b"\r\n\n",
+        limit: 0,
+        answers: "long 1 [] end",
     },
     Case {
         text: b"x\n\n",
@@ -88,6 +125,75 @@ fn lines_whatever_the_pieces(rt: HostRuntime) -> Result<(), Fail> {
             let found = answers(alloc, &mut source, case.limit)?;
             assert_eq!(rt; found.as_str(), case.answers);
         }
+    }
+    Ok(())
+}
+
+/// Gives its first part in one read, and its second part in the next.
+#[derive(Drop)]
+struct TwoParts {
+    first: MemSource,
+    second: MemSource,
+    taken: u64,
+    faults: u64,
+}
+
+impl TwoParts {
+    fn cut(alloc: Global, text: &[u8], at: usize) -> Result<TwoParts, Fail>
+        requires { at ≤ length text.now }
+    {
+        let first = Vec::from_slice(alloc, &text[..at])?;
+        let second = Vec::from_slice(alloc, &text[at..])?;
+        Ok(TwoParts {
+            first: MemSource::make(first, 65536, Vec::new(alloc)),
+            second: MemSource::make(second, 65536, Vec::new(alloc)),
+            taken: 0,
+            faults: 0,
+        })
+    }
+
+    fn read_part(&mut self, buf: &mut [u8]) -> Result<usize, Failed>
+        requires { 0 < length buf.old }
+        ensures within { IfOk result (λ k. k ≤ length buf.new) }
+        ensures counts { (self.new.taken ≡ self.old.taken) × (self.new.faults ≡ self.old.faults) }
+    {
+        let count = self.first.read(buf)?;
+        if count > 0 {
+            return Ok(count);
+        }
+        self.second.read(buf)
+    }
+}
+
+impl Source for TwoParts {
+    ghost left = { λ _. None };
+
+    ghost taken = { λ s. s.taken };
+
+    ghost read_faults = { λ s. s.faults };
+
+    fn read(&mut self, buf: &mut [u8]) -> Result<usize, Failed> {
+        match self.read_part(buf) {
+            Ok(count) => {
+                self.taken = self.taken.saturating_add(count as u64);
+                Ok(count)
+            }
+            Err(Failed) => {
+                self.faults = self.faults.saturating_add(1);
+                Err(Failed)
+            }
+        }
+    }
+}
+
+#[test]
+fn lines_cut_at_each_place(rt: HostRuntime) -> Result<(), Fail> {
+    let alloc = rt.alloc();
+    let text = b"a\r\n\r\r\nfour\r\nb\rc\n\r";
+    for at in 0..text.len() + 1 {
+        let mut source = TwoParts::cut(alloc, text, at)?;
+        let found = answers(alloc, &mut source, 4)?;
+        assert_eq!(rt; found.as_str(), "[a] [\r] long 5 [b\rc] [\r] end");
     }
     Ok(())
 }

@@ -1,5 +1,6 @@
 -- The unread bytes begin after the LF.
 use Rattle.std.proofs.Common.{arith, ◌≡◌, ℕ, ◌+◌, ◌-◌, ◌≤◌, List, length, take, drop, ap, ◌∙◌, length-take}
+use Rattle.be_io.specs.Lines.{without_cr}
 use Rattle.be_io.specs.Reader.{ReaderState}
 use Rattle.be_io.specs.Buffer.{reader_state}
 use Rattle.be_io.proofs.LfLemmas.{drop-part}
@@ -12,7 +13,7 @@ returns-clause-after c =
     let buf = c.self.inside.buf.items in
     let len = c.args.len in
     let state : ReaderState = reader_state c.self.inside in
-    let is = c.self.view_is ∙ c.show-line.ensures.after in
+    let is = c.self.view_is ∙ c.drop_cr.ensures ∙ ap (λ (r : ReaderState). record r { text = without_cr r.text }) c.show-line.ensures.after in
     let within : start + (len + 1) ≤ end = omega (arith, c.requires.lf, ap (λ r. length r.unread) is, length-take (end - start) (drop start buf), c.self.invariant.start) in
     let shift : start + len + 1 ≡ start + (len + 1) = omega arith in
     let part = ap (λ n. take (end - n) (drop n buf)) shift ∙ drop-part buf start end (len + 1) within in

@@ -1,6 +1,6 @@
 -- The unread bytes were moved to the front, and the read wrote behind them.
 use Rattle.std.proofs.Common.{arith, ◌≡◌, ℕ, ◌-◌, ◌≤◌, ◌++◌, length, take, drop, ap, ◌∙◌, length-take-le, length-take, length-drop}
-use Rattle.be_io.proofs.FillLemmas.{WhereTold-from_read, unread-after_read, moved_to_front}
+use Rattle.be_io.proofs.FillLemmas.{WhereTold-from_read, unread-after_read}
 use Rattle.be_io.proofs.lines.LineReader.fill.Goals as goal
 
 pub returns-in-Ok-clause-takes : goal.returns-in-Ok-clause-takes
@@ -12,10 +12,10 @@ returns-in-Ok-clause-takes g c =
     let part = c.read.new.buf in
     let unread = take (end - start) (drop start buf) in
     let long : length unread ≡ end - start = length-take-le (end - start) (drop start buf) (omega (arith, length-drop start buf, c.self.invariant.end, c.self.invariant.start)) in
-    let front : take (end - start) c.deref_mut.result.now ≡ unread = moved_to_front buf c.copy_within.new.self.items c.deref_mut.result.now start end c.deref_mut.ensures.value c.copy_within.ensures.items long in
+    let front : take (end - start) c.deref_mut.result.now ≡ unread = rw c.deref_mut.ensures.value c.move_to_front.ensures.front in
     let within : k ≤ length part = c.in-Ok.ensures.bytes.0 in (
       take k part,
       length-take-le k part within,
-      unread-after_read (take (end - start) c.deref_mut.result.now) part _ _ (end - start) k c.copy_within.new.self.len (ap length front ∙ long) within (omega (arith, length-take {A = ℕ}, length-drop {A = ℕ})) ∙ ap (λ u. u ++ take k part) (front ∙ ap (λ r. r.unread) c.self.view_is),
+      unread-after_read (take (end - start) c.deref_mut.result.now) part _ _ (end - start) k c.move_to_front.new.buf.len (ap length front ∙ long) within (omega (arith, length-take {A = ℕ}, length-drop {A = ℕ})) ∙ ap (λ u. u ++ take k part) (front ∙ ap (λ r. r.unread) c.self.view_is),
       WhereTold-from_read (g.S.Source.left c.args.src.now) (g.S.Source.left c.read.new.self) part k c.in-Ok.ensures.bytes,
     )
