@@ -5,7 +5,11 @@ use Rattle.std.specs.declared.sync.Arc.{Arc}
 use Rattle.be_model.specs.declared.changes.Change.{Change}
 use Rattle.be_model.specs.declared.changes.Row.{Row}
 pub use Rattle.be_model.specs.Entries.{entry_of}
-use Rattle.be_change.specs.History.{Entry, subscribed, unsubscribed, left}
+use Rattle.be_change.specs.History.{Entry, subscribed, unsubscribed, left, Live}
+
+-- rows by ids, as plain data
+abbrev pub live_in : {Z : Type 0} → List (ℕ × Arc Row Z) → Live
+live_in xs = map (λ (x : ℕ × Arc Row _). (x.0, arc_value x.1)) xs
 
 abbrev pub entries_in : {Z : Type 0} → List (Arc Change Z) → List Entry
 entries_in xs = map (λ x. entry_of (arc_value x)) xs

@@ -1,16 +1,12 @@
 -- The core's memory as plain data.
-use Rattle.std.specs.Prelude.{◌≡◌, ℕ, List, map}
-use Rattle.std.specs.Arc.{arc_value}
-use Rattle.std.specs.declared.sync.Arc.{Arc}
+use Rattle.std.specs.Prelude.{◌≡◌, ℕ}
 use Rattle.be_base.specs.declared.names.Id.{Id}
 use Rattle.be_base.specs.declared.names.SessionNo.{SessionNo}
 use Rattle.be_model.specs.declared.changes.Row.{Row}
-use Rattle.be_change.specs.History.{Entry, subscribed, unsubscribed, left, Live}
+pub use Rattle.be_change.specs.Entries.{live_in}
+use Rattle.be_change.specs.History.{Entry, subscribed, unsubscribed, left}
 use Rattle.be_core.specs.declared.steps.Core.{Core}
 use Rattle.be_core.specs.World.{State, state}
-
-abbrev pub live_in : {Z : Type 0} → List (ℕ × Arc Row Z) → Live
-live_in xs = map (λ (x : ℕ × Arc Row _). (x.0, arc_value x.1)) xs
 
 abbrev pub id_and_session : ℕ × Row → Id × SessionNo
 id_and_session r = (record { 0 = r.0 }, r.1.session)

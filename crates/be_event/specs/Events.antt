@@ -1,5 +1,5 @@
 -- The texts of events.
-use Rattle.std.specs.Prelude.{◌≡◌, ℤ, Bool, true, false, List, [], ◌∷◌, Option, None, option_and_then, option_map, ok_or, Result, Ok, Err, if◌then◌else◌}
+use Rattle.std.specs.Prelude.{◌≡◌, ℤ, Bool, true, false, List, [], ◌∷◌, Option, None, option_and_then, option_map, ok_or, ◌<◌, length, Result, Ok, Err, if◌then◌else◌}
 use Rattle.be_base.specs.Text.{Text}
 use Rattle.be_base.specs.Tokens.{Lexeme, equal, tokens}
 use Rattle.be_base.specs.Terms.{PlainTerm, term_of}
@@ -8,7 +8,7 @@ use Rattle.be_model.specs.Matching.{Assignments}
 use Rattle.be_model.specs.Schemas.{Attributes}
 use Rattle.be_model.specs.Assigned.{assigned}
 use Rattle.be_event.specs.declared.events.EventFault.{EventFault}
-use Rattle.be_event.specs.declared.events.EventFault.TheVariants.{Bad, NoMemory}
+use Rattle.be_event.specs.declared.events.EventFault.TheVariants.{Bad, Attr, Dom, Twice, NoMemory}
 
 abbrev pub is_equal_sign : Lexeme → Bool
 is_equal_sign equal = true
@@ -31,3 +31,9 @@ abbrev pub Reads : Result Assignments EventFault → Result Assignments EventFau
 Reads (Ok e) read = read ≡ Ok e
 Reads (Err NoMemory) read = (e : Assignments) × (read ≡ Ok e)
 Reads (Err fault) read = read ≡ Err fault
+
+-- a fault that names an attribute of the schema by its number
+abbrev pub IsKnown : Attributes → EventFault → Type 0
+IsKnown s (Dom a) = a.0 < length s
+IsKnown s (Twice a) = a.0 < length s
+IsKnown s _ = Unit {0}

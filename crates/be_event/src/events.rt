@@ -1,10 +1,10 @@
 //! The texts of events.
 
-ghost use Rattle.std.specs.Prelude.{◌≡◌, true, option_map, option_and_then, IfOk};
+ghost use Rattle.std.specs.Prelude.{◌≡◌, true, option_map, option_and_then, IfOk, IfErr};
 ghost use Rattle.be_base.specs.Tokens.{tokens};
 ghost use Rattle.be_base.specs.Terms.{term_of};
 ghost use Rattle.be_model.specs.Lies.{event_lies};
-ghost use Rattle.be_event.specs.Events.{item, event, Reads};
+ghost use Rattle.be_event.specs.Events.{item, event, Reads, IsKnown};
 
 use be_base::{AttrNo, Name, Token, read_term};
 use be_model::{Event, Schema};
@@ -34,6 +34,7 @@ pub enum EventFault {
 pub fn read_event(alloc: Global, schema: &Schema, text: &[u8]) -> Result<Event, EventFault>
     ensures exact { Reads result (event schema.now text.now) }
     ensures lies { IfOk result (λ e. event_lies schema.now e ≡ true) }
+    ensures known { IfErr result (IsKnown schema.now) }
 {
     let Some(item) = read_item(schema, text) else {
         return Err(EventFault::Bad);

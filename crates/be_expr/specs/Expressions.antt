@@ -1,5 +1,5 @@
 -- The texts of conditions.
-use Rattle.std.specs.Prelude.{◌≡◌, ℤ, List, [], ◌∷◌, Option, Some, None, option_and_then, option_map, ok_or, Result, Ok, Err}
+use Rattle.std.specs.Prelude.{◌≡◌, ℤ, List, [], ◌∷◌, Option, Some, None, option_and_then, option_map, ok_or, ◌<◌, length, Result, Ok, Err}
 use Rattle.be_base.specs.Text.{Text}
 use Rattle.be_base.specs.Tokens.{Lexeme, less, less_or_equal, equal, not_equal, greater_or_equal, greater, tokens}
 use Rattle.be_base.specs.Terms.{PlainTerm, term_of}
@@ -10,7 +10,7 @@ use Rattle.be_model.specs.declared.conditions.Pred.{Pred}
 use Rattle.be_model.specs.Schemas.{Attributes}
 use Rattle.be_model.specs.Assigned.{assigned}
 use Rattle.be_expr.specs.declared.ExprFault.{ExprFault}
-use Rattle.be_expr.specs.declared.ExprFault.TheVariants.{Bad, NoMemory}
+use Rattle.be_expr.specs.declared.ExprFault.TheVariants.{Bad, Attr, Dom, Many, NoMemory}
 
 -- the comparison that an operator makes with a value
 abbrev pub comparison : Lexeme → ℤ → Option Op
@@ -43,3 +43,8 @@ abbrev pub Reads : Result (List Pred) ExprFault → Result (List Pred) ExprFault
 Reads (Ok conj) read = read ≡ Ok conj
 Reads (Err NoMemory) read = (conj : List Pred) × (read ≡ Ok conj)
 Reads (Err fault) read = read ≡ Err fault
+
+-- a fault that names an attribute names one of the schema
+abbrev pub IsKnown : Attributes → ExprFault → Type 0
+IsKnown s (Dom a) = a.0 < length s
+IsKnown s _ = Unit {0}

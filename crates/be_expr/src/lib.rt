@@ -1,12 +1,12 @@
 //! The texts of conditions.
 #![tactic(auto)]
 
-ghost use Rattle.std.specs.Prelude.{◌≡◌, true, option_and_then, IfOk};
+ghost use Rattle.std.specs.Prelude.{◌≡◌, true, option_and_then, IfOk, IfErr};
 ghost use Rattle.be_base.specs.Tokens.{tokens};
 ghost use Rattle.be_base.specs.Terms.{term_of};
 ghost use Rattle.be_base.specs.Scans.{lexeme};
 ghost use Rattle.be_model.specs.Lies.{conj_lies};
-ghost use Rattle.be_expr.specs.Expressions.{comparison, predicate, expression, Reads};
+ghost use Rattle.be_expr.specs.Expressions.{comparison, predicate, expression, Reads, IsKnown};
 
 use be_base::{AttrNo, Name, Token, read_term};
 use be_model::{Conj, Op, Pred, Schema};
@@ -36,6 +36,7 @@ pub enum ExprFault {
 pub fn read_expr(alloc: Global, schema: &Schema, text: &[u8]) -> Result<Conj, ExprFault>
     ensures exact { Reads result (expression schema.now text.now) }
     ensures lies { IfOk result (λ conj. conj_lies schema.now conj ≡ true) }
+    ensures known { IfErr result (IsKnown schema.now) }
 {
     let Some(pred) = read_comparison(schema, text) else {
         return Err(ExprFault::Bad);

@@ -1,17 +1,56 @@
--- A line that begins with a word.
-use Rattle.std.proofs.Common.{◌≡◌, Bool, true, false, cond, List, Option, Some, None, refl, codes}
-use Rattle.be_base.specs.Text.{Text, same_text}
+-- Lines that begin with a word, and lines that ask nothing.
+use Rattle.std.proofs.Common.{◌≡◌, Bool, true, false, cond, List, Option, Some, None, Result, Ok, Err, refl, ap, codes}
+use Rattle.be_base.specs.Text.{Text, same_text, name_of}
 use Rattle.be_base.specs.Tokens.{Lexeme, word, put_token}
+use Rattle.be_model.specs.declared.conditions.Pred.{Pred}
 use Rattle.be_model.specs.Schemas.{Attributes}
+use Rattle.be_model.specs.Matching.{Assignments}
+use Rattle.be_expr.specs.declared.ExprFault.{ExprFault}
+use Rattle.be_expr.specs.declared.ExprFault.TheVariants as expr
+use Rattle.be_expr.specs.Expressions as conditions
+use Rattle.be_event.specs.declared.events.EventFault.{EventFault}
+use Rattle.be_event.specs.declared.events.EventFault.TheVariants as event
+use Rattle.be_event.specs.Events as events
 use Rattle.be_change.specs.Requests.{refused, bad}
-use Rattle.be_transcript.specs.Readings.{request_of, commanded}
+use Rattle.be_transcript.specs.Readings.{request_of, commanded, subscription, publication, publishing, expr_refusal, event_refusal}
 
-all_bad : (a b : Bool) → refused bad ≡ cond a (refused bad) (cond b (refused bad) (refused bad))
-all_bad true b = refl
-all_bad false true = refl
-all_bad false false = refl
+five_bad : (a b c d e : Bool) → refused bad ≡ cond a (refused bad) (cond b (refused bad) (cond c (refused bad) (cond d (refused bad) (cond e (refused bad) (refused bad)))))
+five_bad true b c d e = refl
+five_bad false true c d e = refl
+five_bad false false true d e = refl
+five_bad false false false true e = refl
+five_bad false false false false true = refl
+five_bad false false false false false = refl
 
 -- the words after a command decide, also where a byte among them has no meaning
 pub request_word : (s : Attributes) (command : Text) (ts : Option (List Lexeme)) → request_of s (put_token (word command) ts) ≡ commanded s command ts
-request_word s command None = all_bad (same_text command (codes "SUB")) (same_text command (codes "PUB"))
+request_word s command None =
+    five_bad (same_text command (codes "SUB")) (same_text command (codes "UNSUB")) (same_text command (codes "PUB")) (same_text command (codes "LIST")) (same_text command (codes "QUIT"))
 request_word s command (Some ts) = refl
+
+-- a fault other than want of memory is the text's
+pub expr_fault : (fault : ExprFault) (read : Result (List Pred) ExprFault) → conditions.Reads (Err fault) read → (fault ≡ expr.NoMemory → ⊥) → read ≡ Err fault
+expr_fault expr.Bad read r other = r
+expr_fault (expr.Attr name) read r other = r
+expr_fault (expr.Dom a) read r other = r
+expr_fault (expr.Many count) read r other = r
+expr_fault expr.NoMemory read r other = absurd (other refl)
+
+pub event_fault : (fault : EventFault) (read : Result Assignments EventFault) → events.Reads (Err fault) read → (fault ≡ event.NoMemory → ⊥) → read ≡ Err fault
+event_fault event.Bad read r other = r
+event_fault (event.Attr name) read r other = r
+event_fault (event.Dom a) read r other = r
+event_fault (event.Twice a) read r other = r
+event_fault event.NoMemory read r other = absurd (other refl)
+
+-- a name and a condition with a fault
+pub faulty_subscription : (s : Attributes) (word_read name : Text) (ts : Option (List Lexeme)) (fault : ExprFault) → name_of word_read ≡ Ok name
+    → conditions.condition s ts ≡ Err fault → subscription s (put_token (word word_read) ts) ≡ refused (expr_refusal s fault)
+faulty_subscription s word_read name None fault named read = ap (λ f. refused (expr_refusal s f)) (same_fault fault read)
+  where
+    same_fault : (f : ExprFault) → conditions.condition s None ≡ Err f → expr.Bad ≡ f
+    same_fault f e = cc
+faulty_subscription s word_read name (Some ts) fault named read = rw (named, read) refl
+
+pub faulty_publication : (s : Attributes) (ts : Option (List Lexeme)) (fault : EventFault) → events.event_of s ts ≡ Err fault → publication s ts ≡ refused (event_refusal s fault)
+faulty_publication s ts fault read = ap (publishing s) read

@@ -25,23 +25,28 @@ gone file P e h = subst (λ (o : ToldFile). HoldsFile o P) e h
 -- a file that reads as a schema has no fault
 served_no_fault : (file : ToldFile) (x : Effects) (e : SessionEnd) (text : List ℕ) (fault : SchemaFault) → ServedWith file x e → file ≡ Some (Some text) → schema_of text ≡ Err fault → ⊥
 served_no_fault file x e text fault w is bad =
-    let read = told file text (λ t. (length t ≤ most_file_bytes) × (schema_of t ≡ Ok w.0)) is w.1.1 in
+    let read = told file text (λ t. (length t ≤ most_file_bytes) × (schema_of t ≡ Ok w.0)) is w.2.1 in
     let ok : schema_of text ≡ Ok w.0 = read.1 in
     let clash : Ok w.0 ≡ Err fault = sym ok ∙ bad in cc
 
 -- a file that was read is within the limit
 served_not_long : (file : ToldFile) (x : Effects) (e : SessionEnd) (text : List ℕ) → ServedWith file x e → file ≡ Some (Some text) → most_file_bytes < length text → ⊥
 served_not_long file x e text w is long =
-    let read = told file text (λ t. (length t ≤ most_file_bytes) × (schema_of t ≡ Ok w.0)) is w.1.1 in
+    let read = told file text (λ t. (length t ≤ most_file_bytes) × (schema_of t ≡ Ok w.0)) is w.2.1 in
     let short : length text ≤ most_file_bytes = read.0 in omega arith
 
-exact_run : (Untouched : Type 0) (file : ToldFile) (x : Effects) (status : Status) → RunEnds Untouched file x status → IsExact file x status
-exact_run U file x Done r = record {
-  schema_bad = λ text line kind is short bad. absurd (served_no_fault file x ends.Eof text (Line line kind) r is bad);
-  long_file = λ text is long. absurd (served_not_long file x ends.Eof text r is long);
-  missing = λ none. absurd (gone file (λ t. (length t ≤ most_file_bytes) × (schema_of t ≡ Ok r.0)) none r.1.1);
+-- a session was served to its end, so all is done
+exact_done : (file : ToldFile) (x : Effects) (e : SessionEnd) → ServedWith file x e → IsExact file x Done
+exact_done file x e r = record {
+  schema_bad = λ text line kind is short bad. absurd (served_no_fault file x e text (Line line kind) r is bad);
+  long_file = λ text is long. absurd (served_not_long file x e text r is long);
+  missing = λ none. absurd (gone file (λ t. (length t ≤ most_file_bytes) × (schema_of t ≡ Ok r.0)) none r.2.1);
   complete = λ text s is short good quiet. inl refl;
 }
+
+exact_run : (Untouched : Type 0) (file : ToldFile) (x : Effects) (status : Status) → RunEnds Untouched file x status → IsExact file x status
+exact_run U file x Done (inl r) = exact_done file x ends.Eof r
+exact_run U file x Done (inr r) = exact_done file x ends.Quit r
 exact_run U file x Words r = absurd r
 exact_run U file x (SchemaBad l k) r = record {
   schema_bad = λ text line kind is short bad.
@@ -79,8 +84,8 @@ exact_run U file x ReadFault (inl r) = record {
 exact_run U file x ReadFault (inr r) = record {
   schema_bad = λ text line kind is short bad. absurd (served_no_fault file x ends.ReadFault text (Line line kind) r is bad);
   long_file = λ text is long. absurd (served_not_long file x ends.ReadFault text r is long);
-  missing = λ none. absurd (gone file (λ t. (length t ≤ most_file_bytes) × (schema_of t ≡ Ok r.0)) none r.1.1);
-  complete = λ text s is short good quiet. absurd (quiet.source r.3.ended.0);
+  missing = λ none. absurd (gone file (λ t. (length t ≤ most_file_bytes) × (schema_of t ≡ Ok r.0)) none r.2.1);
+  complete = λ text s is short good quiet. absurd (quiet.source r.4.ended.0);
 }
 exact_run U file x LongFile r = record {
   schema_bad = λ text line kind is short bad. absurd (too_long text short (told file text (λ t. most_file_bytes < length t) is r.1));
@@ -94,14 +99,14 @@ exact_run U file x LongFile r = record {
 exact_run U file x WriteFault r = record {
   schema_bad = λ text line kind is short bad. absurd (served_no_fault file x ends.WriteFault text (Line line kind) r is bad);
   long_file = λ text is long. absurd (served_not_long file x ends.WriteFault text r is long);
-  missing = λ none. absurd (gone file (λ t. (length t ≤ most_file_bytes) × (schema_of t ≡ Ok r.0)) none r.1.1);
-  complete = λ text s is short good quiet. absurd (quiet.sink r.3.ended.0);
+  missing = λ none. absurd (gone file (λ t. (length t ≤ most_file_bytes) × (schema_of t ≡ Ok r.0)) none r.2.1);
+  complete = λ text s is short good quiet. absurd (quiet.sink r.4.ended.0);
 }
 exact_run U file x Spent r = record {
   schema_bad = λ text line kind is short bad. absurd (served_no_fault file x ends.Spent text (Line line kind) r is bad);
   long_file = λ text is long. absurd (served_not_long file x ends.Spent text r is long);
-  missing = λ none. absurd (gone file (λ t. (length t ≤ most_file_bytes) × (schema_of t ≡ Ok r.0)) none r.1.1);
-  complete = λ text s is short good quiet. absurd (quiet.bytes r.3.ended.0);
+  missing = λ none. absurd (gone file (λ t. (length t ≤ most_file_bytes) × (schema_of t ≡ Ok r.0)) none r.2.1);
+  complete = λ text s is short good quiet. absurd (quiet.bytes r.4.ended.0);
 }
 exact_run U file x (Split rift) r = absurd r
 exact_run U file x (Stray stray) r = absurd r

@@ -3,3 +3,5 @@ pub mod Steps
 pub mod Serves
 pub mod Turning
 pub mod Exactness
+pub mod KeptLemmas
+pub mod Told

@@ -1,64 +1,71 @@
 -- A session's turns, one after another, are a legal transcript of the lines that were read.
-use Rattle.std.proofs.Common.{◌≡◌, inl, inr, ℕ, ◌+◌, ◌<◌, ◌≤◌, Bool, true, false, List, [], ◌∷◌, ◌++◌, length, map, take, drop, Option, Some, None, Ok, Err, refl, sym, ap, ◌∙◌, subst, arith, append_assoc, length-drop}
+use Rattle.std.proofs.Common.{◌≡◌, ◌⊎◌, inl, inr, ℕ, ◌+◌, ◌<◌, ◌≤◌, Bool, true, false, List, [], ◌∷◌, ◌++◌, length, map, take, drop, Option, Some, None, Err, refl, sym, ap, ◌∙◌, subst, arith, append_assoc, length-drop}
 use Rattle.std.proofs.lemmas.List.{map_push, append-nil, take-append-drop}
 use Rattle.std.proofs.lemmas.List.Concat.{flat_map-append}
 use Rattle.be_io.specs.Counts.{HasRisen, HasRisenBy, RisesBy}
 use Rattle.be_io.specs.Told.{WhereTold, HoldsMore}
-use Rattle.be_io.specs.Lines.{TextLine, line_of, lines}
+use Rattle.be_io.specs.Lines.{TextLine, closed_line, line_of, read_line, lines}
 use Rattle.be_io.specs.Reader.{ReaderState, NextLine, BreaksOff}
 use Rattle.be_io.specs.declared.faults.SinkFault.{SinkFault}
 use Rattle.be_io.specs.declared.faults.SinkFault.TheVariants.{Failed, NoMemory}
 use Rattle.be_io.proofs.LineLemmas.{lines-ClosedLine, lines-OpenLine, lines-begun}
 use Rattle.be_io.proofs.ToldLemmas.{HoldsMore-append, HoldsMore-nil}
-use Rattle.be_model.specs.declared.changes.Row.{Row}
 use Rattle.be_model.specs.Schemas.{Attributes}
-use Rattle.be_change.specs.Requests.{Request, Reply, Exchange}
-use Rattle.be_change.specs.Walk.{Walk, beginning}
+use Rattle.be_change.specs.History.{Entry, has_left}
+use Rattle.be_change.specs.Requests.{Request, refused, subscribe, unsubscribe, publish, listing, quit, Reply, Exchange}
+use Rattle.be_change.specs.Walk.{beginning}
+use Rattle.be_change.specs.Made.{made}
+use Rattle.be_change.specs.Alone.{RanAlone}
+use Rattle.be_change.proofs.Alone.{alone_ran}
 use Rattle.be_transcript.specs.Readings.{reading}
 use Rattle.be_transcript.specs.Replies.{reply_text}
-use Rattle.be_transcript.specs.Transcript.{line_limit, AnswersEach, requests, texts, AreRun, IsRunTranscript, IsCutWithin, read_ahead, ReadToEnd, ReadInPart, ReadFirstLines}
+use Rattle.be_transcript.specs.Transcript.{line_limit, AnswersEach, requests, texts, AreRun, read_ahead, ReadToEnd, ReadInPart, ReadFirstLines}
 use Rattle.be_server.specs.declared.session.SessionEnd.{SessionEnd}
 use Rattle.be_server.specs.declared.session.SessionEnd.TheVariants as ends
+use Rattle.be_server.specs.declared.session.Turn.TheVariants.{Next, Over, AfterQuit}
+use Rattle.be_server.specs.Given.{Replies, is_quit}
 use Rattle.be_server.specs.Ties.{Ties}
 use Rattle.be_server.specs.Wrote.{SinkState, TookPart}
-use Rattle.be_server.specs.Turns.{SourceState, TurnState, IsReading, TakesAlike, TookLine, EndsAt, AnswersLine, Turned}
-use Rattle.be_server.specs.Serving.{GoesOn, IsServing, Gave, TakesWithin, ServedTo, Served}
-use Rattle.be_server.proofs.Steps.{tie_beginning, tie_step}
+use Rattle.be_server.specs.Turns.{SourceState, TurnState, TakesAlike, IsFirstLine, TookLine, EndsAt, Answered, AnswersLine, Turned}
+use Rattle.be_server.specs.Serving.{IsNew, GoesOn, IsServing, Gave, Leaves, QuitsAtEnd, RanWhole, RanCut, TakesWithin, ServedTo, Served}
+use Rattle.be_server.proofs.Steps.{Plain, Stepped, tie_beginning, tie_step, tie_next}
 
 -- one more line
 goes_on : (start unread b bytes unread' a : List ℕ) (ended : Bool) (done : List TextLine) → GoesOn false start unread b done
-    → NextLine ended (unread ++ b) bytes (unread' ++ a) → GoesOn ended start unread' a (done ++ line_of line_limit bytes ∷ [])
+    → NextLine ended (unread ++ b) bytes (unread' ++ a) → GoesOn ended start unread' a (done ++ read_line line_limit ended bytes ∷ [])
 goes_on start unread b bytes unread' a ended done g (inl n) =
     let front : List ℕ = g.0 ++ (bytes ++ 10 ∷ []) in
+    let line : TextLine = closed_line line_limit bytes in
     let whole : start ≡ front ++ (unread' ++ a) =
     g.1 ∙ ap (λ (x : List ℕ). g.0 ++ x) (n.1.1 ∙ sym (append_assoc bytes (10 ∷ []) (unread' ++ a))) ∙ sym (append_assoc g.0 (bytes ++ 10 ∷ []) (unread' ++ a)) in
-    let later : (e : Bool) (x : List ℕ) → lines line_limit e (front ++ x) ≡ (done ++ line_of line_limit bytes ∷ []) ++ lines line_limit e x =
+    let later : (e : Bool) (x : List ℕ) → lines line_limit e (front ++ x) ≡ (done ++ line ∷ []) ++ lines line_limit e x =
     λ e x. ap (lines line_limit e) (append_assoc g.0 (bytes ++ 10 ∷ []) x)
     ∙ g.2 e ((bytes ++ 10 ∷ []) ++ x)
     ∙ ap (λ (ls : List TextLine). done ++ ls) (lines-ClosedLine line_limit e ((bytes ++ 10 ∷ []) ++ x) bytes x (n.1.0, append_assoc bytes (10 ∷ []) x))
-    ∙ sym (append_assoc done (line_of line_limit bytes ∷ []) (lines line_limit e x)) in
-    subst (λ (e : Bool). GoesOn e start unread' a (done ++ line_of line_limit bytes ∷ [])) (sym n.0) (front, whole, later)
+    ∙ sym (append_assoc done (line ∷ []) (lines line_limit e x)) in
+    subst (λ (e : Bool). GoesOn e start unread' a (done ++ read_line line_limit e bytes ∷ [])) (sym n.0) (front, whole, later)
 goes_on start unread b bytes unread' a ended done g (inr n) =
     let all : lines line_limit true start ≡ done ++ line_of line_limit bytes ∷ [] =
     ap (lines line_limit true) g.1 ∙ g.2 true (unread ++ b) ∙ ap (λ (ls : List TextLine). done ++ ls) (lines-OpenLine line_limit (unread ++ b) bytes (unread' ++ a) n.1) in
     let nothing : a ≡ [] = none_after unread' a n.1.3 in
-    subst (λ (e : Bool). GoesOn e start unread' a (done ++ line_of line_limit bytes ∷ [])) (sym n.0) (nothing, all)
+    subst (λ (e : Bool). GoesOn e start unread' a (done ++ read_line line_limit e bytes ∷ [])) (sym n.0) (nothing, all)
   where
     none_after : (x y : List ℕ) → x ++ y ≡ [] → y ≡ []
     none_after [] y e = e
     none_after (b ∷ x) y e = absurd cc
 
 -- the same, where it is told
-goes_on_told : (start before after : Option (List ℕ)) (unread bytes unread' : List ℕ) (ended : Bool) (done : List TextLine)
+goes_on_told : (start before after : Option (List ℕ)) (unread unread' : List ℕ) (line : TextLine) (ended : Bool) (done : List TextLine)
     → WhereTold start before (λ b a. GoesOn false b unread a done)
-    → WhereTold before after (λ b a. NextLine ended (unread ++ b) bytes (unread' ++ a))
-    → WhereTold start after (λ b a. GoesOn ended b unread' a (done ++ line_of line_limit bytes ∷ []))
-goes_on_told None None None unread bytes unread' ended done g n = tt
-goes_on_told (Some s) (Some b) (Some a) unread bytes unread' ended done g n = goes_on s unread b bytes unread' a ended done g n
-goes_on_told None None (Some a) unread bytes unread' ended done g n = n
-goes_on_told None (Some b) after unread bytes unread' ended done g n = absurd g
-goes_on_told (Some s) None after unread bytes unread' ended done g n = absurd g
-goes_on_told (Some s) (Some b) None unread bytes unread' ended done g n = absurd n
+    → WhereTold before after (λ b a. IsFirstLine line ended (unread ++ b) (unread' ++ a))
+    → WhereTold start after (λ b a. GoesOn ended b unread' a (done ++ line ∷ []))
+goes_on_told None None None unread unread' line ended done g n = tt
+goes_on_told (Some s) (Some b) (Some a) unread unread' line ended done g n =
+    subst (λ (x : TextLine). GoesOn ended s unread' a (done ++ x ∷ [])) (sym n.1) (goes_on s unread b n.0 unread' a ended done g n.2)
+goes_on_told None None (Some a) unread unread' line ended done g n = n
+goes_on_told None (Some b) after unread unread' line ended done g n = absurd g
+goes_on_told (Some s) None after unread unread' line ended done g n = absurd g
+goes_on_told (Some s) (Some b) None unread unread' line ended done g n = absurd n
 
 texts-push : (ps : List Exchange) (p : Exchange) → texts (ps ++ p ∷ []) ≡ texts ps ++ reply_text p.1
 texts-push ps p =
@@ -72,52 +79,97 @@ requests-push s ps done line reply e =
 rises-along : (a b c t u v : ℕ) → RisesBy t a b → RisesBy u b c → t + u ≡ v → RisesBy v a c
 rises-along a b c t u v p q e = omega arith
 
+-- what one more answered line leads to, but for what its write took
+record AnsweredOne (s : Attributes) (source : SourceState) (sink : SinkState) (before after : TurnState) (g : IsServing s source sink before) (line : TextLine) (reply : Reply) : Type 0 where
+  pub stepped : Stepped g.ps (reading s line) reply after.list
+  pub asked : requests (g.ps ++ (reading s line, reply) ∷ []) ≡ map (reading s) (g.done ++ line ∷ [])
+  pub lines_read : WhereTold source.left after.source.left (λ b a. GoesOn after.reader.ended b after.reader.unread a (g.done ++ line ∷ []))
+
+answered_one : (s : Attributes) (source : SourceState) (sink : SinkState) (before after : TurnState) (g : IsServing s source sink before) (line : TextLine) (reply : Reply)
+    → TookLine before after line → Replies before.list (reading s line) reply after.list → AnsweredOne s source sink before after g line reply
+answered_one s source sink before after g line reply took f =
+    let going : WhereTold source.left before.source.left (λ b a. GoesOn false b before.reader.unread a g.done) =
+    subst (λ (e : Bool). WhereTold source.left before.source.left (λ b a. GoesOn e b before.reader.unread a g.done)) took.going g.lines_read in
+    record {
+      stepped = tie_step g.ps g.walk before.list after.list (reading s line) reply g.ties f;
+      asked = requests-push s g.ps g.done line reply g.asked;
+      lines_read = goes_on_told source.left before.source.left after.source.left before.reader.unread after.reader.unread line after.reader.ended g.done going took.next;
+    }
+
 -- one more turn
 pub serves_on : (s : Attributes) (source : SourceState) (sink : SinkState) (before after : TurnState)
-    → IsServing s source sink before → AnswersLine s before after (Ok tt) → TakesAlike before.reader.taken after.reader.taken before.source.taken after.source.taken → IsServing s source sink after
+    → IsServing s source sink before → AnswersLine s before after Next → TakesAlike before.reader.taken after.reader.taken before.source.taken after.source.taken → IsServing s source sink after
 serves_on s source sink before after g l t =
     let line : TextLine = l.0 in
     let took : TookLine before after line = l.1 in
-    let reply : Reply = l.2.0 in
+    let reply : Reply = l.2.1.0 in
     let p : Exchange = (reading s line, reply) in
-    let next = tie_step g.ps g.walk before.rows after.rows (reading s line) reply g.ties l.2.1 in
+    let one = answered_one s source sink before after g line reply took l.2.1.1 in
+    let next = tie_next g.ps (reading s line) reply after.list l.2.0 one.stepped in
     record {
       ps = g.ps ++ p ∷ [];
       walk = next.0;
       done = g.done ++ line ∷ [];
       ties = next.1;
-      asked = requests-push s g.ps g.done line reply g.asked;
+      asked = one.asked;
       written = subst (λ (x : List ℕ). HoldsMore sink.held after.sink.held x) (sym (texts-push g.ps p))
-          (HoldsMore-append sink.held before.sink.held after.sink.held (texts g.ps) (reply_text reply) g.written l.2.2.0);
-      quiet = l.2.2.1 ∙ g.quiet;
+          (HoldsMore-append sink.held before.sink.held after.sink.held (texts g.ps) (reply_text reply) g.written l.2.1.2.0);
+      quiet = l.2.1.2.1 ∙ g.quiet;
       sound = took.faults ∙ g.sound;
       taken = rises-along source.taken before.source.taken after.source.taken before.reader.taken t.0 after.reader.taken g.taken t.2 t.1;
       reads = took.reads;
-      lines_read =
-          let going : WhereTold source.left before.source.left (λ b a. GoesOn false b before.reader.unread a g.done) =
-          subst (λ (e : Bool). WhereTold source.left before.source.left (λ b a. GoesOn e b before.reader.unread a g.done)) took.going g.lines_read in
-          subst (λ (x : TextLine). WhereTold source.left after.source.left (λ b a. GoesOn after.reader.ended b after.reader.unread a (g.done ++ x ∷ []))) (sym took.is_it)
-          (goes_on_told source.left before.source.left after.source.left before.reader.unread took.bytes after.reader.unread after.reader.ended g.done going took.next);
+      lines_read = one.lines_read;
     }
 
+-- a session that is going hasn't left
+pub present : (s : Attributes) (source : SourceState) (sink : SinkState) (now : TurnState) → IsServing s source sink now → has_left 1 now.list ≡ false
+present s source sink now g = subst (λ (h : List Entry). has_left 1 h ≡ false) g.ties.made_is g.ties.alone.present
+
+answered_present : (s : Attributes) (source : SourceState) (sink : SinkState) (before after : TurnState) → IsServing s source sink before
+    → (line : TextLine) → TookLine before after line → is_quit (reading s line) ≡ false → (reply : Reply) → Replies before.list (reading s line) reply after.list
+    → has_left 1 after.list ≡ false
+answered_present s source sink before after g line took goes reply fits =
+    let one = answered_one s source sink before after g line reply took fits in
+    let next = tie_next g.ps (reading s line) reply after.list goes one.stepped in
+    subst (λ (h : List Entry). has_left 1 h ≡ false) next.1.made_is next.1.alone.present
+
+-- nor has one that ended without a QUIT
+pub over_present : (s : Attributes) (source : SourceState) (sink : SinkState) (before after : TurnState) (e : SessionEnd)
+    → IsServing s source sink before → Turned s before after (Over e) → has_left 1 after.list ≡ false
+over_present s source sink before after ends.Eof g t = subst (λ (h : List Entry). has_left 1 h ≡ false) (sym t.1.list) (present s source sink before g)
+over_present s source sink before after ends.ReadFault g t = subst (λ (h : List Entry). has_left 1 h ≡ false) (sym t.1.list) (present s source sink before g)
+over_present s source sink before after ends.Spent g t = subst (λ (h : List Entry). has_left 1 h ≡ false) (sym t.1.list) (present s source sink before g)
+over_present s source sink before after ends.Quit g t = absurd t.2
+over_present s source sink before after ends.WriteFault g t = answered_present s source sink before after g t.0 t.1 t.2.0 t.2.1.0 t.2.1.1
+over_present s source sink before after ends.NoMemory g t = answered_present s source sink before after g t.0 t.1 t.2.0 t.2.1.0 t.2.1.1
+
+each : (ended : Bool) (asked answered : List Request) → answered ≡ asked → AnswersEach ended asked answered
+each true asked answered e = ([], sym e ∙ sym (append-nil answered))
+each false asked answered e = e
+
 -- what was answered is a run over the list that it made
-are_run : (s : Attributes) (ps : List Exchange) (w : Walk) (rows : List Row) (ls : List TextLine) → Ties ps w rows → requests ps ≡ map (reading s) ls → AreRun s ls ps
-are_run s ps w rows ls t e = record {
-  exchanges = record {
-    session = record { end = w; legal = t.alone.legal; only = inl t.alone.only };
-    each = subst (λ (ended : Bool). AnswersEach ended (map (reading s) ls) (requests ps)) (sym t.alone.going) e;
-  };
-  formed = t.alone.formed;
-  plain = t.plain;
+are_run : (s : Attributes) (ps : List Exchange) (ls : List TextLine) → RanAlone 1 ps → Plain ps → requests ps ≡ map (reading s) ls → AreRun s ls ps
+are_run s ps ls ran plain e = record {
+  exchanges = record { session = ran.session; each = each ran.session.end.ended (map (reading s) ls) (requests ps) e };
+  formed = ran.formed;
+  plain = plain;
 }
 
+left_along : (made_list now after : List Entry) → made_list ≡ now → Leaves false now after → Leaves false made_list after
+left_along made_list now after e l = subst (λ (h : List Entry). Leaves false h after) (sym e) l
+
 -- the lines that were answered, where the session goes on
-whole_transcript : (s : Attributes) (source : SourceState) (sink : SinkState) (now : TurnState) (after : SinkState) (g : IsServing s source sink now) → after ≡ now.sink
-    → Gave sink after (IsRunTranscript s g.done)
-whole_transcript s source sink now after g same = record {
+whole_transcript : (s : Attributes) (source : SourceState) (sink : SinkState) (now : TurnState) (after : SinkState) (h : List Entry) (g : IsServing s source sink now) → after ≡ now.sink
+    → Leaves false now.list h → Gave sink after (RanWhole s g.done false h)
+whole_transcript s source sink now after h g same l = record {
   transcript = texts g.ps;
   held = subst (λ (x : SinkState). HoldsMore sink.held x.held (texts g.ps)) (sym same) g.written;
-  is_it = (g.ps, are_run s g.ps g.walk now.rows g.done g.ties g.asked, refl);
+  is_it = record {
+    ps = g.ps;
+    transcript = record { run = are_run s g.ps g.done (alone_ran 1 g.ps g.walk g.ties.alone) g.ties.plain g.asked; is_text = refl };
+    last_line = tt;
+    list = left_along (made 1 g.ps) now.list h g.ties.made_is l;
+  };
 }
 
 -- at the end all lines were answered
@@ -169,35 +221,80 @@ first_lines (Some s) (Some a) false unread done few g = record {
   first = (lines line_limit true (unread ++ a), ap (lines line_limit true) g.1 ∙ g.2 true (unread ++ a));
 }
 
--- a reply that was cut short
-cut_within : (s : Attributes) (source : SourceState) (sink : SinkState) (before after : TurnState) (fault : SinkFault)
-    → (g : IsServing s source sink before) → (l : AnswersLine s before after (Err fault)) → TookPart before.sink after.sink (reply_text l.2.0)
-    → (ls : List TextLine) × ReadFirstLines source.left after.source.left ls × Gave sink after.sink (IsCutWithin s ls)
-cut_within s source sink before after fault g l part =
+-- the request of the last line
+quits_at_end : (s : Attributes) (front : List TextLine) (line : TextLine) (quits : Bool) → is_quit (reading s line) ≡ quits → QuitsAtEnd quits s (front ++ line ∷ [])
+quits_at_end s front line true e = (front, line, refl, a_quit (reading s line) e)
+  where
+    a_quit : (r : Request) → is_quit r ≡ true → r ≡ quit
+    a_quit quit e = refl
+    a_quit (refused r) e = absurd cc
+    a_quit (subscribe name conj) e = absurd cc
+    a_quit (unsubscribe name) e = absurd cc
+    a_quit (publish x) e = absurd cc
+    a_quit listing e = absurd cc
+quits_at_end s front line false e = tt
+
+-- a QUIT, and its reply
+quit_transcript : (s : Attributes) (source : SourceState) (sink : SinkState) (before after : TurnState)
+    → IsServing s source sink before → AnswersLine s before after (AfterQuit ends.Quit)
+    → (ls : List TextLine) × ReadFirstLines source.left after.source.left ls × Gave sink after.sink (RanWhole s ls true after.list)
+quit_transcript s source sink before after g l =
     let line : TextLine = l.0 in
     let took : TookLine before after line = l.1 in
-    let reply : Reply = l.2.0 in
+    let reply : Reply = l.2.1.0 in
+    let p : Exchange = (reading s line, reply) in
+    let one = answered_one s source sink before after g line reply took l.2.1.1 in (
+      g.done ++ line ∷ [],
+      first_lines source.left after.source.left after.reader.ended after.reader.unread (g.done ++ line ∷ []) took.buffered one.lines_read,
+      record {
+        transcript = texts (g.ps ++ p ∷ []);
+        held = subst (λ (x : List ℕ). HoldsMore sink.held after.sink.held x) (sym (texts-push g.ps p))
+            (HoldsMore-append sink.held before.sink.held after.sink.held (texts g.ps) (reply_text reply) g.written l.2.1.2.0);
+        is_it = record {
+          ps = g.ps ++ p ∷ [];
+          transcript = record { run = are_run s (g.ps ++ p ∷ []) (g.done ++ line ∷ []) one.stepped.ran one.stepped.plain one.asked; is_text = refl };
+          last_line = quits_at_end s g.done line true l.2.0;
+          list = sym one.stepped.made_is;
+        };
+      },
+    )
+
+leaves_along : (quits : Bool) (made_list now after : List Entry) → made_list ≡ now → Leaves quits now after → Leaves quits made_list after
+leaves_along quits made_list now after e l = subst (λ (h : List Entry). Leaves quits h after) (sym e) l
+
+-- a reply that was cut short
+cut_transcript : (s : Attributes) (source : SourceState) (sink : SinkState) (before after : TurnState) (h : List Entry) (quits : Bool) (fault : SinkFault)
+    → IsServing s source sink before → (line : TextLine) → TookLine before after line → is_quit (reading s line) ≡ quits
+    → (a : Answered before.list (reading s line) after.list before.sink after.sink (Err fault)) → TookPart before.sink after.sink (reply_text a.0)
+    → Leaves quits after.list h
+    → (ls : List TextLine) × ReadFirstLines source.left after.source.left ls × Gave sink after.sink (RanCut s ls quits h)
+cut_transcript s source sink before after h quits fault g line took is a part l =
+    let reply : Reply = a.0 in
     let p : Exchange = (reading s line, reply) in
     let text : List ℕ = reply_text reply in
-    let next = tie_step g.ps g.walk before.rows after.rows (reading s line) reply g.ties l.2.1 in
+    let one = answered_one s source sink before after g line reply took a.1 in
     let done : List TextLine = g.done ++ line ∷ [] in
-    let going : WhereTold source.left before.source.left (λ b a. GoesOn false b before.reader.unread a g.done) =
-    subst (λ (e : Bool). WhereTold source.left before.source.left (λ b a. GoesOn e b before.reader.unread a g.done)) took.going g.lines_read in
-    let on : WhereTold source.left after.source.left (λ b a. GoesOn after.reader.ended b after.reader.unread a done) =
-    subst (λ (x : TextLine). WhereTold source.left after.source.left (λ b a. GoesOn after.reader.ended b after.reader.unread a (g.done ++ x ∷ []))) (sym took.is_it)
-    (goes_on_told source.left before.source.left after.source.left before.reader.unread took.bytes after.reader.unread after.reader.ended g.done going took.next) in
-    let first = first_lines source.left after.source.left after.reader.ended after.reader.unread done took.buffered on in
-    let run : AreRun s done (g.ps ++ p ∷ []) =
-    are_run s (g.ps ++ p ∷ []) next.0 after.rows done next.1 (requests-push s g.ps g.done line reply g.asked) in
     let missing : 0 < length (drop part.0 text) = omega (arith, length-drop part.0 text, part.1) in
     let split : texts (g.ps ++ p ∷ []) ≡ (texts g.ps ++ take part.0 text) ++ drop part.0 text =
     texts-push g.ps p ∙ ap (λ (x : List ℕ). texts g.ps ++ x) (sym (take-append-drop part.0 text)) ∙ sym (append_assoc (texts g.ps) (take part.0 text) (drop part.0 text)) in (
       done,
-      first,
+      first_lines source.left after.source.left after.reader.ended after.reader.unread done took.buffered one.lines_read,
       record {
         transcript = texts g.ps ++ take part.0 text;
         held = HoldsMore-append sink.held before.sink.held after.sink.held (texts g.ps) (take part.0 text) g.written part.2;
-        is_it = (g.ps, p, run, drop part.0 text, missing, split, (take part.0 text, refl));
+        is_it = record {
+          ps = g.ps;
+          last = p;
+          transcript = record {
+            run = are_run s (g.ps ++ p ∷ []) done one.stepped.ran one.stepped.plain one.asked;
+            missing = drop part.0 text;
+            some = missing;
+            is_text = split;
+            whole = (take part.0 text, refl);
+          };
+          last_line = quits_at_end s g.done line quits is;
+          list = leaves_along quits (made 1 (g.ps ++ p ∷ [])) after.list h one.stepped.made_is l;
+        };
       },
     )
 
@@ -208,101 +305,107 @@ within r r' a b c p q bound = (r', bound, rises-along a b c r q.0 r' p q.2 q.1)
 spent : (a c r : ℕ) → RisesBy r a c → r ≡ 1099511627776 → HasRisenBy 1099511627776 a c
 spent a c r p e = omega arith
 
-served_to : (s : Attributes) (source : SourceState) (sink : SinkState) (before after : TurnState) (e : SessionEnd)
-    → IsServing s source sink before → Turned s before after (Some e) → RisesBy after.reader.taken source.taken after.source.taken
-    → ServedTo s source after.source sink after.sink e
-served_to s source sink before after ends.Eof g t k = (
+cut_or_whole : (s : Attributes) (sink after : SinkState) (ls : List TextLine) (quits : Bool) (h : List Entry) → Gave sink after (RanCut s ls quits h)
+    → Gave sink after (λ out. RanWhole s ls false h out ⊎ RanCut s ls quits h out)
+cut_or_whole s sink after ls quits h c = record { transcript = c.transcript; held = c.held; is_it = inr c.is_it }
+
+-- the session has ended without a QUIT, and left
+over_to : (s : Attributes) (source : SourceState) (sink : SinkState) (before after : TurnState) (h : List Entry) (e : SessionEnd)
+    → IsServing s source sink before → Turned s before after (Over e) → RisesBy after.reader.taken source.taken after.source.taken → Leaves false after.list h
+    → ServedTo s source after.source sink after.sink h e
+over_to s source sink before after h ends.Eof g t k l = (
   t.0.faults ∙ g.sound,
-  ap (λ (x : SinkState). x.faults) t.1 ∙ g.quiet,
+  ap (λ (x : SinkState). x.faults) t.1.sink ∙ g.quiet,
   g.done,
   read_to_end source.left before.source.left after.source.left before.reader.ended before.reader.unread g.done g.lines_read t.0.next,
-  whole_transcript s source sink before after.sink g t.1,
+  whole_transcript s source sink before after.sink h g t.1.sink (subst (λ (x : List Entry). Leaves false x h) t.1.list l),
 )
-served_to s source sink before after ends.ReadFault g t k = (
+over_to s source sink before after h ends.Quit g t k l = absurd t.2
+over_to s source sink before after h ends.ReadFault g t k l = (
   subst (λ (n : ℕ). HasRisen n after.source.faults) g.sound t.2,
-  ap (λ (x : SinkState). x.faults) t.1 ∙ g.quiet,
+  ap (λ (x : SinkState). x.faults) t.1.sink ∙ g.quiet,
   g.done,
   read_in_part source.left before.source.left after.source.left before.reader.unread g.done
       (subst (λ (e : Bool). WhereTold source.left before.source.left (λ b a. GoesOn e b before.reader.unread a g.done)) t.0.going g.lines_read) t.0.next,
-  whole_transcript s source sink before after.sink g t.1,
+  whole_transcript s source sink before after.sink h g t.1.sink (subst (λ (x : List Entry). Leaves false x h) t.1.list l),
 )
-served_to s source sink before after ends.Spent g t k = (
+over_to s source sink before after h ends.Spent g t k l = (
   spent source.taken after.source.taken after.reader.taken k t.2,
   t.3 ∙ g.sound,
-  ap (λ (x : SinkState). x.faults) t.1 ∙ g.quiet,
+  ap (λ (x : SinkState). x.faults) t.1.sink ∙ g.quiet,
   g.done,
   read_in_part source.left before.source.left after.source.left before.reader.unread g.done
       (subst (λ (e : Bool). WhereTold source.left before.source.left (λ b a. GoesOn e b before.reader.unread a g.done)) t.0.going g.lines_read) t.0.next,
-  whole_transcript s source sink before after.sink g t.1,
+  whole_transcript s source sink before after.sink h g t.1.sink (subst (λ (x : List Entry). Leaves false x h) t.1.list l),
 )
-served_to s source sink before after ends.WriteFault g t k =
-    let cut = cut_within s source sink before after Failed g t t.2.2.0 in
-    (subst (λ (n : ℕ). HasRisen n after.sink.faults) g.quiet t.2.2.1, t.1.faults ∙ g.sound, cut.0, cut.1, cut.2)
-served_to s source sink before after ends.NoMemory g t k =
-    let cut = cut_within s source sink before after NoMemory g t t.2.2.0 in (
-      t.1.faults ∙ g.sound,
-      t.2.2.1 ∙ g.quiet,
-      cut.0,
-      cut.1,
-      record { transcript = cut.2.transcript; held = cut.2.held; is_it = inr cut.2.is_it },
-    )
+over_to s source sink before after h ends.WriteFault g t k l =
+    let a = t.2.1 in
+    let cut = cut_transcript s source sink before after h false Failed g t.0 t.1 t.2.0 a a.2.0 l in
+    (subst (λ (n : ℕ). HasRisen n after.sink.faults) g.quiet a.2.1, t.1.faults ∙ g.sound, cut.0, false, cut.1, cut.2)
+over_to s source sink before after h ends.NoMemory g t k l =
+    let a = t.2.1 in
+    let cut = cut_transcript s source sink before after h false NoMemory g t.0 t.1 t.2.0 a a.2.0 l in
+    (t.1.faults ∙ g.sound, a.2.1 ∙ g.quiet, cut.0, false, cut.1, cut_or_whole s sink after.sink cut.0 false h cut.2)
 
--- the turn that ended the session
-pub served : (s : Attributes) (source : SourceState) (sink : SinkState) (before after : TurnState) (e : SessionEnd)
-    → IsServing s source sink before → Turned s before after (Some e)
+-- a QUIT was read
+quit_to : (s : Attributes) (source : SourceState) (sink : SinkState) (before after : TurnState) (e : SessionEnd)
+    → IsServing s source sink before → Turned s before after (AfterQuit e) → ServedTo s source after.source sink after.sink after.list e
+quit_to s source sink before after ends.Quit g t =
+    let whole = quit_transcript s source sink before after g t in
+    (t.1.faults ∙ g.sound, t.2.1.2.1 ∙ g.quiet, whole.0, whole.1, whole.2)
+quit_to s source sink before after ends.WriteFault g t =
+    let a = t.2.1 in
+    let cut = cut_transcript s source sink before after after.list true Failed g t.0 t.1 t.2.0 a a.2.0 refl in
+    (subst (λ (n : ℕ). HasRisen n after.sink.faults) g.quiet a.2.1, t.1.faults ∙ g.sound, cut.0, true, cut.1, cut.2)
+quit_to s source sink before after ends.NoMemory g t =
+    let a = t.2.1 in
+    let cut = cut_transcript s source sink before after after.list true NoMemory g t.0 t.1 t.2.0 a a.2.0 refl in
+    (t.1.faults ∙ g.sound, a.2.1 ∙ g.quiet, cut.0, true, cut.1, cut_or_whole s sink after.sink cut.0 true after.list cut.2)
+quit_to s source sink before after ends.Eof g t = absurd t.2
+quit_to s source sink before after ends.ReadFault g t = absurd t.2
+quit_to s source sink before after ends.Spent g t = absurd t.2
+
+-- the turn that ended the session without a QUIT, after which it left
+pub served : (s : Attributes) (source : SourceState) (sink : SinkState) (before after : TurnState) (h : List Entry) (e : SessionEnd)
+    → IsServing s source sink before → Turned s before after (Over e)
     → TakesAlike before.reader.taken after.reader.taken before.source.taken after.source.taken → after.reader.taken ≤ 1099511627776
-    → Served s source after.source sink after.sink e
-served s source sink before after e g t k bound = record {
+    → Leaves false after.list h → Served s source after.source sink after.sink h e
+served s source sink before after h e g t k bound l = record {
   within = within before.reader.taken after.reader.taken source.taken before.source.taken after.source.taken g.taken k bound;
-  ended = served_to s source sink before after e g t
-      (rises-along source.taken before.source.taken after.source.taken before.reader.taken k.0 after.reader.taken g.taken k.2 k.1);
+  ended = over_to s source sink before after h e g t
+      (rises-along source.taken before.source.taken after.source.taken before.reader.taken k.0 after.reader.taken g.taken k.2 k.1) l;
+}
+
+-- the turn that read a QUIT
+pub served_quit : (s : Attributes) (source : SourceState) (sink : SinkState) (before after : TurnState) (e : SessionEnd)
+    → IsServing s source sink before → Turned s before after (AfterQuit e)
+    → TakesAlike before.reader.taken after.reader.taken before.source.taken after.source.taken → after.reader.taken ≤ 1099511627776
+    → Served s source after.source sink after.sink after.list e
+served_quit s source sink before after e g t k bound = record {
+  within = within before.reader.taken after.reader.taken source.taken before.source.taken after.source.taken g.taken k bound;
+  ended = quit_to s source sink before after e g t;
 }
 
 -- a session that has answered no line yet
-pub serves_first : (s : Attributes) (source : SourceState) (sink : SinkState) (r : ReaderState)
-    → IsReading r → r.unread ≡ [] → r.taken ≡ 0 → r.ended ≡ false
-    → IsServing s source sink (record { reader = r; source = source; sink = sink; rows = [] })
-serves_first s source sink r reads none zero going = record {
+pub serves_first : (s : Attributes) (source : SourceState) (sink : SinkState) (r : ReaderState) (h : List Entry)
+    → IsNew r h → IsServing s source sink (record { reader = r; source = source; sink = sink; list = h })
+serves_first s source sink r h new = record {
   ps = [];
   walk = beginning;
   done = [];
-  ties = tie_beginning;
+  ties = subst (Ties [] beginning) (sym new.none) tie_beginning;
   asked = refl;
   written = HoldsMore-nil sink.held;
   quiet = refl;
   sound = refl;
-  taken = rises_none r.taken source.taken zero;
-  reads = reads;
-  lines_read = subst (λ (e : Bool). WhereTold source.left source.left (λ b a. GoesOn e b r.unread a [])) (sym going) (at_first source.left r.unread none);
+  taken = rises_none r.taken source.taken new.taken;
+  reads = new.reads;
+  lines_read = subst (λ (e : Bool). WhereTold source.left source.left (λ b a. GoesOn e b r.unread a [])) (sym new.going) (at_first source.left r.unread new.unread);
 }
   where
     rises_none : (t n : ℕ) → t ≡ 0 → RisesBy t n n
     rises_none t n e = omega arith
 
-    at_first : (left : Option (List ℕ)) (unread : List ℕ) → unread ≡ [] → WhereTold left left (λ b a. GoesOn false b unread a [])
+    at_first : (start : Option (List ℕ)) (unread : List ℕ) → unread ≡ [] → WhereTold start start (λ b a. GoesOn false b unread a [])
     at_first None unread e = tt
     at_first (Some b) unread e = ([], ap (λ (x : List ℕ). x ++ b) (sym e), λ ended x. refl)
-
--- nothing was read or written, for want of memory
-pub served_nothing : (s : Attributes) (source : SourceState) (sink : SinkState) → Served s source source sink sink ends.NoMemory
-served_nothing s source sink = record {
-  within = (0, omega arith, refl_rises source.taken);
-  ended = (
-    refl,
-    refl,
-    [],
-    no_lines source.left,
-    record {
-      transcript = [];
-      held = HoldsMore-nil sink.held;
-      is_it = inl ([], are_run s [] beginning [] [] tie_beginning refl, refl);
-    },
-  );
-}
-  where
-    refl_rises : (n : ℕ) → RisesBy 0 n n
-    refl_rises n = omega arith
-
-    no_lines : (left : Option (List ℕ)) → ReadFirstLines left left []
-    no_lines None = tt
-    no_lines (Some b) = record { front = []; ahead = []; parts = refl; few = omega arith; are_lines = refl; first = (lines line_limit true b, refl) }

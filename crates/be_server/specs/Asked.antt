@@ -2,15 +2,28 @@
 use Rattle.std.specs.Prelude.{◌≡◌, Result, Ok, Err}
 use Rattle.be_base.specs.declared.names.NoMemory.{NoMemory}
 use Rattle.be_change.specs.Requests as asked
+use Rattle.be_server.specs.declared.requests.Refusal.{Refusal}
+use Rattle.be_server.specs.declared.requests.Refusal.TheVariants.{Bad, Long, Attr, Dom, Twice, Many}
 use Rattle.be_server.specs.declared.requests.Request.{Request}
-use Rattle.be_server.specs.declared.requests.Request.TheVariants.{Subscribe, Publish, Bad}
+use Rattle.be_server.specs.declared.requests.Request.TheVariants.{Subscribe, Unsubscribe, Publish, Listing, Quit, Refused}
+
+abbrev pub plain_refusal : Refusal → asked.Refusal
+plain_refusal Bad = asked.bad
+plain_refusal Long = asked.long
+plain_refusal (Attr name) = asked.unknown_attribute name
+plain_refusal (Dom name) = asked.outside_domain name
+plain_refusal (Twice name) = asked.given_twice name
+plain_refusal (Many count) = asked.too_many count
 
 abbrev pub plain_request : Request → asked.Request
 plain_request (Subscribe subscription) = asked.subscribe subscription.name subscription.conj
+plain_request (Unsubscribe name) = asked.unsubscribe name
 plain_request (Publish event) = asked.publish event
-plain_request Bad = asked.refused asked.bad
+plain_request Listing = asked.listing
+plain_request Quit = asked.quit
+plain_request (Refused refusal) = asked.refused (plain_refusal refusal)
 
--- only what has a reading takes memory
+-- only a condition and an event take memory
 abbrev pub TakesMemory : asked.Request → Type 0
 TakesMemory (asked.subscribe name conj) = Unit {0}
 TakesMemory (asked.publish event) = Unit {0}
@@ -19,3 +32,8 @@ TakesMemory _ = ⊥
 abbrev pub Reads : Result Request NoMemory → asked.Request → Type 0
 Reads (Ok request) r = r ≡ plain_request request
 Reads (Err _) r = TakesMemory r
+
+-- a fault as the refusal that it is, or want of memory, which is no fault of a text
+abbrev pub Refuses : Result Refusal NoMemory → Type 0 → asked.Refusal → Type 0
+Refuses (Ok refusal) WantsMemory r = (WantsMemory → ⊥) × (plain_refusal refusal ≡ r)
+Refuses (Err _) WantsMemory r = WantsMemory

@@ -2,7 +2,9 @@ pub mod Words
 pub mod Commands
 pub mod Shorts
 pub mod Asked
-pub mod Table
+pub mod Kept
+pub mod Given
+pub mod Wanting
 pub mod Ties
 pub mod Wrote
 pub mod Turns

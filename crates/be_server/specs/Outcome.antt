@@ -15,6 +15,7 @@ use Rattle.be_server.specs.declared.status.Status.{Status}
 use Rattle.be_server.specs.declared.status.Status.TheVariants.{Done, Words, SchemaBad, NoMemory, ReadFault, LongFile, WriteFault, Spent, Split, Stray, Shut}
 use Rattle.be_server.specs.Turns.{SourceState}
 use Rattle.be_server.specs.Wrote.{SinkState}
+use Rattle.be_change.specs.History.{Entry}
 use Rattle.be_server.specs.Serving.{Served}
 
 abbrev pub most_file_bytes : ℕ
@@ -22,6 +23,7 @@ most_file_bytes = 67108864
 
 abbrev pub status_of : SessionEnd → Status
 status_of ends.Eof = Done
+status_of ends.Quit = Done
 status_of ends.ReadFault = ReadFault
 status_of ends.WriteFault = WriteFault
 status_of ends.Spent = Spent
@@ -49,11 +51,12 @@ pub record Effects : Type 0 where
 
 -- a session was served with the file's schema, and ended so
 abbrev pub ServedWith : ToldFile → Effects → SessionEnd → Type 0
-ServedWith file x e = (s : Attributes) × IsSchemaOf file s × (x.shelf' ≡ x.shelf) × Served s x.source x.source' x.sink x.sink' e
+ServedWith file x e =
+    (s : Attributes) × (h : List Entry) × IsSchemaOf file s × (x.shelf' ≡ x.shelf) × Served s x.source x.source' x.sink x.sink' h e
 
 -- how a run with this file as its schema may end. Untouched says that input and output are as they were
 abbrev pub RunEnds : Type 0 → ToldFile → Effects → Status → Type 0
-RunEnds Untouched file x Done = ServedWith file x ends.Eof
+RunEnds Untouched file x Done = ServedWith file x ends.Eof ⊎ ServedWith file x ends.Quit
 RunEnds Untouched file x Words = ⊥
 RunEnds Untouched file x (SchemaBad line kind) = Untouched × FileReads file (Err (Line line kind)) × (x.shelf' ≡ x.shelf)
 RunEnds Untouched file x NoMemory = Untouched ⊎ ServedWith file x ends.NoMemory

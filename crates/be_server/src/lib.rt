@@ -2,12 +2,13 @@
 #![tactic(auto)]
 
 mod entry;
+mod naming;
 mod requests;
 mod run;
 mod session;
 mod short;
 mod status;
-mod table;
+mod subscriptions;
 mod words;
 
 pub use entry::be_main;

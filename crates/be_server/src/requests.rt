@@ -3,10 +3,12 @@
 ghost use Rattle.std.specs.Prelude.{◌≡◌, Some};
 ghost use Rattle.be_base.specs.Tokens.{word, tokens, put_token};
 ghost use Rattle.be_io.specs.Lines as line;
-ghost use Rattle.be_transcript.specs.Readings.{reading, subscription, publication};
-ghost use Rattle.be_server.specs.Asked.{Reads};
+ghost use Rattle.be_transcript.specs.Readings.{reading, subscription, removal, publication, alone, expr_refusal, event_refusal};
+ghost use Rattle.be_expr.specs.Expressions.{IsKnown as IsKnownExpr};
+ghost use Rattle.be_event.specs.Events.{IsKnown as IsKnownEvent};
+ghost use Rattle.be_server.specs.Asked.{Reads, plain_request, Refuses};
 
-use be_base::{Name, NoMemory, Scan, Token, next_token};
+use be_base::{AttrNo, Name, NoMemory, Scan, Token, next_token};
 use be_event::{EventFault, read_event};
 use be_expr::{ExprFault, read_expr};
 use be_model::{Conj, Event, Schema};
@@ -19,13 +21,32 @@ pub struct Subscription {
     pub conj: Conj,
 }
 
+/// Why a line asks nothing.
+#[derive(Clone, Copy, Debug, PartialEq, Eq)]
+pub enum Refusal {
+    /// It has no reading.
+    Bad,
+    /// It is over the limit.
+    Long,
+    /// The first attribute that the schema doesn't have.
+    Attr { name: Name },
+    /// The attribute of the first value outside its domain.
+    Dom { name: Name },
+    /// The first attribute that an event has a second time.
+    Twice { name: Name },
+    /// How many predicates, or values of a set, there are, where there are too many.
+    Many { count: u64 },
+}
+
 /// What a line asks for.
 #[derive(Drop)]
 pub enum Request {
     Subscribe(Subscription),
+    Unsubscribe(Name),
     Publish(Event),
-    /// The line has no reading.
-    Bad,
+    Listing,
+    Quit,
+    Refused(Refusal),
 }
 
 /// Reads a line. Only a line without a fault takes memory.
@@ -34,30 +55,61 @@ pub fn read_line(alloc: Global, schema: &Schema, text: &[u8]) -> Result<Request,
     ensures { Reads result (reading schema.now (line.text text.now)) }
 {
     let Scan::Found(Token::Word(command), rest) = next_token(text) else {
-        return Ok(Request::Bad);
+        return Ok(Request::Refused(Refusal::Bad));
     };
     if command == b"SUB".as_slice() {
         return read_subscription(alloc, schema, rest);
     }
+    if command == b"UNSUB".as_slice() {
+        return Ok(read_removal(rest));
+    }
     if command == b"PUB".as_slice() {
         return read_publication(alloc, schema, rest);
     }
-    Ok(Request::Bad)
+    if command == b"LIST".as_slice() {
+        return Ok(read_end(Request::Listing, rest));
+    }
+    if command == b"QUIT".as_slice() {
+        return Ok(read_end(Request::Quit, rest));
+    }
+    Ok(Request::Refused(Refusal::Bad))
+}
+
+// The request, where no token follows.
+fn read_end(request: Request, rest: &[u8]) -> Request
+    ensures { plain_request result ≡ alone (plain_request request) (tokens rest.now) }
+{
+    match next_token(rest) {
+        Scan::End => request,
+        _ => Request::Refused(Refusal::Bad),
+    }
+}
+
+// A name, and no token after it.
+fn read_removal(text: &[u8]) -> Request
+    ensures { plain_request result ≡ removal (tokens text.now) }
+{
+    let Scan::Found(Token::Word(name), rest) = next_token(text) else {
+        return Request::Refused(Refusal::Bad);
+    };
+    match Name::read(name) {
+        Ok(name) => read_end(Request::Unsubscribe(name), rest),
+        Err(_) => Request::Refused(Refusal::Bad),
+    }
 }
 
 fn read_subscription(alloc: Global, schema: &Schema, text: &[u8]) -> Result<Request, NoMemory>
     ensures { Reads result (subscription schema.now (tokens text.now)) }
 {
     let Scan::Found(Token::Word(name), rest) = next_token(text) else {
-        return Ok(Request::Bad);
+        return Ok(Request::Refused(Refusal::Bad));
     };
     let Ok(name) = Name::read(name) else {
-        return Ok(Request::Bad);
+        return Ok(Request::Refused(Refusal::Bad));
     };
     match read_expr(alloc, schema, rest) {
         Ok(conj) => Ok(Request::Subscribe(Subscription { name, conj })),
-        Err(ExprFault::Bad) => Ok(Request::Bad),
-        Err(ExprFault::NoMemory) => Err(NoMemory),
+        Err(fault) => Ok(Request::Refused(of_expr(schema, fault)?)),
     }
 }
 
@@ -66,7 +118,40 @@ fn read_publication(alloc: Global, schema: &Schema, text: &[u8]) -> Result<Reque
 {
     match read_event(alloc, schema, text) {
         Ok(event) => Ok(Request::Publish(event)),
-        Err(EventFault::Bad) => Ok(Request::Bad),
-        Err(EventFault::NoMemory) => Err(NoMemory),
+        Err(fault) => Ok(Request::Refused(of_event(schema, fault)?)),
+    }
+}
+
+// A fault of a condition as a refusal.
+fn of_expr(schema: &Schema, fault: ExprFault) -> Result<Refusal, NoMemory>
+    requires { IsKnownExpr schema.now fault }
+    ensures { Refuses result (fault ≡ ExprFault.NoMemory) (expr_refusal schema.now fault) }
+{
+    match fault {
+        ExprFault::Bad => Ok(Refusal::Bad),
+        ExprFault::Attr { name } => Ok(Refusal::Attr { name }),
+        ExprFault::Dom { attr } => Ok(Refusal::Dom {
+            name: schema.name(attr),
+        }),
+        ExprFault::Many { count } => Ok(Refusal::Many { count }),
+        ExprFault::NoMemory => Err(NoMemory),
+    }
+}
+
+// A fault of an event as a refusal.
+fn of_event(schema: &Schema, fault: EventFault) -> Result<Refusal, NoMemory>
+    requires { IsKnownEvent schema.now fault }
+    ensures { Refuses result (fault ≡ EventFault.NoMemory) (event_refusal schema.now fault) }
+{
+    match fault {
+        EventFault::Bad => Ok(Refusal::Bad),
+        EventFault::Attr { name } => Ok(Refusal::Attr { name }),
+        EventFault::Dom { attr } => Ok(Refusal::Dom {
+            name: schema.name(attr),
+        }),
+        EventFault::Twice { attr } => Ok(Refusal::Twice {
+            name: schema.name(attr),
+        }),
+        EventFault::NoMemory => Err(NoMemory),
     }
 }

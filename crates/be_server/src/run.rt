@@ -5,8 +5,9 @@ ghost use Rattle.be_io.specs.Counts.{HasRisen};
 ghost use Rattle.be_server.specs.Outcome.{status_of, IsSchemaOf, RunEnds, AsksFor};
 ghost use Rattle.be_server.specs.Loads.{Loads};
 
-use crate::session::{SessionEnd, serve};
+use crate::session::{Session, SessionEnd, serve};
 use crate::status::Status;
+use be_base::NoMemory;
 use be_event::{SchemaFault, read_schema};
 use be_io::{Shelf, ShelfFault, Sink, Source};
 use be_model::Schema;
@@ -16,7 +17,7 @@ fn status_of(end: SessionEnd) -> Status
     ensures { result ≡ status_of end }
 {
     match end {
-        SessionEnd::Eof => Status::Done,
+        SessionEnd::Eof | SessionEnd::Quit => Status::Done,
         SessionEnd::ReadFault => Status::ReadFault,
         SessionEnd::WriteFault => Status::WriteFault,
         SessionEnd::Spent => Status::Spent,
@@ -65,7 +66,10 @@ pub fn run<F: Shelf, S: Source, K: Sink>(
     ensures asked { AsksFor (schema.now ∷ []) (F.asked shelf.old) (F.asked shelf.new) }
 {
     match load_schema(alloc, shelf, schema) {
-        Ok(schema) => status_of(serve(alloc, &schema, input, out)),
+        Ok(schema) => match Session::make(alloc) {
+            Ok(mut session) => status_of(serve(alloc, &schema, &mut session, input, out)),
+            Err(NoMemory) => Status::NoMemory,
+        },
         Err(status) => status,
     }
 }

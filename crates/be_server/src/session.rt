@@ -1,23 +1,27 @@
-//! One session: a reply for each line, until the input ends.
+//! One session: a reply for each line, until a QUIT or the end of the input.
 
-ghost use Rattle.std.specs.Prelude.{◌≡◌, ℕ, ◌+◌, ◌-◌, ◌<◌, ◌≤◌, [], length, false, None, Some, Ok, Err};
+ghost use Rattle.std.specs.Prelude.{◌≡◌, ℕ, ◌+◌, ◌-◌, ◌<◌, ◌≤◌, [], length, false, Ok, Err, IfOk};
 ghost use Rattle.be_io.specs.Lines as line;
 ghost use Rattle.be_transcript.specs.Readings.{reading};
 ghost use Rattle.be_transcript.specs.Replies.{reply_text};
+ghost use Rattle.be_change.specs.History.{has_left};
 ghost use Rattle.be_change.specs.Requests as asked;
-ghost use Rattle.be_server.specs.Table.{Replies};
+ghost use Rattle.be_server.specs.Asked.{plain_request};
+ghost use Rattle.be_server.specs.Given.{Replies};
 ghost use Rattle.be_server.specs.Wrote.{SinkState, Wrote};
-ghost use Rattle.be_server.specs.Turns.{Answered, TurnState, IsReading, TakesAlike, Turned};
-ghost use Rattle.be_server.specs.Serving.{Served};
+ghost use Rattle.be_server.specs.Turns.{Answered, TurnState, IsReading, TakesAlike, TurnsAfter, Turned};
+ghost use Rattle.be_server.specs.Serving.{IsNew, Served, Leaves};
+ghost use Rattle.be_server.specs.Wanting.{asking};
 ghost use Rattle.be_server.specs.Shorts.{plain_reply};
-ghost use Rattle.be_server.specs.Ends.{end_of_write};
+ghost use Rattle.be_server.specs.Ends.{turn_after, turn_after_quit};
 
-use crate::requests::{Request, Subscription, read_line};
+use crate::naming::{Scratch, Wanted};
+use crate::requests::{Refusal, Request, Subscription, read_line};
 use crate::short::Short;
-use crate::table::{Scratch, add_row, find_name};
+use crate::subscriptions::Subscriptions;
 use be_base::{LINE_BYTES, NoMemory};
 use be_io::{Line, LineFault, LineReader, Sink, SinkFault, Source, write_all};
-use be_model::{Event, Row, Schema};
+use be_model::Schema;
 use std::alloc::Global;
 
 /// How a session ended.
@@ -25,6 +29,8 @@ use std::alloc::Global;
 pub enum SessionEnd {
     /// The input was read to its end.
     Eof,
+    /// A QUIT was read.
+    Quit,
     ReadFault,
     WriteFault,
     /// The input gave 1099511627776 bytes.
@@ -32,19 +38,33 @@ pub enum SessionEnd {
     NoMemory,
 }
 
-fn subscribe(rows: &mut Vec<Row>, subscription: Subscription) -> Short
-    ensures { Replies rows.old.items (asked.subscribe subscription.name subscription.conj) (plain_reply result) rows.new.items }
+/// How a session goes on after a line.
+#[derive(Clone, Copy, Debug, PartialEq, Eq)]
+enum Turn {
+    Next,
+    /// It has ended without a QUIT.
+    Over(SessionEnd),
+    /// A QUIT was read, and the session has ended so.
+    AfterQuit(SessionEnd),
+}
+
+fn turn_after(written: Result<(), SinkFault>) -> Turn
+    ensures { result ≡ turn_after written }
 {
-    let Subscription { name, conj } = subscription;
-    if let Some(id) = find_name(rows.as_slice(), &name) {
-        return Short::Dup {
-            m: rows.len() as u64,
-            id: id.0,
-        };
+    match written {
+        Ok(()) => Turn::Next,
+        Err(SinkFault::Failed) => Turn::Over(SessionEnd::WriteFault),
+        Err(SinkFault::NoMemory) => Turn::Over(SessionEnd::NoMemory),
     }
-    match add_row(rows, name, conj) {
-        Ok(n) => Short::Ok { n },
-        Err(NoMemory) => Short::NoMemory,
+}
+
+fn turn_after_quit(written: Result<(), SinkFault>) -> Turn
+    ensures { result ≡ turn_after_quit written }
+{
+    match written {
+        Ok(()) => Turn::AfterQuit(SessionEnd::Quit),
+        Err(SinkFault::Failed) => Turn::AfterQuit(SessionEnd::WriteFault),
+        Err(SinkFault::NoMemory) => Turn::AfterQuit(SessionEnd::NoMemory),
     }
 }
 
@@ -63,137 +83,185 @@ fn put<K: Sink>(out: &mut K, bytes: &[u8]) -> Result<(), SinkFault>
     write_all(out, bytes)
 }
 
-fn publish<K: Sink>(
-    rows: &[Row],
-    event: &Event,
+/// What a session keeps from line to line.
+#[derive(Drop)]
+pub struct Session {
+    reader: LineReader,
+    pub subscriptions: Subscriptions,
+    scratch: Scratch,
+}
+
+impl Session {
+    /// A session that has read nothing and made no change.
+    pub fn make(alloc: Global) -> Result<Session, NoMemory>
+        ensures { IfOk result (λ session. IsNew session.reader session.subscriptions) }
+    {
+        Ok(Session {
+            reader: LineReader::make(alloc, LINE_BYTES)?,
+            subscriptions: Subscriptions::make(alloc),
+            scratch: Scratch::make(alloc),
+        })
+    }
+}
+
+// Writes the reply that names the wanted live rows, whole, or that memory is wanting.
+fn tell<K: Sink>(
+    subscriptions: &Subscriptions,
+    wanted: Wanted<'_>,
     scratch: &mut Scratch,
     out: &mut K,
 ) -> Result<(), SinkFault>
-    ensures { Answered rows.now (asked.publish event.now) rows.now
+    ensures { Answered subscriptions.now (asking wanted.entry) subscriptions.now
         (record { held = K.held out.old; faults = K.write_faults out.old })
         (record { held = K.held out.new; faults = K.write_faults out.new }) result }
 {
-    match scratch.hit_reply(rows, event) {
+    match scratch.reply(subscriptions, wanted) {
         Ok(text) => put(out, text),
         Err(NoMemory) => say(out, Short::NoMemory),
     }
 }
 
-/// Answers one line of text.
+fn subscribe(alloc: Global, subscriptions: &mut Subscriptions, subscription: Subscription) -> Short
+    requires { has_left 1 subscriptions.old ≡ false }
+    ensures { Replies subscriptions.old (asked.subscribe subscription.name subscription.conj) (plain_reply result) subscriptions.new }
+{
+    subscriptions.subscribe(alloc, subscription.name, subscription.conj)
+}
+
+/// Answers a request.
 fn answer<K: Sink>(
     alloc: Global,
+    subscriptions: &mut Subscriptions,
+    scratch: &mut Scratch,
+    request: Request,
+    out: &mut K,
+) -> Turn
+    requires { has_left 1 subscriptions.old ≡ false }
+    ensures { TurnsAfter subscriptions.old (plain_request request) subscriptions.new
+        (record { held = K.held out.old; faults = K.write_faults out.old })
+        (record { held = K.held out.new; faults = K.write_faults out.new }) result }
+{
+    match request {
+        Request::Subscribe(subscription) => {
+            turn_after(say(out, subscribe(alloc, subscriptions, subscription)))
+        }
+        Request::Unsubscribe(name) => {
+            turn_after(say(out, subscriptions.unsubscribe(alloc, name)))
+        }
+        Request::Publish(event) => {
+            turn_after(tell(subscriptions, Wanted::SatisfiedBy(&event), scratch, out))
+        }
+        Request::Listing => turn_after(tell(subscriptions, Wanted::Own, scratch, out)),
+        Request::Quit => turn_after_quit(say(out, subscriptions.leave(alloc))),
+        Request::Refused(refusal) => turn_after(say(out, Short::Refused(refusal))),
+    }
+}
+
+/// Answers one line of text.
+fn answer_text<K: Sink>(
+    alloc: Global,
     schema: &Schema,
-    rows: &mut Vec<Row>,
+    subscriptions: &mut Subscriptions,
     scratch: &mut Scratch,
     text: &[u8],
     out: &mut K,
-) -> Result<(), SinkFault>
-    ensures { Answered rows.old.items (reading schema.now (line.text text.now)) rows.new.items
+) -> Turn
+    requires { has_left 1 subscriptions.old ≡ false }
+    ensures { TurnsAfter subscriptions.old (reading schema.now (line.text text.now)) subscriptions.new
         (record { held = K.held out.old; faults = K.write_faults out.old })
         (record { held = K.held out.new; faults = K.write_faults out.new }) result }
 {
     match read_line(alloc, schema, text) {
-        Ok(Request::Subscribe(subscription)) => say(out, subscribe(rows, subscription)),
-        Ok(Request::Publish(event)) => publish(rows.as_slice(), &event, scratch, out),
-        Ok(Request::Bad) => say(out, Short::Bad),
-        Err(NoMemory) => say(out, Short::NoMemory),
+        Ok(request) => answer(alloc, subscriptions, scratch, request, out),
+        Err(NoMemory) => turn_after(say(out, Short::NoMemory)),
     }
 }
 
 // Answers a line over the limit.
-fn refuse_long<K: Sink>(rows: &[Row], out: &mut K) -> Result<(), SinkFault>
-    ensures { Answered rows.now (asked.refused asked.long) rows.now
+fn refuse_long<K: Sink>(subscriptions: &Subscriptions, out: &mut K) -> Turn
+    ensures { TurnsAfter subscriptions.now (asked.refused asked.long) subscriptions.now
         (record { held = K.held out.old; faults = K.write_faults out.old })
         (record { held = K.held out.new; faults = K.write_faults out.new }) result }
 {
-    say(out, Short::Long)
+    turn_after(say(out, Short::Refused(Refusal::Long)))
 }
 
-fn end_of(written: Result<(), SinkFault>) -> Option<SessionEnd>
-    ensures { result ≡ end_of_write written }
-{
-    match written {
-        Ok(()) => None,
-        Err(SinkFault::Failed) => Some(SessionEnd::WriteFault),
-        Err(SinkFault::NoMemory) => Some(SessionEnd::NoMemory),
-    }
-}
-
-/// What a session keeps from line to line.
-#[derive(Drop)]
-struct Session {
-    reader: LineReader,
-    rows: Vec<Row>,
-    scratch: Scratch,
-}
-
-/// Reads the next line and answers it. Some where the session has ended.
-fn turn<S: Source, K: Sink>(
+/// Reads the next line and answers it.
+fn take_turn<S: Source, K: Sink>(
     alloc: Global,
     schema: &Schema,
     session: &mut Session,
     input: &mut S,
     out: &mut K,
-) -> Option<SessionEnd>
-    requires { IsReading session.old.reader }
+) -> Turn
+    requires reads { IsReading session.old.reader }
+    requires going { has_left 1 session.old.subscriptions ≡ false }
     ensures turned { Turned schema.now
         (record {
           reader = session.old.reader;
           source = record { left = S.left input.old; faults = S.read_faults input.old; taken = S.taken input.old };
           sink = record { held = K.held out.old; faults = K.write_faults out.old };
-          rows = session.old.rows.items;
+          list = session.old.subscriptions;
         })
         (record {
           reader = session.new.reader;
           source = record { left = S.left input.new; faults = S.read_faults input.new; taken = S.taken input.new };
           sink = record { held = K.held out.new; faults = K.write_faults out.new };
-          rows = session.new.rows.items;
+          list = session.new.subscriptions;
         }) result }
     ensures alike { TakesAlike session.old.reader.taken session.new.reader.taken (S.taken input.old) (S.taken input.new) }
-    ensures progress { result ≡ None → length session.new.reader.unread + session.old.reader.taken
+    ensures progress { result ≡ Turn.Next → length session.new.reader.unread + session.old.reader.taken
         < length session.old.reader.unread + session.new.reader.taken }
     ensures bound { session.new.reader.taken ≤ 1099511627776 }
 {
     match session.reader.next(input) {
-        Ok(Line::End) => Some(SessionEnd::Eof),
-        Ok(Line::Long { .. }) => end_of(refuse_long(session.rows.as_slice(), out)),
-        Ok(Line::Text) => end_of(answer(
+        Ok(Line::End) => Turn::Over(SessionEnd::Eof),
+        Ok(Line::Long { .. }) => refuse_long(&session.subscriptions, out),
+        Ok(Line::Text) => answer_text(
             alloc,
             schema,
-            &mut session.rows,
+            &mut session.subscriptions,
             &mut session.scratch,
             session.reader.text(),
             out,
-        )),
-        Err(LineFault::ReadFault) => Some(SessionEnd::ReadFault),
-        Err(LineFault::Spent) => Some(SessionEnd::Spent),
+        ),
+        Err(LineFault::ReadFault) => Turn::Over(SessionEnd::ReadFault),
+        Err(LineFault::Spent) => Turn::Over(SessionEnd::Spent),
     }
 }
 
-/// Serves one session over an input and an output, until the input ends or one of them fails.
+// The session leaves without a reply. Its Bye is missing only where memory was wanting.
+fn leave(alloc: Global, subscriptions: &mut Subscriptions)
+    requires { has_left 1 subscriptions.old ≡ false }
+    ensures { Leaves false subscriptions.old subscriptions.new }
+{
+    subscriptions.leave(alloc);
+}
+
+/// Serves a new session over an input and an output, until a QUIT, the end of the input or a fault.
+/// Without a QUIT the session leaves at its end.
 pub fn serve<S: Source, K: Sink>(
     alloc: Global,
     schema: &Schema,
+    session: &mut Session,
     input: &mut S,
     out: &mut K,
 ) -> SessionEnd
+    requires { IsNew session.old.reader session.old.subscriptions }
     ensures { Served schema.now
         (record { left = S.left input.old; faults = S.read_faults input.old; taken = S.taken input.old })
         (record { left = S.left input.new; faults = S.read_faults input.new; taken = S.taken input.new })
         (record { held = K.held out.old; faults = K.write_faults out.old })
-        (record { held = K.held out.new; faults = K.write_faults out.new }) result }
+        (record { held = K.held out.new; faults = K.write_faults out.new }) session.new.subscriptions result }
 {
-    let Ok(reader) = LineReader::make(alloc, LINE_BYTES) else {
-        return SessionEnd::NoMemory;
-    };
-    let mut session = Session {
-        reader,
-        rows: Vec::new(alloc),
-        scratch: Scratch::make(alloc),
-    };
     'lines: loop {
-        if let Some(end) = turn(alloc, schema, &mut session, input, out) {
-            return end;
+        match take_turn(alloc, schema, session, input, out) {
+            Turn::Next => {}
+            Turn::Over(end) => {
+                leave(alloc, &mut session.subscriptions);
+                return end;
+            }
+            Turn::AfterQuit(end) => return end,
         }
     }
 }

@@ -1,19 +1,23 @@
-//! Replies of a word and numbers, which take no memory.
+//! Replies of a word with numbers or a name, which take no memory.
 
-ghost use Rattle.std.specs.Prelude.{◌≡◌, ◌+◌, ◌≤◌, ◌++◌, length};
-ghost use Rattle.be_transcript.specs.Replies.{number, reply_text};
+ghost use Rattle.std.specs.Prelude.{◌≡◌, ◌+◌, ◌≤◌, ◌++◌, [], length};
+ghost use Rattle.be_transcript.specs.Replies.{part, number, refusal_text, reply_text};
+ghost use Rattle.be_server.specs.Asked.{plain_refusal};
 ghost use Rattle.be_server.specs.Shorts.{plain_reply};
 
+use crate::requests::Refusal;
 use arrayvec::ArrayString;
+use be_base::Name;
 use itoa::Buffer;
 
-/// A reply of a word and numbers.
+/// A reply that names no list of rows.
 #[derive(Clone, Copy, Debug, PartialEq, Eq)]
 pub enum Short {
     Ok { n: u64 },
+    Bye { n: u64 },
     Dup { m: u64, id: u64 },
-    Bad,
-    Long,
+    NoName { m: u64 },
+    Refused(Refusal),
     NoMemory,
 }
 
@@ -24,22 +28,58 @@ impl Short {
     {
         let mut text = ArrayString::new();
         match self {
-            Short::Ok { n } => {
-                push(&mut text, "OK");
-                push_number(&mut text, n);
-            }
+            Short::Ok { n } => push_one(&mut text, "OK", n),
+            Short::Bye { n } => push_one(&mut text, "BYE", n),
             Short::Dup { m, id } => {
-                push(&mut text, "DUP");
-                push_number(&mut text, m);
+                push_one(&mut text, "DUP", m);
                 push_number(&mut text, id);
             }
-            Short::Bad => push(&mut text, "BAD"),
-            Short::Long => push(&mut text, "LONG"),
+            Short::NoName { m } => push_one(&mut text, "NONE", m),
+            Short::Refused(refusal) => push_refusal(&mut text, refusal),
             Short::NoMemory => push(&mut text, "NOMEM"),
         }
         push(&mut text, "\n");
         text
     }
+}
+
+fn push_refusal(text: &mut ArrayString<96>, refusal: Refusal)
+    requires { text.old.bytes ≡ [] }
+    ensures exact { text.new.bytes ≡ refusal_text (plain_refusal refusal) }
+    ensures short { length text.new.bytes ≤ 72 }
+{
+    match refusal {
+        Refusal::Bad => push(text, "BAD"),
+        Refusal::Long => push(text, "LONG"),
+        Refusal::Attr { name } => push_named(text, "ATTR", &name),
+        Refusal::Dom { name } => push_named(text, "DOM", &name),
+        Refusal::Twice { name } => push_named(text, "TWICE", &name),
+        Refusal::Many { count } => push_one(text, "MANY", count),
+    }
+}
+
+// A word and a number.
+fn push_one(text: &mut ArrayString<96>, word: &str, n: u64)
+    requires start { text.old.bytes ≡ [] }
+    requires short { length word.now ≤ 5 }
+    ensures exact { text.new.bytes ≡ word.now ++ number n }
+    ensures short { length text.new.bytes ≤ 26 }
+{
+    push(text, word);
+    push_number(text, n);
+}
+
+// A word and a name.
+fn push_named(text: &mut ArrayString<96>, word: &str, name: &Name)
+    requires start { text.old.bytes ≡ [] }
+    requires short { length word.now ≤ 5 }
+    ensures exact { text.new.bytes ≡ word.now ++ part name.now }
+    ensures short { length text.new.bytes ≤ 70 }
+{
+    let _form = name.bytes();
+    push(text, word);
+    push(text, " ");
+    push(text, name.as_str());
 }
 
 fn push_number(text: &mut ArrayString<96>, n: u64)

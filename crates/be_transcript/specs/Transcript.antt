@@ -1,11 +1,11 @@
 -- Which bytes a session may be given for its lines.
-use Rattle.std.specs.Prelude.{◌≡◌, ℕ, ◌<◌, ◌≤◌, ◌⊎◌, Bool, true, false, List, [], ◌∷◌, ◌++◌, length, map, Option}
+use Rattle.std.specs.Prelude.{◌≡◌, ℕ, ◌<◌, ◌≤◌, Bool, true, false, List, [], ◌∷◌, ◌++◌, length, map, Option}
 use Rattle.std.specs.List.{flat_map, list_all}
 use Rattle.be_io.specs.Told.{WhereTold}
 use Rattle.be_io.specs.Lines.{TextLine, lines}
 use Rattle.be_model.specs.Schemas.{Attributes}
 use Rattle.be_change.specs.History.{Entry, IsWellFormed}
-use Rattle.be_change.specs.Requests.{Request, Reply, held, split, shut, Exchange}
+use Rattle.be_change.specs.Requests.{Request, quit, Reply, held, other, split, shut, Exchange}
 use Rattle.be_change.specs.Walk.{IsLegalSession}
 use Rattle.be_change.specs.Made.{made}
 use Rattle.be_transcript.specs.Readings.{reading}
@@ -36,9 +36,10 @@ pub record AreExchanges (s : Attributes) (k : ℕ) (h : List Entry) (ls : List T
 abbrev pub IsTranscript : Attributes → ℕ → List Entry → List TextLine → List ℕ → Type 0
 IsTranscript s k h ls out = (ps : List Exchange) × AreExchanges s k h ls ps × (out ≡ texts ps)
 
--- a run with one session publishes each change at once and refuses no reader
+-- a run with one session publishes each change at once, refuses no reader, and has no other session's rows
 abbrev pub comes_in_run : Reply → Bool
 comes_in_run (held n) = false
+comes_in_run (other m id) = false
 comes_in_run (split a b) = false
 comes_in_run shut = false
 comes_in_run _ = true
@@ -49,20 +50,22 @@ pub record AreRun (s : Attributes) (ls : List TextLine) (ps : List Exchange) : T
   pub formed : IsWellFormed (made 1 ps)
   pub plain : list_all (λ (p : Exchange). comes_in_run p.1) ps ≡ true
 
--- out is a legal transcript of the lines over the list that the lines and the replies make
-abbrev pub IsRunTranscript : Attributes → List TextLine → List ℕ → Type 0
-IsRunTranscript s ls out = (ps : List Exchange) × AreRun s ls ps × (out ≡ texts ps)
+-- out is the legal transcript of the lines by these exchanges, over the list that they make
+pub record IsRunTranscript (s : Attributes) (ls : List TextLine) (ps : List Exchange) (out : List ℕ) : Type 0 where
+  pub run : AreRun s ls ps
+  pub is_text : out ≡ texts ps
 
 -- out is such a transcript, but that the last reply is cut short
-abbrev pub IsCutWithin : Attributes → List TextLine → List ℕ → Type 0
-IsCutWithin s ls out =
-    (ps : List Exchange) × (last : Exchange) × AreRun s ls (ps ++ last ∷ [])
-    × (missing : List ℕ) × (0 < length missing) × (texts (ps ++ last ∷ []) ≡ out ++ missing)
-    × BeginsWith out (texts ps)
+pub record IsCutTranscript (s : Attributes) (ls : List TextLine) (ps : List Exchange) (last : Exchange) (out : List ℕ) : Type 0 where
+  pub run : AreRun s ls (ps ++ last ∷ [])
+  pub missing : List ℕ
+  pub some : 0 < length missing
+  pub is_text : texts (ps ++ last ∷ []) ≡ out ++ missing
+  pub whole : BeginsWith out (texts ps)
 
--- out is such a transcript, whole or cut within its last reply
-abbrev pub IsCutTranscript : Attributes → List TextLine → List ℕ → Type 0
-IsCutTranscript s ls out = IsRunTranscript s ls out ⊎ IsCutWithin s ls out
+-- the last of these lines is a QUIT
+abbrev pub EndsWithQuit : Attributes → List TextLine → Type 0
+EndsWithQuit s ls = (front : List TextLine) × (last : TextLine) × (ls ≡ front ++ last ∷ []) × (reading s last ≡ quit)
 
 -- the bytes of a session's line before its LF
 abbrev pub line_limit : ℕ

@@ -1,36 +1,18 @@
--- What was said fits what the line was read as.
-use Rattle.std.proofs.Common.{List, refl, sym, subst}
-use Rattle.be_model.specs.declared.changes.Row.{Row}
+-- A refused line is answered by its refusal.
+use Rattle.std.proofs.Common.{refl, sym, subst}
 use Rattle.be_change.specs.Requests as asked
-use Rattle.be_server.specs.Asked.{TakesMemory}
-use Rattle.be_server.specs.Shorts.{plain_reply}
-use Rattle.be_server.specs.Table.{Replies}
+use Rattle.be_server.specs.declared.requests.Request.{Request}
+use Rattle.be_server.specs.Asked.{plain_request, plain_refusal}
+use Rattle.be_server.specs.Turns.{TurnsAfter}
+use Rattle.be_server.specs.Wrote.{SinkState}
+use Rattle.be_server.proofs.Turning.{said}
 use Rattle.be_server.proofs.session.answer.Goals as goal
 
-no_memory_fits : (rows : List Row) (r : asked.Request) → TakesMemory r → Replies rows r asked.no_memory rows
-no_memory_fits rows (asked.subscribe name conj) t = refl
-no_memory_fits rows (asked.publish event) t = refl
-no_memory_fits rows (asked.refused r) t = absurd t
-no_memory_fits rows (asked.unsubscribe name) t = absurd t
-no_memory_fits rows asked.listing t = absurd t
-no_memory_fits rows asked.quit t = absurd t
-
-pub returns-in-Ok-Subscribe : goal.returns-in-Ok-Subscribe
-returns-in-Ok-Subscribe g c =
-    let is = rw c.in-Ok-Subscribe.field-0-is at c.in-Ok-Subscribe.ensures in (
-      plain_reply c.subscribe.result,
-      subst (λ (r : asked.Request). Replies c.args.rows.now.items r (plain_reply c.subscribe.result) c.subscribe.new.rows.items) (sym is) c.subscribe.ensures,
-      c.say.ensures,
-    )
-
-pub returns-in-Ok-Bad : goal.returns-in-Ok-Bad
-returns-in-Ok-Bad g c =
-    let is = rw c.in-Ok-Bad.field-0-is at c.in-Ok-Bad.ensures in (
-      asked.refusal asked.bad,
-      subst (λ (r : asked.Request). Replies c.args.rows.now.items r (asked.refusal asked.bad) c.args.rows.now.items) (sym is) (refl, refl),
-      c.say-in-Ok-Bad.ensures,
-    )
-
-pub returns-in-Err : goal.returns-in-Err
-returns-in-Err g c =
-    (asked.no_memory, no_memory_fits c.args.rows.now.items _ c.in-Err.ensures, c.say-in-Err.ensures)
+pub returns-in-Refused : goal.returns-in-Refused
+returns-in-Refused g c =
+    let before : SinkState = record { held = g.K.Sink.held c.args.out.now; faults = g.K.Sink.write_faults c.args.out.now } in
+    let after : SinkState = record { held = g.K.Sink.held c.say-in-Refused.new.out; faults = g.K.Sink.write_faults c.say-in-Refused.new.out } in
+    let r : asked.Refusal = plain_refusal c.in-Refused.refusal in
+    subst (λ (x : Request). TurnsAfter c.args.subscriptions.now (plain_request x) c.args.subscriptions.now before after c.turn_after-in-Refused.result) (sym c.in-Refused.is)
+    (said c.args.subscriptions.now c.args.subscriptions.now (asked.refused r) (asked.refusal r) before after c.say-in-Refused.result c.turn_after-in-Refused.result
+    refl (refl, refl) c.say-in-Refused.ensures c.turn_after-in-Refused.ensures)

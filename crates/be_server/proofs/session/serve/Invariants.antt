@@ -12,7 +12,7 @@ invariant-lines g l = record {
         reader = l.session.reader;
         source = record { left = g.S.Source.left l.input; faults = g.S.Source.read_faults l.input; taken = g.S.Source.taken l.input };
         sink = record { held = g.K.Sink.held l.out; faults = g.K.Sink.write_faults l.out };
-        rows = l.session.rows.items;
+        list = l.session.subscriptions;
       });
   bound : l.session.reader.taken ≤ 1099511627776;
 }

@@ -5,12 +5,10 @@ use Rattle.be_io.specs.Lines as line
 use Rattle.be_io.specs.Reader.{GivesLine, FitsLine}
 use Rattle.be_io.specs.declared.lines.Line.{Line}
 use Rattle.be_io.specs.declared.lines.Line.TheVariants.{Text, Long, End}
-use Rattle.be_model.specs.declared.changes.Row.{Row}
-use Rattle.be_change.specs.Requests as asked
 use Rattle.be_transcript.specs.Readings.{reading}
-use Rattle.be_server.specs.Turns.{TurnState, Answered, Turned}
+use Rattle.be_server.specs.Turns.{TurnState, TurnsAfter}
 use Rattle.be_server.proofs.Turning.{took_text, took_long, turned_line, was_going}
-use Rattle.be_server.proofs.session.turn.Goals as goal
+use Rattle.be_server.proofs.session.take_turn.Goals as goal
 
 pub returns-in-Ok-Text-clause-turned : goal.returns-in-Ok-Text-clause-turned
 returns-in-Ok-Text-clause-turned g c =
@@ -18,24 +16,22 @@ returns-in-Ok-Text-clause-turned g c =
       reader = c.args.session.now.reader;
       source = record { left = g.S.Source.left c.args.input.now; faults = g.S.Source.read_faults c.args.input.now; taken = g.S.Source.taken c.args.input.now };
       sink = record { held = g.K.Sink.held c.args.out.now; faults = g.K.Sink.write_faults c.args.out.now };
-      rows = c.args.session.now.rows.items;
+      list = c.args.session.now.subscriptions;
     } in
     let after : TurnState = record {
       reader = c.next.new.self;
       source = record { left = g.S.Source.left c.next.new.src; faults = g.S.Source.read_faults c.next.new.src; taken = g.S.Source.taken c.next.new.src };
-      sink = record { held = g.K.Sink.held c.answer.new.out; faults = g.K.Sink.write_faults c.answer.new.out };
-      rows = c.answer.new.rows.items;
+      sink = record { held = g.K.Sink.held c.answer_text.new.out; faults = g.K.Sink.write_faults c.answer_text.new.out };
+      list = c.answer_text.new.subscriptions;
     } in
     let is : c.in-Ok-Text.field-0 ≡ Text = c.in-Ok-Text.field-0-is in
     let other : c.in-Ok-Text.field-0 ≡ End → ⊥ = λ (e : c.in-Ok-Text.field-0 ≡ End). let f : Text ≡ End = sym is ∙ e in cc in
-    let going = was_going before.reader.ended c.in-Ok-Text.field-0 other (λ e. let f = (c.in-Ok-Text.ensures.at_end c.requires.sound e).0 in cc) in
+    let going = was_going before.reader.ended c.in-Ok-Text.field-0 other (λ e. let f = (c.in-Ok-Text.ensures.at_end c.requires.reads.sound e).0 in cc) in
     let took = took_text before after going
     (subst (λ (l : Line). WhereTold before.source.left after.source.left (λ b a. GivesLine after.reader l (before.reader.unread ++ b) (after.reader.unread ++ a))) is (c.in-Ok-Text.ensures.line going))
-    (subst (FitsLine after.reader) is c.in-Ok-Text.ensures.fits)
-    (record { limit = c.in-Ok-Text.ensures.limit ∙ c.requires.limit; sound = c.in-Ok-Text.ensures.sound.0 }) c.in-Ok-Text.ensures.buffered c.in-Ok-Text.ensures.sound.1 in
-    let answered = subst (λ (bytes : List ℕ). Answered before.rows (reading c.args.schema.now (line.text bytes)) after.rows before.sink after.sink c.answer.result) c.text.ensures c.answer.ensures in
-    subst (λ e. Turned c.args.schema.now before after e) (sym c.end_of-in-Ok-Text.ensures)
-    (turned_line c.args.schema.now before after c.answer.result (line.text after.reader.text, took, answered))
+    (record { limit = c.in-Ok-Text.ensures.limit ∙ c.requires.reads.limit; sound = c.in-Ok-Text.ensures.sound.0 }) c.in-Ok-Text.ensures.buffered c.in-Ok-Text.ensures.sound.1 in
+    turned_line c.args.schema.now before after (line.text after.reader.text) c.answer_text.result took
+    (subst (λ (bytes : List ℕ). TurnsAfter before.list (reading c.args.schema.now (line.text bytes)) after.list before.sink after.sink c.answer_text.result) c.text.ensures c.answer_text.ensures)
 
 pub returns-in-Ok-Long-clause-turned : goal.returns-in-Ok-Long-clause-turned
 returns-in-Ok-Long-clause-turned g c =
@@ -43,22 +39,20 @@ returns-in-Ok-Long-clause-turned g c =
       reader = c.args.session.now.reader;
       source = record { left = g.S.Source.left c.args.input.now; faults = g.S.Source.read_faults c.args.input.now; taken = g.S.Source.taken c.args.input.now };
       sink = record { held = g.K.Sink.held c.args.out.now; faults = g.K.Sink.write_faults c.args.out.now };
-      rows = c.args.session.now.rows.items;
+      list = c.args.session.now.subscriptions;
     } in
     let after : TurnState = record {
       reader = c.next.new.self;
       source = record { left = g.S.Source.left c.next.new.src; faults = g.S.Source.read_faults c.next.new.src; taken = g.S.Source.taken c.next.new.src };
       sink = record { held = g.K.Sink.held c.refuse_long.new.out; faults = g.K.Sink.write_faults c.refuse_long.new.out };
-      rows = c.args.session.now.rows.items;
+      list = c.args.session.now.subscriptions;
     } in
     let len = c.in-Ok-Long.field-0-0 in
     let is : c.in-Ok-Long.field-0 ≡ Long len = c.in-Ok-Long.field-0-is in
     let other : c.in-Ok-Long.field-0 ≡ End → ⊥ = λ (e : c.in-Ok-Long.field-0 ≡ End). let f : Long len ≡ End = sym is ∙ e in cc in
-    let going = was_going before.reader.ended c.in-Ok-Long.field-0 other (λ e. let f = (c.in-Ok-Long.ensures.at_end c.requires.sound e).0 in cc) in
+    let going = was_going before.reader.ended c.in-Ok-Long.field-0 other (λ e. let f = (c.in-Ok-Long.ensures.at_end c.requires.reads.sound e).0 in cc) in
     let took = took_long before after len going
     (subst (λ (l : Line). WhereTold before.source.left after.source.left (λ b a. GivesLine after.reader l (before.reader.unread ++ b) (after.reader.unread ++ a))) is (c.in-Ok-Long.ensures.line going))
     (subst (FitsLine after.reader) is c.in-Ok-Long.ensures.fits)
-    (record { limit = c.in-Ok-Long.ensures.limit ∙ c.requires.limit; sound = c.in-Ok-Long.ensures.sound.0 }) c.in-Ok-Long.ensures.buffered c.in-Ok-Long.ensures.sound.1 in
-    let answered = subst (λ (rows : List Row). Answered rows (asked.refused asked.long) rows before.sink after.sink c.refuse_long.result) c.as_slice.ensures.value c.refuse_long.ensures in
-    subst (λ e. Turned c.args.schema.now before after e) (sym c.end_of.ensures)
-    (turned_line c.args.schema.now before after c.refuse_long.result (line.long len, took, answered))
+    (record { limit = c.in-Ok-Long.ensures.limit ∙ c.requires.reads.limit; sound = c.in-Ok-Long.ensures.sound.0 }) c.in-Ok-Long.ensures.buffered c.in-Ok-Long.ensures.sound.1 in
+    turned_line c.args.schema.now before after (line.long len) c.refuse_long.result took c.refuse_long.ensures

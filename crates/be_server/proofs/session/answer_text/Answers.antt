@@ -1,0 +1,12 @@
+-- Memory was wanting to read the line.
+use Rattle.be_transcript.specs.Readings.{reading}
+use Rattle.be_io.specs.Lines as line
+use Rattle.be_server.proofs.Turning.{wanted_memory}
+use Rattle.be_server.proofs.session.answer_text.Goals as goal
+
+pub returns-in-Err : goal.returns-in-Err
+returns-in-Err g c =
+    wanted_memory c.args.subscriptions.now (reading c.args.schema.now (line.text c.args.text.now))
+    (record { held = g.K.Sink.held c.args.out.now; faults = g.K.Sink.write_faults c.args.out.now })
+    (record { held = g.K.Sink.held c.say.new.out; faults = g.K.Sink.write_faults c.say.new.out }) c.say.result c.turn_after.result
+    c.in-Err.ensures c.say.ensures c.turn_after.ensures

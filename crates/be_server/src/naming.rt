@@ -1,0 +1,112 @@
+//! Replies that name live rows.
+
+ghost use Rattle.std.specs.Prelude.{◌≡◌, ◌++◌, ◌∷◌, [], length, codes, OnOk, IfOk};
+ghost use Rattle.be_change.specs.History.{live};
+ghost use Rattle.be_transcript.specs.Replies.{number, reply_text};
+ghost use Rattle.be_server.specs.Wanting.{is_wanted, names_wanted, naming, head_of};
+
+use crate::subscriptions::{SESSION, Subscriptions};
+use be_base::NoMemory;
+use be_model::{Event, Row};
+use itoa::Buffer;
+use std::alloc::Global;
+
+/// Which live rows a reply names.
+#[derive(Clone, Copy)]
+pub enum Wanted<'a> {
+    SatisfiedBy(&'a Event),
+    /// Those of the run's session.
+    Own,
+}
+
+impl Wanted<'_> {
+    pub fn takes(self, row: &Row) -> bool
+        ensures { result ≡ is_wanted self.entry row.now }
+    {
+        match self {
+            Wanted::SatisfiedBy(event) => row.conj.satisfied_by(event),
+            Wanted::Own => row.session.0 == SESSION.0,
+        }
+    }
+
+    // The first word of the reply.
+    fn head(self) -> &'static str
+        ensures { result.now ≡ head_of self.entry }
+    {
+        match self {
+            Wanted::SatisfiedBy(_) => "HIT",
+            Wanted::Own => "LIST",
+        }
+    }
+}
+
+/// Puts a space and a part of a reply last.
+pub fn push_part(text: &mut Vec<u8>, part: &[u8]) -> Result<(), NoMemory>
+    ensures { OnOk result (text.new.items ≡ text.old.items ++ 32 ∷ part.now) }
+{
+    text.push(b' ').map_err(|_| NoMemory)?;
+    text.extend_from_slice(part).map_err(|_| NoMemory)
+}
+
+fn push_number(text: &mut Vec<u8>, n: u64) -> Result<(), NoMemory>
+    ensures { OnOk result (text.new.items ≡ text.old.items ++ number n) }
+{
+    let mut digits = Buffer::new();
+    push_part(text, digits.format(n).as_bytes())
+}
+
+/// Room for a reply that names rows, which is used again for the next one.
+#[derive(Drop)]
+pub struct Scratch {
+    names: Vec<u8>,
+    reply: Vec<u8>,
+}
+
+impl Scratch {
+    pub fn make(alloc: Global) -> Scratch {
+        Scratch {
+            names: Vec::new(alloc),
+            reply: Vec::new(alloc),
+        }
+    }
+
+    /// The reply that names the wanted live rows, its LF included.
+    pub fn reply(
+        &mut self,
+        subscriptions: &Subscriptions,
+        wanted: Wanted<'_>,
+    ) -> Result<&[u8], NoMemory>
+        ensures { IfOk result (λ text. text.now ≡ reply_text (naming wanted.entry (length subscriptions.now) (names_wanted wanted.entry (live subscriptions.now)))) }
+    {
+        self.names.clear();
+        self.reply.clear();
+        let count = subscriptions.write_names(wanted, &mut self.names)?;
+        write_reply(
+            &mut self.reply,
+            wanted.head(),
+            subscriptions.len(),
+            count,
+            self.names.as_slice(),
+        )?;
+        Ok(self.reply.as_slice())
+    }
+}
+
+fn write_reply(
+    reply: &mut Vec<u8>,
+    head: &str,
+    n: u64,
+    count: u64,
+    names: &[u8],
+) -> Result<(), NoMemory>
+    requires { reply.old.items ≡ [] }
+    ensures { OnOk result (reply.new.items ≡ (((head.now ++ number n) ++ number count) ++ names.now) ++ 10 ∷ []) }
+{
+    reply
+        .extend_from_slice(head.as_bytes())
+        .map_err(|_| NoMemory)?;
+    push_number(reply, n)?;
+    push_number(reply, count)?;
+    reply.extend_from_slice(names).map_err(|_| NoMemory)?;
+    reply.push(b'\n').map_err(|_| NoMemory)
+}
