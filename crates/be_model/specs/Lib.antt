@@ -7,3 +7,6 @@ pub mod Forms
 pub mod Rows
 pub mod Laws
 pub mod Assigned
+pub mod Costs
+pub mod ByIds
+pub mod Bounds
