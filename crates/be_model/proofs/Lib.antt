@@ -10,3 +10,5 @@ pub mod Orders
 pub mod AssignedValues
 pub mod Examples
 pub mod RowsByIds
+pub mod RangeBits
+pub mod FewItems
