@@ -1,7 +1,8 @@
 -- Rows by their ids: a finite map, as a list whose ids rise.
-use Rattle.std.specs.Prelude.{ℕ, ◌==◌, ◌<◌, ◌&&◌, Bool, true, not, List, [], ◌∷◌, map, nat_lt, Option, Some, None, if◌then◌else◌}
+use Rattle.std.specs.Prelude.{◌≡◌, ◌++◌, IsPermutation, ℕ, ◌==◌, ◌<◌, ◌&&◌, Bool, true, not, List, [], ◌∷◌, map, nat_lt, Option, Some, None, if◌then◌else◌}
 use Rattle.std.specs.List.{list_any}
 use Rattle.be_model.specs.declared.changes.Row.{Row}
+use Rattle.be_model.specs.Matching.{Assignments, satisfied}
 use Rattle.be_model.specs.Rows.{id_of}
 
 -- ids, and the row of each
@@ -42,3 +43,9 @@ Rising (r ∷ rs) = AllAbove r.0 rs × Rising rs
 abbrev pub ids_differ : List Row → Bool
 ids_differ [] = true
 ids_differ (row ∷ rows) = not (list_any (λ other. id_of other == id_of row) rows) && ids_differ rows
+
+-- a search puts the rows that the event satisfies behind what was found before, each once, in some order
+pub record FindsIn (e : Assignments) (m : ByIds) (before after : List Row) : Type 0 where
+  pub found : List Row
+  pub put : after ≡ before ++ found
+  pub exact : IsPermutation (satisfied e (rows_of m)) found
