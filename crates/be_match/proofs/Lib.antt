@@ -5,3 +5,4 @@ pub mod Shares
 pub mod VisitsBound
 pub mod TestedBound
 pub mod Within
+pub mod BoundExamples

@@ -4,5 +4,7 @@
 mod counts;
 mod finds;
 mod searches;
+#[cfg(test)]
+mod tests;
 
 pub use finds::{cost_of, find_in};

@@ -4,3 +4,4 @@ pub mod Bounds
 pub mod RootPut
 pub mod RowCounts
 pub mod Placed
+pub mod ExampleTree
