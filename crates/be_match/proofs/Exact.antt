@@ -1,9 +1,10 @@
 -- What a search doesn't visit isn't satisfied.
-use Rattle.std.proofs.Common.{◌≡◌, ℤ, Bool, true, false, not, cond, leb, ltb, ◌&&◌, ◌||◌, List, [], ◌∷◌, ◌++◌, length, All, Option, Some, None, IfSome, IsNone, option_and_then, refl, sym, ap, ◌∙◌, arith}
+use Rattle.std.proofs.Common.{◌≡◌, ℤ, Bool, true, false, cond, leb, ltb, ◌&&◌, ◌||◌, List, [], ◌∷◌, ◌++◌, length, All, Option, Some, None, IfSome, IsNone, option_and_then, refl, sym, ap, ◌∙◌, arith}
 use Rattle.std.specs.Option.{is_some}
 use Rattle.std.specs.Int.Signed.{le_z}
 use Rattle.std.proofs.lemmas.List.{append_assoc}
 use Rattle.be_shape.proofs.Bounds.{both}
+use Rattle.be_shape.proofs.Placed.{levels, placed_here}
 use Rattle.std.specs.List.{list_any, list_all}
 use Rattle.std.proofs.lemmas.Bool.{eqb-true}
 use Rattle.std.proofs.lemmas.Bool.Decides.{nat_tests}
@@ -25,7 +26,7 @@ use Rattle.be_model.proofs.Attributes.{and_left, and_right}
 use Rattle.be_model.proofs.Ranges.{within_parts, within_from, spans_hold, spans_are}
 use Rattle.be_model.proofs.InSchema.{all_hold, value_within}
 use Rattle.be_shape.specs.Plain.{Plain, node, Parts, no_part, part, Half, no_half, half, rows_below, rows_in_parts, rows_in_half}
-use Rattle.be_shape.specs.Shape.{NodeRange, whole, lower, upper, Known, in_part, in_low, in_high, everywhere, in_all_parts, in_a_half, is_inside, spans_inside, is_used, attrs_of, attrs_rise, parts_fit, can_split, is_here, is_placed_at, has_form, op_has_form, set_has_form, may_stand}
+use Rattle.be_shape.specs.Shape.{NodeRange, whole, lower, upper, Known, in_part, in_low, in_high, everywhere, in_all_parts, in_a_half, is_inside, spans_inside, parts_fit, can_split, is_here, is_placed_at, has_form, op_has_form, set_has_form, may_stand}
 use Rattle.be_shape.specs.Search.{value_inside, holds_value, visited, visited_in_parts, visited_in_half, all_of}
 use Rattle.be_match.proofs.Fronts.{satisfied_append, satisfied_leaves}
 
@@ -147,14 +148,6 @@ none_in_range s e r (row ∷ rows) el ms si h =
     (outside s e r.0 r.1 row.conj f cl el (and_left (spans_inside s (Some r) row) (list_all (spans_inside s (Some r)) rows) si) h)
     (none_in_range s e r rows el (and_right (may_stand s row) (list_all (may_stand s) rows) ms) (and_right (spans_inside s (Some r) row) (list_all (spans_inside s (Some r)) rows) si) h)
 
-five : (a b c d e : Bool) → (a && b && c && d && e) ≡ true → (c ≡ true) × (d ≡ true) × (e ≡ true)
-five true true true true true h = (refl, refl, refl)
-five a b c d e h = absurd (cc)
-
-four : (a b c d : Bool) → (a && b && c && d) ≡ true → (a ≡ true) × (b ≡ true) × (c ≡ true) × (d ≡ true)
-four true true true true h = (refl, refl, refl, refl)
-four a b c d h = absurd (cc)
-
 all_append : (p : Row → Bool) (xs ys : List Row) → list_all p (xs ++ ys) ≡ true → (list_all p xs ≡ true) × (list_all p ys ≡ true)
 all_append p [] ys h = (refl, h)
 all_append p (x ∷ xs) ys h =
@@ -172,16 +165,6 @@ glue e x vp vl vh p l h a b c =
     ∙ sym (append_assoc sx (sp ++ sl) sh) ∙ ap (λ q. q ++ sh) (sym (append_assoc sx sp sl))
     ∙ sym (satisfied_append e (x ++ p ++ l) h ∙ ap (λ q. q ++ sh) (satisfied_append e (x ++ p) l ∙ ap (λ q. q ++ sl) (satisfied_append e x p)))
 
--- a half stands in a range
-half_ranged : (r : NodeRange) (l h : Bool) → (can_split r || not (l || h)) ≡ true → (l ≡ true → can_split r ≡ true) × (h ≡ true → can_split r ≡ true)
-half_ranged r l h t = by_test (can_split r) l h t
-  where
-    by_test : (b l h : Bool) → (b || not (l || h)) ≡ true → (l ≡ true → b ≡ true) × (h ≡ true → b ≡ true)
-    by_test true l h t = (λ _. refl, λ _. refl)
-    by_test false true h t = absurd (cc)
-    by_test false false true t = absurd (cc)
-    by_test false false false t = (λ k. absurd (cc), λ k. absurd (cc))
-
 lower_is : (r : NodeRange) → can_split r ≡ true → is_some (lower r) ≡ true
 lower_is None h = absurd (cc)
 lower_is (Some r) h = refl
@@ -192,8 +175,7 @@ upper_is (Some r) h = refl
 
 rows_inside : (s : Attributes) (k : Known) (n : Plain) → everywhere (is_placed_at s) s k n ≡ true → list_all (spans_inside s k.range) (rows_below n) ≡ true
 rows_inside s k (node rows parts low high) ev =
-    let q = four (is_placed_at s k (node rows parts low high)) (in_all_parts (is_placed_at s) s k parts) (in_a_half (is_placed_at s) s (in_low k) low) (in_a_half (is_placed_at s) s (in_high k) high) ev in
-    (five (attrs_rise (attrs_of parts)) (list_all (λ a. not (is_used k.used a)) (attrs_of parts)) (parts_fit parts) (list_all (spans_inside s k.range) (rows_below (node rows parts low high))) (can_split k.range || not (is_here low || is_here high)) q.0).1
+    (placed_here s k rows parts low high (levels (is_placed_at s) s k rows parts low high ev).here).inside
 
 none_in_half : (s : Attributes) (e : Assignments) (r : NodeRange) (rows : List Row) → event_lies s e ≡ true → list_all (may_stand s) rows ≡ true → list_all (spans_inside s r) rows ≡ true
     → is_some r ≡ true → holds_value e r ≡ false → satisfied e rows ≡ []
@@ -209,16 +191,15 @@ mutual
   pub exact : (s : Attributes) (e : Assignments) (k : Known) (n : Plain) → event_lies s e ≡ true → everywhere (is_placed_at s) s k n ≡ true → list_all (may_stand s) (rows_below n) ≡ true
       → satisfied e (all_of (visited s e k.range n)) ≡ satisfied e (rows_below n)
   exact s e k (node rows parts low high) el ev ms =
-      let q = four (is_placed_at s k (node rows parts low high)) (in_all_parts (is_placed_at s) s k parts) (in_a_half (is_placed_at s) s (in_low k) low) (in_a_half (is_placed_at s) s (in_high k) high) ev in
-      let p = five (attrs_rise (attrs_of parts)) (list_all (λ a. not (is_used k.used a)) (attrs_of parts)) (parts_fit parts) (list_all (spans_inside s k.range) (rows_below (node rows parts low high))) (can_split k.range || not (is_here low || is_here high)) q.0 in
-      let g = half_ranged k.range (is_here low) (is_here high) p.2 in
+      let q = levels (is_placed_at s) s k rows parts low high ev in
+      let p = placed_here s k rows parts low high q.here in
       let m3 = all_append (may_stand s) (rows ++ rows_in_parts parts ++ rows_in_half low) (rows_in_half high) ms in
       let m2 = all_append (may_stand s) (rows ++ rows_in_parts parts) (rows_in_half low) m3.0 in
       let m1 = all_append (may_stand s) rows (rows_in_parts parts) m2.0 in
       glue e rows (visited_in_parts s e parts) (visited_in_half s e (lower k.range) low) (visited_in_half s e (upper k.range) high) (rows_in_parts parts) (rows_in_half low) (rows_in_half high)
-      (exact_parts s e k parts el q.1 p.0 m1.1)
-      (exact_half s e (in_low k) low el q.2 m2.1 (λ h. lower_is k.range (g.0 h)))
-      (exact_half s e (in_high k) high el q.3 m3.1 (λ h. upper_is k.range (g.1 h)))
+      (exact_parts s e k parts el q.in_parts p.fit m1.1)
+      (exact_half s e (in_low k) low el q.in_lower m2.1 (λ h. lower_is k.range (p.low_splits h)))
+      (exact_half s e (in_high k) high el q.in_upper m3.1 (λ h. upper_is k.range (p.high_splits h)))
 
   exact_parts : (s : Attributes) (e : Assignments) (k : Known) (parts : Parts) → event_lies s e ≡ true → in_all_parts (is_placed_at s) s k parts ≡ true → parts_fit parts ≡ true
       → list_all (may_stand s) (rows_in_parts parts) ≡ true → satisfied e (all_of (visited_in_parts s e parts)) ≡ satisfied e (rows_in_parts parts)
