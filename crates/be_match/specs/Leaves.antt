@@ -1,9 +1,10 @@
 -- Lists of leaves, and lists that grow.
-use Rattle.std.specs.Prelude.{◌≡◌, ◌^◌, ◌<◌, List, ◌++◌, length, Bool, true, Some, None}
+use Rattle.std.specs.Prelude.{◌≡◌, ◌+◌, ◌^◌, ◌<◌, ◌≤◌, List, ◌++◌, length, Bool, true, Some, None}
 use Rattle.be_model.specs.declared.changes.Row.{Row}
 use Rattle.be_model.specs.Matching.{Assignments}
 use Rattle.be_model.specs.declared.costs.Cost.{Cost}
 use Rattle.be_model.specs.Costs.{cost}
+use Rattle.be_model.specs.Rows.{FoundRows}
 use Rattle.be_shape.specs.Shape.{NodeRange}
 use Rattle.be_shape.specs.Search.{all_of, holds_value}
 
@@ -20,6 +21,10 @@ pub record AreCountable (leaves : List (List Row)) : Type 0 where
 pub record BeginsWith (front rows : List Row) : Type 0 where
   pub more : List Row
   pub is : rows ≡ front ++ more
+
+-- the rows and the room for more together are no less
+abbrev pub KeepsRoom : FoundRows → FoundRows → Type 0
+KeepsRoom before after = length before.rows + before.spare ≤ length after.rows + after.spare
 
 -- a search is at the root, or in a range that holds the event's value
 abbrev pub may_enter : Assignments → NodeRange → Bool

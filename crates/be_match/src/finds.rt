@@ -1,6 +1,6 @@
 //! The search of a tree.
 
-ghost use Rattle.std.specs.Prelude.{◌≡◌, true, OnOk, OnErr, IfOk};
+ghost use Rattle.std.specs.Prelude.{◌≡◌, ◌≤◌, true, OnOk, OnErr, IfOk};
 ghost use Rattle.std.specs.Arc.{arc_value};
 ghost use Rattle.be_model.specs.Lies.{event_lies};
 ghost use Rattle.be_model.specs.ByIds.{FindsIn, rows_of};
@@ -23,6 +23,7 @@ pub fn find_in(t: &Tree, e: &Event, found: &mut Found) -> Result<Cost, NoMemory>
     ensures tested { IfOk result (λ cost. cost.tested ≡ tested (arc_value t.now.schema) e.now (plain t.now.root)) }
     ensures bound { IfOk result (λ cost. IsWithinBound (arc_value t.now.schema) e.now (rows_of (contents (plain t.now.root))) cost) }
     ensures refused { OnErr result (found.new.rows ≡ found.old.rows) }
+    ensures room { OnErr result (found.old.spare ≤ found.new.spare) }
 {
     let _ = t.schema.count();
     let _ = e.items();

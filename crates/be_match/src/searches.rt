@@ -7,7 +7,7 @@ ghost use Rattle.be_shape.specs.Plain.{plain, parts_as, half_as, part_as, parts_
 ghost use Rattle.be_shape.specs.Ranges.{is_bounded};
 ghost use Rattle.be_shape.specs.Search.{visited, visited_in_parts, visited_in_half, all_of};
 ghost use Rattle.be_model.specs.Matching.{satisfied};
-ghost use Rattle.be_match.specs.Leaves.{AreCountable, BeginsWith, cost_of_leaves, may_enter};
+ghost use Rattle.be_match.specs.Leaves.{AreCountable, BeginsWith, KeepsRoom, cost_of_leaves, may_enter};
 
 use be_base::NoMemory;
 use be_model::{Cost, Event, Found, Row, Schema};
@@ -30,6 +30,7 @@ pub(crate) fn search_node(
     ensures put { OnOk result (found.new.rows ≡ found.old.rows ++ satisfied e.now (all_of (visited s.now e.now range (plain n.now)))) }
     ensures cost { IfOk result (λ cost. cost ≡ cost_of_leaves (visited s.now e.now range (plain n.now))) }
     ensures front { BeginsWith found.old.rows found.new.rows }
+    ensures room { KeepsRoom found.old found.new }
 {
     search_leaf(&n.leaf, e, found)?;
     let own = Cost {
@@ -49,6 +50,7 @@ fn search_parts(parts: &[Part], s: &Schema, e: &Event, found: &mut Found) -> Res
     ensures put { OnOk result (found.new.rows ≡ found.old.rows ++ satisfied e.now (all_of (visited_in_parts s.now e.now (parts_as parts.now)))) }
     ensures cost { IfOk result (λ cost. cost ≡ cost_of_leaves (visited_in_parts s.now e.now (parts_as parts.now))) }
     ensures front { BeginsWith found.old.rows found.new.rows }
+    ensures room { KeepsRoom found.old found.new }
 {
     let mut cost = Cost::none();
     for part in parts {
@@ -64,6 +66,7 @@ fn search_part(part: &Part, s: &Schema, e: &Event, found: &mut Found) -> Result<
     ensures put { OnOk result (found.new.rows ≡ found.old.rows ++ satisfied e.now (all_of (visited_in_parts s.now e.now (parts_of (part_as part.now ∷ []))))) }
     ensures cost { IfOk result (λ cost. cost ≡ cost_of_leaves (visited_in_parts s.now e.now (parts_of (part_as part.now ∷ [])))) }
     ensures front { BeginsWith found.old.rows found.new.rows }
+    ensures room { KeepsRoom found.old found.new }
 {
     if e.value(part.attr).is_some() {
         search_node(&part.root, s, e, whole_range(s, part.attr), found)
@@ -86,6 +89,7 @@ fn search_half(
     ensures put { OnOk result (found.new.rows ≡ found.old.rows ++ satisfied e.now (all_of (visited_in_half s.now e.now range (half_as half.now)))) }
     ensures cost { IfOk result (λ cost. cost ≡ cost_of_leaves (visited_in_half s.now e.now range (half_as half.now))) }
     ensures front { BeginsWith found.old.rows found.new.rows }
+    ensures room { KeepsRoom found.old found.new }
 {
     match half {
         Some(n) => {
@@ -103,6 +107,7 @@ fn search_half(
 fn search_leaf(leaf: &Leaf, e: &Event, found: &mut Found) -> Result<(), NoMemory>
     ensures put { OnOk result (found.new.rows ≡ found.old.rows ++ satisfied e.now leaf.now) }
     ensures front { BeginsWith found.old.rows found.new.rows }
+    ensures room { KeepsRoom found.old found.new }
 {
     for place in 0..leaf.len() {
         test(leaf.row(place), e, found)?;
@@ -114,6 +119,7 @@ fn search_leaf(leaf: &Leaf, e: &Event, found: &mut Found) -> Result<(), NoMemory
 fn test(row: &Arc<Row>, e: &Event, found: &mut Found) -> Result<(), NoMemory>
     ensures put { OnOk result (found.new.rows ≡ found.old.rows ++ satisfied e.now (arc_value row.now ∷ [])) }
     ensures front { BeginsWith found.old.rows found.new.rows }
+    ensures room { KeepsRoom found.old found.new }
 {
     if row.conj.satisfied_by(e) {
         found.reserve(1)?;

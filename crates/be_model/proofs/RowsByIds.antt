@@ -183,7 +183,7 @@ abbrev pub AllBelow : ℕ → ByIds → Type 0
 AllBelow n [] = Unit {0}
 AllBelow n (r ∷ rs) = (r.0 < n) × AllBelow n rs
 
-put_below : (n : ℕ) (row : Row) (m : ByIds) → id_of row < n → AllBelow n m → AllBelow n (put_by_id row m)
+pub put_below : (n : ℕ) (row : Row) (m : ByIds) → id_of row < n → AllBelow n m → AllBelow n (put_by_id row m)
 put_below n row [] h a = (h, tt)
 put_below n row (r ∷ rs) h a =
     by_order (AllBelow n (put_by_id row (r ∷ rs))) (id_of row) r.0

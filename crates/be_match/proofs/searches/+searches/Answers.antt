@@ -197,4 +197,5 @@ search_parts-loop-part-preserved t c =
       put_step was is (satisfied e (all_of (visited_in_parts s e (parts_as (drop n ps))))) (satisfied e (all_of first)) (satisfied e (all_of rest))
           (c.args.found.now.rows ++ satisfied e (all_of (visited_in_parts s e (parts_as ps)))) i.2 two c.in_ok-search_part.ensures.put,
       front_on c.args.found.now.rows was is i.3 c.in_ok-search_part.ensures.front,
+      omega (arith, i.4, c.in_ok-search_part.ensures.room),
     )

@@ -1,4 +1,4 @@
-use Rattle.std.proofs.Common.{◌+◌, ◌++◌, ◌∷◌, [], drop}
+use Rattle.std.proofs.Common.{◌+◌, ◌++◌, ◌∷◌, [], drop, arith}
 use Rattle.std.specs.Arc.{arc_value}
 use Rattle.be_model.specs.Matching.{satisfied}
 use Rattle.be_match.proofs.Fronts.{front_on, put_step, satisfied_at}
@@ -15,4 +15,5 @@ loop-place-preserved c =
       put_step was is (satisfied e (drop i rows)) (satisfied e (x ∷ [])) (satisfied e (drop (i + 1) rows)) (c.args.found.now.rows ++ satisfied e rows) c.loop-place.invariant.0
           (satisfied_at e rows i x c.row.ensures) c.in_ok-test.ensures.put,
       front_on c.args.found.now.rows was is c.loop-place.invariant.1 c.in_ok-test.ensures.front,
+      omega (arith, c.loop-place.invariant.2, c.in_ok-test.ensures.room),
     )
