@@ -133,8 +133,8 @@ use Rattle.std.proofs.Common.{◌≡◌, ℕ, ◌+◌, ◌<◌, ◌≤◌, false
 use Rattle.std.proofs.lemmas.Bool.Decides.{nat_tests}
 use Rattle.be_model.specs.declared.changes.Row.{Row}
 use Rattle.be_model.specs.Rows.{id_of}
-use Rattle.be_model.specs.ByIds.{ByIds, has_id, put_by_id}
-use Rattle.be_model.proofs.RowsByIds.{AllBelow, put_below}
+use Rattle.be_model.specs.ByIds.{ByIds, AllBelow, has_id, put_by_id}
+use Rattle.be_model.proofs.RowsByIds.{put_below}
 
 other : (n m : ℕ) → n < m → eqb n m ≡ false
 other n m h = grind (arith, nat_tests)
@@ -152,7 +152,7 @@ one_more n row m is a = put_below (n + 1) row m (omega arith) (above n (n + 1) m
 PROOF
 cat >"$room/crates/search/proofs/fill/Invariants.antt" <<'PROOF'
 use Rattle.std.proofs.Common.{◌≡◌, length}
-use Rattle.be_model.proofs.RowsByIds.{AllBelow}
+use Rattle.be_model.specs.ByIds.{AllBelow}
 use Rattle.be_shape.specs.Plain.{plain, no_part, parts_under, leaf_of, contents}
 use Rattle.search.proofs.fill.Given as goal
 
@@ -164,8 +164,7 @@ PROOF
 cat >"$room/crates/search/proofs/fill/Answers.antt" <<'PROOF'
 use Rattle.std.proofs.Common.{◌≡◌, ◌+◌, ◌++◌, ◌∷◌, [], false, length, sym, ap, subst, arith, length-append}
 use Rattle.std.specs.Arc.{arc_value}
-use Rattle.be_model.specs.ByIds.{has_id}
-use Rattle.be_model.proofs.RowsByIds.{AllBelow}
+use Rattle.be_model.specs.ByIds.{AllBelow, has_id}
 use Rattle.be_shape.specs.Plain.{plain, leaf_of, contents}
 use Rattle.search.proofs.Below.{none_has, one_more}
 use Rattle.search.proofs.fill.Goals as goal

@@ -6,7 +6,7 @@ use Rattle.std.proofs.lemmas.Bool.Decides.{nat_tests}
 use Rattle.std.proofs.lemmas.List.Sorted.{IsPermutation-refl, IsPermutation-sym, IsPermutation-trans, IsPermutation-cons, IsPermutation-middle, length_permutation, Contains-permutation}
 use Rattle.be_model.specs.declared.changes.Row.{Row}
 use Rattle.be_model.specs.Rows.{id_of}
-use Rattle.be_model.specs.ByIds.{ByIds, put_by_id, by_ids, rows_of, row_at, has_id, AllAbove, Rising, ids_differ}
+use Rattle.be_model.specs.ByIds.{ByIds, put_by_id, by_ids, rows_of, row_at, has_id, AllBelow, AllAbove, Rising, SayIds, ids_differ}
 use Rattle.be_model.proofs.Attributes.{and_left, and_right}
 
 abbrev pair : Row → ℕ × Row
@@ -179,10 +179,6 @@ put_last (row ∷ rows) x h =
     ap (put_by_id row) (put_last rows x z.1) ∙ put_either row x (by_ids rows) z.0
 
 -- there are no more rows than ids
-abbrev pub AllBelow : ℕ → ByIds → Type 0
-AllBelow n [] = Unit {0}
-AllBelow n (r ∷ rs) = (r.0 < n) × AllBelow n rs
-
 pub put_below : (n : ℕ) (row : Row) (m : ByIds) → id_of row < n → AllBelow n m → AllBelow n (put_by_id row m)
 put_below n row [] h a = (h, tt)
 put_below n row (r ∷ rs) h a =
@@ -247,10 +243,6 @@ row_found (row ∷ rows) x d (suc k, l, is) =
     put_other (id_of x) row (by_ids rows) b ∙ row_found rows x (and_right (not (list_any (λ other. eqb (id_of other) (id_of row)) rows)) (ids_differ rows) d) c
 
 -- and what is found by an id is a row that has it
-abbrev SayIds : ByIds → Type 0
-SayIds [] = Unit {0}
-SayIds (r ∷ rs) = (id_of r.1 ≡ r.0) × SayIds rs
-
 put_says : (row : Row) (m : ByIds) → SayIds m → SayIds (put_by_id row m)
 put_says row [] s = (refl, tt)
 put_says row (r ∷ rs) s =

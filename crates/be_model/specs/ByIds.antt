@@ -31,6 +31,10 @@ row_at id (r ∷ rs) = if r.0 == id then Some r.1 else row_at id rs
 abbrev pub has_id : ℕ → ByIds → Bool
 has_id id m = list_any (λ (r : ℕ × Row). r.0 == id) m
 
+abbrev pub AllBelow : ℕ → ByIds → Type 0
+AllBelow n [] = Unit {0}
+AllBelow n (r ∷ rs) = (r.0 < n) × AllBelow n rs
+
 abbrev pub AllAbove : ℕ → ByIds → Type 0
 AllAbove n [] = Unit {0}
 AllAbove n (r ∷ rs) = (n < r.0) × AllAbove n rs
@@ -39,6 +43,11 @@ AllAbove n (r ∷ rs) = (n < r.0) × AllAbove n rs
 abbrev pub Rising : ByIds → Type 0
 Rising [] = Unit {0}
 Rising (r ∷ rs) = AllAbove r.0 rs × Rising rs
+
+-- each row says its id itself
+abbrev pub SayIds : ByIds → Type 0
+SayIds [] = Unit {0}
+SayIds (r ∷ rs) = (id_of r.1 ≡ r.0) × SayIds rs
 
 abbrev pub ids_differ : List Row → Bool
 ids_differ [] = true
