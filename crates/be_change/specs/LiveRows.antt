@@ -1,26 +1,9 @@
 -- How live rows stand: by rising ids, with names that differ.
-use Rattle.std.specs.Prelude.{◌≡◌, ℕ, ◌<◌, List, [], ◌∷◌, ◌++◌, Bool, true, not, ◌&&◌}
+use Rattle.std.specs.Prelude.{◌≡◌, ℕ, List, [], ◌∷◌, ◌++◌, Bool, true, not, ◌&&◌}
 use Rattle.std.specs.List.{list_any}
 use Rattle.be_model.specs.declared.changes.Row.{Row}
+pub use Rattle.be_model.specs.ByIds.{AllBelow, AllAbove, Rising, SayIds}
 use Rattle.be_change.specs.History.{Text, Live, same_text}
-
-abbrev pub AllBelow : ℕ → Live → Type 0
-AllBelow n [] = Unit {0}
-AllBelow n (r ∷ rs) = (r.0 < n) × AllBelow n rs
-
-abbrev pub AllAbove : ℕ → Live → Type 0
-AllAbove n [] = Unit {0}
-AllAbove n (r ∷ rs) = (n < r.0) × AllAbove n rs
-
--- each id is below all ids that follow it, so that they differ
-abbrev pub Rising : Live → Type 0
-Rising [] = Unit {0}
-Rising (r ∷ rs) = AllAbove r.0 rs × Rising rs
-
--- each row says its id itself
-abbrev pub SayIds : Live → Type 0
-SayIds [] = Unit {0}
-SayIds (r ∷ rs) = (r.1.id.0 ≡ r.0) × SayIds rs
 
 abbrev pub is_among : Text → List Text → Bool
 is_among name names = list_any (λ other. same_text other name) names

@@ -9,3 +9,6 @@ pub mod InSchema
 pub mod Orders
 pub mod AssignedValues
 pub mod Examples
+pub mod RowsByIds
+pub mod RangeBits
+pub mod FewItems

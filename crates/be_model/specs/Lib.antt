@@ -9,3 +9,6 @@ pub mod Laws
 pub mod Assigned
 pub mod Entries
 pub mod Texts
+pub mod Costs
+pub mod ByIds
+pub mod Bounds

@@ -1,11 +1,14 @@
 -- Rows behind shared references, as contracts see them.
-use Rattle.std.specs.Prelude.{ℕ, List, map}
+use Rattle.std.specs.Prelude.{ℕ, Bool, List, map}
+use Rattle.std.specs.List.{list_any}
 use Rattle.std.specs.Arc.{arc_value}
 use Rattle.std.specs.declared.sync.Arc.{Arc}
+use Rattle.be_base.specs.declared.names.AttrNo.{AttrNo}
 use Rattle.be_base.specs.declared.names.SessionNo.{SessionNo}
 use Rattle.be_model.specs.declared.changes.Row.{Row}
 use Rattle.be_model.specs.declared.changes.Change.{Change}
 use Rattle.be_model.specs.declared.changes.Change.TheVariants.{Sub, Unsub, Bye}
+use Rattle.be_model.specs.Hulls.{is_on}
 
 abbrev pub rows_in : {Z : Type 0} → List (Arc Row Z) → List Row
 rows_in xs = map (λ x. arc_value x) xs
@@ -20,6 +23,10 @@ found rows spare = record { rows = rows; spare = spare }
 
 abbrev pub id_of : Row → ℕ
 id_of row = row.id.0
+
+-- the row has a predicate on the attribute
+abbrev pub has : AttrNo → Row → Bool
+has a row = list_any (is_on a) row.conj
 
 -- the session that made a change
 abbrev pub session_of : Change → SessionNo

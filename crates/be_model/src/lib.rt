@@ -4,14 +4,18 @@
 mod assigned;
 mod changes;
 mod conditions;
+mod costs;
 mod events;
 mod found;
 mod laws;
+mod paths;
 mod schemas;
 
 pub use changes::{Change, Row};
 pub use conditions::{Conj, DomFault, Op, Pred, Values, check_conj};
+pub use costs::Cost;
 pub use events::Event;
 pub use found::Found;
 pub use laws::{halves_split, halvings_count, hulls_hold, spans_are, spans_hold, spans_lie};
+pub use paths::{Hop, Path};
 pub use schemas::{Attribute, Domain, Names, Schema, is_reserved};

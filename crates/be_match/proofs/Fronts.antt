@@ -1,0 +1,78 @@
+-- Lists that grow, and what is satisfied in a list.
+use Rattle.std.proofs.Common.{◌≡◌, ℕ, ◌+◌, ◌<◌, ◌≤◌, Bool, true, false, cond, List, [], ◌∷◌, ◌++◌, length, take, drop, get_or, slice_get, Some, zero, suc, refl, sym, ap, ◌∙◌, arith, length-append}
+use Rattle.std.proofs.lemmas.List.{append_assoc, append-nil, drop_more}
+use Rattle.std.proofs.lemmas.Option.{slice_get_within}
+use Rattle.be_model.specs.declared.changes.Row.{Row}
+use Rattle.be_model.specs.Matching.{Assignments, satisfies, satisfied}
+use Rattle.be_shape.specs.Search.{all_of}
+use Rattle.be_match.specs.Leaves.{BeginsWith}
+use Rattle.be_match.proofs.Sizes.{all_of_append}
+
+pub front_same : (xs : List Row) → BeginsWith xs xs
+front_same xs = record { more = []; is = sym (append-nil xs) }
+
+pub front_more : (xs ys zs : List Row) → ys ≡ xs ++ zs → BeginsWith xs ys
+front_more xs ys zs h = record { more = zs; is = h }
+
+pub front_on : (xs ys zs : List Row) → BeginsWith xs ys → BeginsWith ys zs → BeginsWith xs zs
+front_on xs ys zs a b =
+    record { more = a.more ++ b.more; is = b.is ∙ ap (λ l. l ++ b.more) a.is ∙ append_assoc xs a.more b.more }
+
+pub front_length : (xs ys : List Row) → BeginsWith xs ys → length xs ≤ length ys
+front_length xs ys a = omega (arith, ap length a.is, length-append xs a.more)
+
+take_front : (xs ys : List Row) → take (length xs) (xs ++ ys) ≡ xs
+take_front [] ys = refl
+take_front (x ∷ xs) ys = ap (λ l. x ∷ l) (take_front xs ys)
+
+-- the front is what is left where the rest is cut off
+pub front_taken : (xs ys : List Row) → BeginsWith xs ys → take (length xs) ys ≡ xs
+front_taken xs ys a = ap (take (length xs)) a.is ∙ take_front xs a.more
+
+kept_step : (e : Assignments) (b : Bool) (x : Row) (xs ys : List Row) → cond b (x ∷ (xs ++ ys)) (xs ++ ys) ≡ cond b (x ∷ xs) xs ++ ys
+kept_step e true x xs ys = refl
+kept_step e false x xs ys = refl
+
+-- what is satisfied of two lists
+pub satisfied_append : (e : Assignments) (xs ys : List Row) → satisfied e (xs ++ ys) ≡ satisfied e xs ++ satisfied e ys
+satisfied_append e [] ys = refl
+satisfied_append e (x ∷ xs) ys =
+    ap (λ l. cond (satisfies e x.conj) (x ∷ l) l) (satisfied_append e xs ys) ∙ kept_step e (satisfies e x.conj) x (satisfied e xs) (satisfied e ys)
+
+-- what is satisfied of a list from a place on
+pub satisfied_from : (e : Assignments) (xs : List Row) (i : ℕ) (x : Row) → i < length xs → x ≡ get_or xs i x → satisfied e (drop i xs) ≡ satisfied e (x ∷ []) ++ satisfied e (drop (i + 1) xs)
+satisfied_from e xs i x l is =
+    ap (satisfied e) (drop_more xs i x l ∙ ap (λ q. q ∷ drop (i + 1) xs) (sym is)) ∙ satisfied_append e (x ∷ []) (drop (i + 1) xs)
+
+-- what is satisfied in two lists of leaves
+pub satisfied_leaves : (e : Assignments) (xs ys : List (List Row)) → satisfied e (all_of (xs ++ ys)) ≡ satisfied e (all_of xs) ++ satisfied e (all_of ys)
+satisfied_leaves e xs ys = ap (satisfied e) (all_of_append xs ys) ∙ satisfied_append e (all_of xs) (all_of ys)
+
+-- rows put one list after another are put together
+pub put_on : (r0 r1 r2 a b : List Row) → r1 ≡ r0 ++ a → r2 ≡ r1 ++ b → r2 ≡ r0 ++ (a ++ b)
+put_on r0 r1 r2 a b h k = k ∙ ap (λ r. r ++ b) h ∙ append_assoc r0 a b
+
+-- the rows of a node are put level by level
+pub put_levels : (e : Assignments) (r0 r1 r2 r3 r4 leaf : List Row) (p l h : List (List Row)) → r1 ≡ r0 ++ satisfied e leaf → r2 ≡ r1 ++ satisfied e (all_of p)
+    → r3 ≡ r2 ++ satisfied e (all_of l) → r4 ≡ r3 ++ satisfied e (all_of h) → r4 ≡ r0 ++ satisfied e (all_of (leaf ∷ p ++ l ++ h))
+put_levels e r0 r1 r2 r3 r4 leaf p l h a b c d =
+    let x = satisfied e leaf in
+    let y = satisfied e (all_of p) in
+    let z = satisfied e (all_of l) in
+    let w = satisfied e (all_of h) in
+    let all : satisfied e (all_of (leaf ∷ p ++ l ++ h)) ≡ x ++ ((y ++ z) ++ w) =
+    satisfied_append e leaf (all_of (p ++ l ++ h)) ∙ ap (λ q. x ++ q) (satisfied_leaves e (p ++ l) h ∙ ap (λ q. q ++ w) (satisfied_leaves e p l)) in
+    put_on r0 r1 r4 x ((y ++ z) ++ w) a (put_on r1 r3 r4 (y ++ z) w (put_on r1 r2 r3 y z b c) d) ∙ ap (λ q. r0 ++ q) (sym all)
+
+-- what was put, and what is still to be put, one step on
+pub put_step : (found put a b c all : List Row) → found ++ a ≡ all → a ≡ b ++ c → put ≡ found ++ b → put ++ c ≡ all
+put_step found put a b c all h k l = ap (λ r. r ++ c) l ∙ append_assoc found b c ∙ ap (λ q. found ++ q) (sym k) ∙ h
+
+got : (xs : List Row) (i : ℕ) (x : Row) → slice_get xs i ≡ Some x → x ≡ get_or xs i x
+got [] i x h = absurd (cc)
+got (y ∷ ys) zero x h = cc
+got (y ∷ ys) (suc i) x h = got ys i x h
+
+-- what is satisfied from the place of a row on
+pub satisfied_at : (e : Assignments) (xs : List Row) (i : ℕ) (x : Row) → slice_get xs i ≡ Some x → satisfied e (drop i xs) ≡ satisfied e (x ∷ []) ++ satisfied e (drop (i + 1) xs)
+satisfied_at e xs i x h = satisfied_from e xs i x (slice_get_within xs i x h) (got xs i x h)

@@ -1,0 +1,49 @@
+use Rattle.std.proofs.Common.{◌++◌, length, None, sym, ap, ◌∙◌, subst}
+use Rattle.std.specs.Arc.{arc_value}
+use Rattle.be_model.specs.declared.changes.Row.{Row}
+use Rattle.be_model.specs.Schemas.{IsSchema}
+use Rattle.be_model.specs.Matching.{satisfies, satisfied}
+use Rattle.be_model.specs.ByIds.{rows_of}
+use Rattle.be_model.proofs.RowsByIds.{filter_permuted}
+use Rattle.std.proofs.lemmas.List.Sorted.{IsPermutation-sym}
+use Rattle.be_shape.specs.Plain.{plain, rows_below, contents}
+use Rattle.be_shape.specs.Search.{visited, all_of}
+use Rattle.be_match.specs.Leaves.{AreCountable}
+use Rattle.be_match.proofs.Within.{IsSearched, countable, within_bound, all_found}
+use Rattle.be_match.proofs.finds.find_in.Goals as goal
+
+pub search_node-requires-clause-countable : goal.search_node-requires-clause-countable
+search_node-requires-clause-countable c =
+    let t = c.args.t.now in
+    let s = arc_value t.schema in
+    let e = c.args.e.now in
+    let n = plain t.root in
+    let w : IsSearched s e n =
+    record { schema = subst IsSchema c.deref.ensures c.count.ensures.form; rises = c.items.ensures.form; lies = c.requires; rows = t.lie; placed = t.placed; pruned = t.pruned; settled = t.settled } in
+    subst (λ a. AreCountable (visited a e None n)) (sym c.deref-2.ensures) (countable s e n w)
+
+pub returns-in-Ok-clause-found : goal.returns-in-Ok-clause-found
+returns-in-Ok-clause-found c =
+    let t = c.args.t.now in
+    let s = arc_value t.schema in
+    let e = c.args.e.now in
+    let n = plain t.root in
+    let old = c.args.found.now.rows in
+    let w : IsSearched s e n =
+    record { schema = subst IsSchema c.deref.ensures c.count.ensures.form; rises = c.items.ensures.form; lies = c.requires; rows = t.lie; placed = t.placed; pruned = t.pruned; settled = t.settled } in
+    record {
+      found = satisfied e (rows_below n);
+      put = c.in-Ok.ensures.put ∙ ap (λ a. old ++ satisfied e (all_of (visited a e None n))) c.deref-2.ensures ∙ ap (λ rows. old ++ rows) (all_found s e n w);
+      exact = IsPermutation-sym (satisfied e (rows_below n)) (satisfied e (rows_of (contents n))) (filter_permuted (λ (row : Row). satisfies e row.conj) (rows_below n));
+    }
+
+pub returns-in-Ok-clause-bound : goal.returns-in-Ok-clause-bound
+returns-in-Ok-clause-bound c =
+    let t = c.args.t.now in
+    let s = arc_value t.schema in
+    let e = c.args.e.now in
+    let n = plain t.root in
+    let w : IsSearched s e n =
+    record { schema = subst IsSchema c.deref.ensures c.count.ensures.form; rises = c.items.ensures.form; lies = c.requires; rows = t.lie; placed = t.placed; pruned = t.pruned; settled = t.settled } in
+    within_bound s e n c.in-Ok.cost w (ap (λ x. x.visits) c.in-Ok.ensures.cost ∙ ap (λ a. length (visited a e None n)) c.deref-2.ensures)
+    (ap (λ x. x.tested) c.in-Ok.ensures.cost ∙ ap (λ a. length (all_of (visited a e None n))) c.deref-2.ensures)

@@ -1,0 +1,19 @@
+use Rattle.std.proofs.Common.{◌+◌, ◌++◌, ◌∷◌, [], drop, arith}
+use Rattle.std.specs.Arc.{arc_value}
+use Rattle.be_model.specs.Matching.{satisfied}
+use Rattle.be_match.proofs.Fronts.{front_on, put_step, satisfied_at}
+use Rattle.be_match.proofs.searches.search_leaf.Goals as goal
+
+pub loop-place-preserved : goal.loop-place-preserved
+loop-place-preserved c =
+    let e = c.args.e.now in
+    let rows = c.args.leaf.now in
+    let i = c.loop-place.place in
+    let x = arc_value c.row.result.now in
+    let was = c.loop-place.found.rows in
+    let is = c.test.new.found.rows in (
+      put_step was is (satisfied e (drop i rows)) (satisfied e (x ∷ [])) (satisfied e (drop (i + 1) rows)) (c.args.found.now.rows ++ satisfied e rows) c.loop-place.invariant.0
+          (satisfied_at e rows i x c.row.ensures) c.in_ok-test.ensures.put,
+      front_on c.args.found.now.rows was is c.loop-place.invariant.1 c.in_ok-test.ensures.front,
+      omega (arith, c.loop-place.invariant.2, c.in_ok-test.ensures.room),
+    )

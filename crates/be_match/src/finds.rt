@@ -1,0 +1,50 @@
+//! The search of a tree.
+
+ghost use Rattle.std.specs.Prelude.{◌≡◌, ◌≤◌, true, OnOk, OnErr, IfOk};
+ghost use Rattle.std.specs.Arc.{arc_value};
+ghost use Rattle.be_model.specs.Lies.{event_lies};
+ghost use Rattle.be_model.specs.ByIds.{FindsIn, rows_of};
+ghost use Rattle.be_model.specs.Bounds.{IsWithinBound};
+ghost use Rattle.be_shape.specs.Plain.{plain, contents};
+ghost use Rattle.be_shape.specs.Search.{visits, tested};
+
+use crate::counts::node_cost;
+use crate::searches::search_node;
+use be_base::NoMemory;
+use be_model::{Cost, Event, Found};
+use be_shape::Tree;
+
+/// Appends the rows that the event satisfies, each once. It takes memory for the list of found rows alone,
+/// and further references to rows, of which there may be no more.
+pub fn find_in(t: &Tree, e: &Event, found: &mut Found) -> Result<Cost, NoMemory>
+    requires { event_lies (arc_value t.now.schema) e.now ≡ true }
+    ensures found { OnOk result (FindsIn e.now (contents (plain t.now.root)) found.old.rows found.new.rows) }
+    ensures visits { IfOk result (λ cost. cost.visits ≡ visits (arc_value t.now.schema) e.now (plain t.now.root)) }
+    ensures tested { IfOk result (λ cost. cost.tested ≡ tested (arc_value t.now.schema) e.now (plain t.now.root)) }
+    ensures bound { IfOk result (λ cost. IsWithinBound (arc_value t.now.schema) e.now (rows_of (contents (plain t.now.root))) cost) }
+    ensures refused { OnErr result (found.new.rows ≡ found.old.rows) }
+    ensures room { OnErr result (found.old.spare ≤ found.new.spare) }
+{
+    let _ = t.schema.count();
+    let _ = e.items();
+    let before = found.len();
+    match search_node(&t.root, &t.schema, e, None, found) {
+        Ok(cost) => Ok(cost),
+        Err(NoMemory) => {
+            found.cut(before);
+            Err(NoMemory)
+        }
+    }
+}
+
+/// What a search for the event costs. It takes no memory.
+pub fn cost_of(t: &Tree, e: &Event) -> Cost
+    requires { event_lies (arc_value t.now.schema) e.now ≡ true }
+    ensures visits { result.visits ≡ visits (arc_value t.now.schema) e.now (plain t.now.root) }
+    ensures tested { result.tested ≡ tested (arc_value t.now.schema) e.now (plain t.now.root) }
+    ensures bound { IsWithinBound (arc_value t.now.schema) e.now (rows_of (contents (plain t.now.root))) result }
+{
+    let _ = t.schema.count();
+    let _ = e.items();
+    node_cost(&t.root, &t.schema, e, None)
+}

@@ -1,0 +1,74 @@
+//! Ways from the root of a tree to a node.
+
+ghost use Rattle.std.specs.Prelude.{◌≡◌, [], ◌∷◌, ◌++◌, OnOk, OnErr};
+
+use be_base::{AttrNo, NoMemory};
+use std::alloc::Global;
+use std::marker::Model;
+
+/// A step down from a node.
+#[derive(Clone, Copy, Debug, PartialEq, Eq)]
+pub enum Hop {
+    Part(AttrNo),
+    Low,
+    High,
+}
+
+/// Steps down from the root.
+#[derive(Drop)]
+pub struct Path {
+    hops: Vec<Hop>,
+}
+
+impl Model for Path {
+    ghost use Rattle.std.specs.Prelude.{List};
+    ghost use Rattle.be_model.specs.declared.paths.Hop.{Hop};
+
+    ghost Value = { List Hop };
+
+    ghost view = { λ p. p.hops.items };
+}
+
+impl Path {
+    /// The way to the root itself. It takes no memory.
+    pub fn make(alloc: Global) -> Path
+        ensures { result ≡ [] }
+    {
+        Path {
+            hops: Vec::new(alloc),
+        }
+    }
+
+    /// Puts a step last.
+    pub fn push(&mut self, hop: Hop) -> Result<(), NoMemory>
+        ensures put { OnOk result (self.new ≡ self.old ++ hop ∷ []) }
+        ensures refused { OnErr result (self.new ≡ self.old) }
+    {
+        match self.hops.push(hop) {
+            Ok(()) => Ok(()),
+            Err(_) => Err(NoMemory),
+        }
+    }
+
+    pub fn hops(&self) -> &[Hop]
+        ensures { result.now ≡ self.now }
+    {
+        self.hops.as_slice()
+    }
+}
+
+#[cfg(test)]
+mod tests {
+    use super::*;
+    use std::test::Fail;
+
+    #[test]
+    fn steps_are_put(rt: HostRuntime) -> Result<(), Fail> {
+        let mut path = Path::make(rt.alloc());
+        for hop in [Hop::Part(AttrNo(3)), Hop::Low, Hop::High] {
+            path.push(hop)?;
+        }
+        assert_eq!(rt; path.hops().len(), 3);
+        Ok(())
+    }
+}

@@ -1,0 +1,35 @@
+-- The rows of a leaf whose places are no blanks.
+use Rattle.std.proofs.Common.{◌≡◌, ℕ, ◌<◌, zero, suc, arith, slice_get, get_or, sym, true, List, [], ◌∷◌, ◌++◌, length, Option, Some, None, refl, ap}
+use Rattle.be_model.specs.declared.changes.Row.{Row}
+use Rattle.be_shape.specs.Leaves.{rows_of_places, are_rows}
+
+-- each place is a row
+pub rows_length : (places : List (Option Row)) → are_rows places ≡ true → length (rows_of_places places) ≡ length places
+rows_length [] h = refl
+rows_length (Some row ∷ places) h = ap (λ n. suc n) (rows_length places h)
+rows_length (None ∷ places) h = absurd (cc)
+
+-- a row more
+pub rows_put : (places : List (Option Row)) (row : Row) → rows_of_places (places ++ Some row ∷ []) ≡ rows_of_places places ++ row ∷ []
+rows_put [] row = refl
+rows_put (Some first ∷ places) row = ap (λ rows. first ∷ rows) (rows_put places row)
+rows_put (None ∷ places) row = rows_put places row
+
+pub are_rows_put : (places : List (Option Row)) (row : Row) → are_rows places ≡ true → are_rows (places ++ Some row ∷ []) ≡ true
+are_rows_put [] row h = refl
+are_rows_put (Some first ∷ places) row h = are_rows_put places row h
+are_rows_put (None ∷ places) row h = absurd (cc)
+
+-- what stands at a place is the row there
+pub row_there : (places : List (Option Row)) (i : ℕ) (k : Option Row) → are_rows places ≡ true → i < length places → k ≡ get_or places i k → slice_get (rows_of_places places) i ≡ k
+row_there [] i k h l e = absurd (omega arith)
+row_there (Some row ∷ places) zero k h l e = sym e
+row_there (Some row ∷ places) (suc i) k h l e = row_there places i k h (omega arith) e
+row_there (None ∷ places) i k h l e = absurd (cc)
+
+-- no place is blank
+pub not_blank : (places : List (Option Row)) (i : ℕ) (k : Option Row) → are_rows places ≡ true → i < length places → k ≡ get_or places i k → k ≡ None → ⊥
+not_blank [] i k h l e n = absurd (omega arith)
+not_blank (Some row ∷ places) zero k h l e n = absurd (cc)
+not_blank (Some row ∷ places) (suc i) k h l e n = not_blank places i k h (omega arith) e n
+not_blank (None ∷ places) i k h l e n = absurd (cc)

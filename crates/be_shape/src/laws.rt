@@ -1,0 +1,23 @@
+//! Laws of what a tree contains. Each function's contract is a law, which its proof shows; to call one does nothing.
+
+ghost use Rattle.std.specs.Prelude.{IsPermutation};
+ghost use Rattle.be_model.specs.ByIds.{Rising, rows_of};
+ghost use Rattle.be_shape.specs.Plain.{plain, rows_below, contents};
+ghost use Rattle.be_shape.specs.Contents.{RowsAreFound};
+
+use crate::trees::Tree;
+
+/// Ids rise, so that each stands for one row.
+pub fn ids_rise(t: &Tree)
+    ensures { Rising (contents (plain t.now.root)) }
+{}
+
+/// The contents are the rows of all leaves.
+pub fn rows_are_of_leaves(t: &Tree)
+    ensures { IsPermutation (rows_below (plain t.now.root)) (rows_of (contents (plain t.now.root))) }
+{}
+
+/// The row of an id is the row of a leaf that has this id.
+pub fn rows_are_found(t: &Tree)
+    ensures { RowsAreFound (plain t.now.root) }
+{}

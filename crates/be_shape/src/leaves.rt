@@ -1,0 +1,102 @@
+//! Rows that stand together.
+
+ghost use Rattle.std.specs.Prelude.{◌≡◌, ◌<◌, [], ◌∷◌, ◌++◌, length, slice_get, Some, None, nat_le};
+ghost use Rattle.std.specs.Arc.{arc_value};
+
+use be_model::Row;
+use smallvec::SmallVec;
+use std::alloc::Global;
+use std::marker::Model;
+use std::sync::Arc;
+
+// A place of a leaf: a row, or a blank where the leaf ends.
+#[derive(Drop)]
+struct Kept {
+    row: Option<Arc<Row>>,
+}
+
+impl Model for Kept {
+    ghost use Rattle.std.specs.Prelude.{Option, option_map};
+    ghost use Rattle.std.specs.Arc.{arc_value};
+    ghost use Rattle.be_model.specs.declared.changes.Row.{Row};
+
+    ghost Value = { Option Row };
+
+    ghost view = { λ k. option_map (λ a. arc_value a) k.row };
+}
+
+impl Default for Kept {
+    fn default() -> Kept
+        ensures { result ≡ None }
+    {
+        Kept { row: None }
+    }
+}
+
+impl Kept {
+    fn of(row: Arc<Row>) -> Kept
+        ensures { result ≡ Some (arc_value row) }
+    {
+        Kept { row: Some(row) }
+    }
+}
+
+/// Rows in some order, of which 17 stand in place.
+#[derive(Drop)]
+pub struct Leaf {
+    places: SmallVec<Kept, 17>,
+}
+
+impl Model for Leaf {
+    ghost use Rattle.std.specs.Prelude.{List, ◌≡◌, true};
+    ghost use Rattle.be_model.specs.declared.changes.Row.{Row};
+
+    ghost Value = { List Row };
+
+    ghost use Rattle.be_shape.specs.Leaves.{rows_of_places, are_rows};
+
+    ghost view = { λ l. rows_of_places l.places.items };
+
+    ghost invariant = { λ l. are_rows l.places.items ≡ true };
+}
+
+impl Leaf {
+    /// No rows. It takes no memory.
+    pub fn make(alloc: Global) -> Leaf
+        ensures { result ≡ [] }
+    {
+        Leaf {
+            places: SmallVec::new(alloc),
+        }
+    }
+
+    #[tactic(auto, using(crate::proofs::LeafRows::rows_length))]
+    pub fn len(&self) -> usize
+        ensures { result ≡ length self.now }
+    {
+        self.places.len()
+    }
+
+    /// The row at a place, from 0.
+    #[tactic(auto, using(crate::proofs::LeafRows::rows_length))]
+    pub fn row(&self, place: usize) -> &Arc<Row>
+        requires { place < length self.now }
+        ensures { slice_get self.now place ≡ Some (arc_value result.now) }
+    {
+        let kept = &self.places.as_slice()[place];
+        match &kept.row {
+            Some(row) => row,
+            None => unreachable!(),
+        }
+    }
+
+    /// Puts a row last. It takes no memory.
+    #[tactic(auto, using(crate::proofs::LeafRows::rows_length, crate::proofs::LeafRows::rows_put, crate::proofs::LeafRows::are_rows_put))]
+    pub fn put(&mut self, row: Arc<Row>)
+        requires { length self.old < 17 }
+        ensures { self.new ≡ self.old ++ arc_value row ∷ [] }
+    {
+        let _ = self.places.capacity();
+        self.places.push_reserved(Kept::of(row));
+    }
+}

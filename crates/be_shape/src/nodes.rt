@@ -1,0 +1,52 @@
+//! Nodes of the tree.
+
+ghost use Rattle.std.specs.Prelude.{◌≡◌, ◌<◌, [], length};
+ghost use Rattle.std.specs.Arc.{arc_value};
+ghost use Rattle.be_shape.specs.Plain.{plain, node, no_part, no_half, leaf_of, with_row};
+
+use crate::leaves::Leaf;
+use be_base::AttrNo;
+use be_model::Row;
+use std::alloc::Global;
+use std::sync::Arc;
+
+/// Rows, parts by attribute, and the two halves of the node's range.
+#[cycle(nodes)]
+#[derive(Drop)]
+pub struct Node {
+    pub leaf: Leaf,
+    /// Rising by attribute.
+    pub parts: Vec<Part>,
+    pub low: Option<Box<Node>>,
+    pub high: Option<Box<Node>>,
+}
+
+impl Node {
+    /// No rows. It takes no memory.
+    pub fn make(alloc: Global) -> Node
+        ensures { plain result ≡ node [] no_part no_half no_half }
+    {
+        Node {
+            leaf: Leaf::make(alloc),
+            parts: Vec::new(alloc),
+            low: None,
+            high: None,
+        }
+    }
+
+    /// Puts a row last into the leaf. It takes no memory.
+    pub fn put(&mut self, row: Arc<Row>)
+        requires { length (leaf_of (plain self.old)) < 17 }
+        ensures { plain self.new ≡ with_row (arc_value row) (plain self.old) }
+    {
+        self.leaf.put(row);
+    }
+}
+
+/// The rows below that have a predicate on the attribute.
+#[cycle(nodes)]
+#[derive(Drop)]
+pub struct Part {
+    pub attr: AttrNo,
+    pub root: Box<Node>,
+}
