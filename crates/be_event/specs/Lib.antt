@@ -1,3 +1,5 @@
+pub mod Written
 pub mod Events
+pub mod ItemScans
 pub mod SchemaTexts
 pub mod Declarations

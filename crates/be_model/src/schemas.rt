@@ -300,6 +300,7 @@ impl Schema {
     pub fn find(&self, name: &Name) -> Option<AttrNo>
         ensures exact { result ≡ attribute_named self.now name.now }
         ensures below { IfSome result (λ a. a.0 < length self.now) }
+        ensures few { IfSome result (λ a. a.0 < 256) }
     {
         let place = self.names.place(name.bytes())?;
         Some(AttrNo(place as u16))
