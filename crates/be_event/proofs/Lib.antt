@@ -1,7 +1,7 @@
+pub mod SchemaForms
 pub mod Items
 pub mod FirstLines
-pub mod DeclaredNames
-pub mod SchemaForms
+pub mod WordLemmas
 pub mod Scans
 pub mod Built
 pub mod Readings

@@ -2,4 +2,5 @@ pub mod Written
 pub mod Events
 pub mod ItemScans
 pub mod SchemaTexts
+pub mod Words
 pub mod Declarations

@@ -3,6 +3,7 @@
 
 mod events;
 mod schema_texts;
+mod words;
 
 pub use events::{EventFault, read_event};
 pub use schema_texts::{SchemaFault, SchemaKind, read_schema};

@@ -1,6 +1,6 @@
 use Rattle.std.proofs.Common.{[], ◌∷◌, refl, arith}
 use Rattle.be_base.specs.Text.{IsName, is_word_byte}
-use Rattle.be_event.proofs.schema_texts.DeclarationDefault.default.Goals as goal
+use Rattle.be_event.proofs.schema_texts.DeclaredDefault.default.Goals as goal
 
 hyphen : IsName (45 ∷ [])
 unfolding is_word_byte
