@@ -1,1 +1,1 @@
-pub mod PredicateLies
+pub mod Grammar
