@@ -3,5 +3,6 @@
 
 mod faults;
 pub mod laws;
+mod parts;
 
 pub use faults::ExprFault;
