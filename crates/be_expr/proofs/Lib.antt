@@ -1,1 +1,2 @@
-pub mod PredicateLies
+pub mod Grammar
+pub mod InParts

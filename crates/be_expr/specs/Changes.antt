@@ -1,5 +1,5 @@
 -- The texts of changes.
-use Rattle.std.specs.Prelude.{◌≡◌, ℕ, ◌<◌, ◌^◌, true, List, [], ◌∷◌, ◌++◌, Option, Some, None, Result, Ok, Err, codes, decimal, if◌then◌else◌}
+use Rattle.std.specs.Prelude.{◌≡◌, ℕ, ◌<◌, ◌^◌, true, List, [], ◌∷◌, ◌++◌, Option, Some, Result, Ok, Err, codes, decimal, if◌then◌else◌}
 use Rattle.be_base.specs.Text.{Text, same_text, name_of, IsName}
 use Rattle.be_base.specs.Numbers.{count_of}
 use Rattle.be_base.specs.Tokens.{Lexeme, word, tokens}
@@ -10,8 +10,8 @@ use Rattle.be_model.specs.Entries.{Entry, subscribed, unsubscribed, left}
 use Rattle.be_model.specs.Forms.{IsConj}
 use Rattle.be_model.specs.Lies.{row_lies}
 use Rattle.be_model.specs.Schemas.{Attributes, IsSchema}
-use Rattle.be_expr.specs.declared.ExprFault.{ExprFault}
-use Rattle.be_expr.specs.declared.ExprFault.TheVariants.{Bad, NoMemory}
+use Rattle.be_expr.specs.declared.faults.ExprFault.{ExprFault}
+use Rattle.be_expr.specs.declared.faults.ExprFault.TheVariants.{Bad, NoMemory}
 use Rattle.be_expr.specs.Expressions.{condition}
 use Rattle.be_expr.specs.Canonical.{expr_text}
 

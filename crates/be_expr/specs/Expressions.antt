@@ -1,9 +1,9 @@
 -- What the text of a condition means in a schema, or its first fault.
-use Rattle.std.specs.Prelude.{◌≡◌, ℕ, ℤ, pos, Bool, false, List, [], ◌∷◌, length, map, find, nat_lt, int_lt, Option, Some, None, option_map, option_and_then, Result, Ok, Err, if◌then◌else◌}
+use Rattle.std.specs.Prelude.{◌≡◌, ℤ, pos, Bool, false, List, [], ◌∷◌, length, map, find, nat_lt, int_lt, Option, Some, None, option_map, option_and_then, Result, Ok, Err, if◌then◌else◌}
 use Rattle.std.specs.List.{list_any}
 use Rattle.std.specs.Option.{is_none, option_map_or}
 use Rattle.be_base.specs.Text.{Text}
-use Rattle.be_base.specs.Tokens.{Lexeme, less, less_or_equal, equal, not_equal, greater_or_equal, greater, tokens}
+use Rattle.be_base.specs.Tokens.{Lexeme, less, less_or_equal, not_equal, greater_or_equal, greater, tokens}
 use Rattle.be_base.specs.declared.names.AttrNo.{AttrNo}
 use Rattle.be_model.specs.declared.conditions.Op.{Op}
 use Rattle.be_model.specs.declared.conditions.Op.TheVariants.{Lt, Le, Eq, Ne, Ge, Gt, Between, OneOf, NoneOf}
@@ -12,8 +12,8 @@ use Rattle.be_model.specs.Schemas.{Attributes, numbered, attribute_named}
 use Rattle.be_model.specs.Assigned.{value_at}
 use Rattle.be_expr.specs.Written.{WrittenOp, compared, between, among, not_among, WrittenPred}
 use Rattle.be_expr.specs.Readings.{written}
-use Rattle.be_expr.specs.declared.ExprFault.{ExprFault}
-use Rattle.be_expr.specs.declared.ExprFault.TheVariants.{Bad, Attr, Dom, Many, NoMemory}
+use Rattle.be_expr.specs.declared.faults.ExprFault.{ExprFault}
+use Rattle.be_expr.specs.declared.faults.ExprFault.TheVariants.{Bad, Attr, Dom, Many, NoMemory}
 
 -- the values as they are written, from left to right
 abbrev pub words_of : WrittenOp → List Text

@@ -1,5 +1,6 @@
 pub mod Written
 pub mod Readings
+pub mod Parts
 pub mod Expressions
 pub mod Canonical
 pub mod Changes

@@ -1,8 +1,8 @@
 -- Conditions as they are written: the grammar over tokens.
-use Rattle.std.specs.Prelude.{ℕ, ◌&&◌, ◌||◌, not, Bool, true, false, List, [], ◌∷◌, ◌++◌, length, Result, Ok, Err, codes}
+use Rattle.std.specs.Prelude.{◌&&◌, not, Bool, true, false, List, [], ◌∷◌, ◌++◌, Result, Ok, Err, codes}
 use Rattle.std.specs.List.{list_all}
 use Rattle.be_base.specs.Text.{Text, name_of}
-use Rattle.be_base.specs.Tokens.{Lexeme, word, less, less_or_equal, equal, not_equal, greater_or_equal, greater, open_brace, close_brace, comma, blank, stray}
+use Rattle.be_base.specs.Tokens.{Lexeme, word, less, less_or_equal, equal, not_equal, greater_or_equal, greater, open_brace, close_brace, comma}
 use Rattle.be_base.specs.declared.names.NameFault.{NameFault}
 use Rattle.be_model.specs.Schemas.{reserved_words, is_among_texts}
 
