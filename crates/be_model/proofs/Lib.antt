@@ -10,3 +10,4 @@ pub mod Orders
 pub mod AssignedValues
 pub mod Examples
 pub mod ReadBack
+pub mod NamePlaces
