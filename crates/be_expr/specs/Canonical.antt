@@ -1,23 +1,19 @@
 -- The text of a condition in its one canonical form.
-use Rattle.std.specs.Prelude.{◌≡◌, ℤ, true, List, [], ◌∷◌, ◌++◌, Ok, codes}
-use Rattle.be_base.specs.Text.{Text}
+use Rattle.std.specs.Prelude.{◌≡◌, ℤ, true, List, [], ◌∷◌, ◌++◌, Ok, All, codes}
+use Rattle.std.specs.List.{join_by}
+use Rattle.be_base.specs.Text.{Text, IsName, IsWord}
 use Rattle.be_model.specs.declared.conditions.Op.{Op}
 use Rattle.be_model.specs.declared.conditions.Op.TheVariants.{Lt, Le, Eq, Ne, Ge, Gt, Between, OneOf, NoneOf}
 use Rattle.be_model.specs.declared.conditions.Pred.{Pred}
 use Rattle.be_model.specs.Schemas.{Attributes, IsSchema}
 use Rattle.be_model.specs.Forms.{IsConj}
-use Rattle.be_model.specs.Lies.{conj_lies}
-use Rattle.be_model.specs.Texts.{value_text_at, name_at}
+use Rattle.be_model.specs.Lies.{values_in, conj_lies}
+use Rattle.be_model.specs.Texts.{value_text_at, name_at, NamesAreNames}
 use Rattle.be_expr.specs.Expressions.{expression}
 
--- values parted by commas
-abbrev pub values_text : (ℤ → Text) → List ℤ → Text
-values_text value [] = []
-values_text value (v ∷ []) = value v
-values_text value (v ∷ w ∷ vs) = value v ++ codes "," ++ values_text value (w ∷ vs)
-
+-- values parted by commas, in braces
 abbrev pub set_text : (ℤ → Text) → List ℤ → Text
-set_text value vs = codes "{" ++ values_text value vs ++ codes "}"
+set_text value vs = codes "{" ++ join_by value (codes ",") vs ++ codes "}"
 
 abbrev pub op_text : (ℤ → Text) → Op → Text
 op_text value (Lt v) = codes "< " ++ value v
@@ -36,10 +32,13 @@ pred_text s p = name_at s p.attr ++ codes " " ++ op_text (value_text_at s p.attr
 -- `all`, or the predicates in their order, joined by ` and `
 abbrev pub expr_text : Attributes → List Pred → Text
 expr_text s [] = codes "all"
-expr_text s (p ∷ []) = pred_text s p
-expr_text s (p ∷ q ∷ ps) = pred_text s p ++ codes " and " ++ expr_text s (q ∷ ps)
+expr_text s (p ∷ ps) = join_by (pred_text s) (codes " and ") (p ∷ ps)
+
+-- its name is a name, and the texts of its values are words
+abbrev pub IsSpelled : Attributes → Pred → Type 0
+IsSpelled s p = IsName (name_at s p.attr) × All (λ v. IsWord (value_text_at s p.attr v)) (values_in p.op)
 
 -- reading the canonical text of a condition gives it back
 abbrev pub TextsAreRead : Type 0
 TextsAreRead =
-    (s : Attributes) (conj : List Pred) → IsSchema s → IsConj conj → conj_lies s conj ≡ true → expression s (expr_text s conj) ≡ Ok conj
+    (s : Attributes) (conj : List Pred) → IsSchema s → NamesAreNames s → IsConj conj → conj_lies s conj ≡ true → expression s (expr_text s conj) ≡ Ok conj

@@ -8,7 +8,8 @@ use Rattle.be_model.specs.declared.conditions.Pred.{Pred}
 use Rattle.be_model.specs.declared.changes.Row.{Row}
 use Rattle.be_model.specs.Entries.{Entry, subscribed, unsubscribed, left}
 use Rattle.be_model.specs.Forms.{IsConj}
-use Rattle.be_model.specs.Lies.{row_lies}
+use Rattle.be_model.specs.Lies.{entry_lies}
+use Rattle.be_model.specs.Texts.{NamesAreNames}
 use Rattle.be_model.specs.Schemas.{Attributes, IsSchema}
 use Rattle.be_expr.specs.declared.faults.ExprFault.{ExprFault}
 use Rattle.be_expr.specs.declared.faults.ExprFault.TheVariants.{Bad, NoMemory}
@@ -68,13 +69,19 @@ ReadsChange (Ok e) read = read ≡ Ok e
 ReadsChange (Err NoMemory) read = (e : Entry) × (read ≡ Ok e)
 ReadsChange (Err fault) read = read ≡ Err fault
 
--- what a change's text tells: all but the id of a Sub's row. Its row is of the change's session and lies in the schema
-abbrev pub IsTold : Attributes → ℕ → Entry → Type 0
-IsTold s id (subscribed k n row) =
-    (k < 2 ^ 63) × (n < 2 ^ 63) × (row.id.0 ≡ id) × (row.session.0 ≡ k) × IsName row.name × IsConj row.conj × (row_lies s row ≡ true)
-IsTold s id (unsubscribed k n name) = (k < 2 ^ 63) × (n < 2 ^ 63) × IsName name
-IsTold s id (left k n) = (k < 2 ^ 63) × (n < 2 ^ 63)
+-- the numbers are below 2^63, and a Sub's row has this id and is of the change's session
+abbrev pub IsNumbered : ℕ → Entry → Type 0
+IsNumbered id (subscribed k n row) = (k < 2 ^ 63) × (n < 2 ^ 63) × (row.id.0 ≡ id) × (row.session.0 ≡ k)
+IsNumbered id (unsubscribed k n name) = (k < 2 ^ 63) × (n < 2 ^ 63)
+IsNumbered id (left k n) = (k < 2 ^ 63) × (n < 2 ^ 63)
 
--- reading the canonical text of a change gives it back
+-- its name is a name, and its condition has the form of one
+abbrev pub IsFormed : Entry → Type 0
+IsFormed (subscribed k n row) = IsName row.name × IsConj row.conj
+IsFormed (unsubscribed k n name) = IsName name
+IsFormed (left k n) = Unit {0}
+
+-- reading the canonical text of a change that lies in the schema gives it back
 abbrev pub ChangesAreRead : Type 0
-ChangesAreRead = (s : Attributes) (id : ℕ) (e : Entry) → IsSchema s → IsTold s id e → change s id (change_text s e) ≡ Ok e
+ChangesAreRead =
+    (s : Attributes) (id : ℕ) (e : Entry) → IsSchema s → NamesAreNames s → IsFormed e → IsNumbered id e → entry_lies s e ≡ true → change s id (change_text s e) ≡ Ok e

@@ -4,5 +4,7 @@
 mod faults;
 pub mod laws;
 mod parts;
+mod writing;
 
 pub use faults::ExprFault;
+pub use writing::write_expr;
