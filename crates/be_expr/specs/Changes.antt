@@ -16,12 +16,15 @@ use Rattle.be_expr.specs.declared.faults.ExprFault.TheVariants.{Bad, NoMemory}
 use Rattle.be_expr.specs.Expressions.{condition}
 use Rattle.be_expr.specs.Canonical.{expr_text}
 
+-- the word of a change, its session and its serial
+abbrev pub head_text : Text → ℕ → ℕ → Text
+head_text kind k n = kind ++ codes " " ++ decimal k ++ codes " " ++ decimal n
+
 -- `SUB session serial name expr`, `UNSUB session serial name` or `BYE session serial`
 abbrev pub change_text : Attributes → Entry → Text
-change_text s (subscribed k n row) =
-    codes "SUB " ++ decimal k ++ codes " " ++ decimal n ++ codes " " ++ row.name ++ codes " " ++ expr_text s row.conj
-change_text s (unsubscribed k n name) = codes "UNSUB " ++ decimal k ++ codes " " ++ decimal n ++ codes " " ++ name
-change_text s (left k n) = codes "BYE " ++ decimal k ++ codes " " ++ decimal n
+change_text s (subscribed k n row) = head_text (codes "SUB") k n ++ codes " " ++ row.name ++ codes " " ++ expr_text s row.conj
+change_text s (unsubscribed k n name) = head_text (codes "UNSUB") k n ++ codes " " ++ name
+change_text s (left k n) = head_text (codes "BYE") k n
 
 abbrev pub new_row : ℕ → ℕ → Text → List Pred → Row
 new_row id k name conj = record { id = record { 0 = id }; session = record { 0 = k }; name = name; conj = conj }
@@ -75,6 +78,10 @@ IsNumbered id (subscribed k n row) = (k < 2 ^ 63) × (n < 2 ^ 63) × (row.id.0 �
 IsNumbered id (unsubscribed k n name) = (k < 2 ^ 63) × (n < 2 ^ 63)
 IsNumbered id (left k n) = (k < 2 ^ 63) × (n < 2 ^ 63)
 
+-- the text is read as the change, where the numbers allow it
+abbrev pub IsReadBack : Attributes → Text → Entry → Type 0
+IsReadBack s text e = (id : ℕ) → IsNumbered id e → change s id text ≡ Ok e
+
 -- its name is a name, and its condition has the form of one
 abbrev pub IsFormed : Entry → Type 0
 IsFormed (subscribed k n row) = IsName row.name × IsConj row.conj
@@ -84,4 +91,4 @@ IsFormed (left k n) = Unit {0}
 -- reading the canonical text of a change that lies in the schema gives it back
 abbrev pub ChangesAreRead : Type 0
 ChangesAreRead =
-    (s : Attributes) (id : ℕ) (e : Entry) → IsSchema s → NamesAreNames s → IsFormed e → IsNumbered id e → entry_lies s e ≡ true → change s id (change_text s e) ≡ Ok e
+    (s : Attributes) (e : Entry) → IsSchema s → NamesAreNames s → IsFormed e → entry_lies s e ≡ true → IsReadBack s (change_text s e) e

@@ -7,4 +7,4 @@ mod parts;
 mod writing;
 
 pub use faults::ExprFault;
-pub use writing::write_expr;
+pub use writing::{write_change, write_expr};

@@ -21,13 +21,13 @@ loop-pred-preserved c =
     let s = c.args.schema.now in
     record {
       written = joined_more (λ (p : Pred). codes " and " ++ pred_text s p) c.in-Some.rest.now c.loop-pred.pred-index c.pred-item.result _ _ _
-        c.loop-pred-test.true c.loop-pred.invariant.written
-        (c.in_ok-put_pred-2.ensures.written
-        ∙ ap (λ text. text ++ pred_text s c.pred-item.result) c.in_ok-extend_from_slice-2.ensures.items
-        ∙ append_assoc c.loop-pred.text.items (codes " and ") (pred_text s c.pred-item.result)
-        ∙ ap (λ (p : Pred). c.loop-pred.text.items ++ (codes " and " ++ pred_text s p)) c.pred-item.is);
+          c.loop-pred-test.true c.loop-pred.invariant.written
+          (c.in_ok-put_pred-2.ensures.written
+          ∙ ap (λ text. text ++ pred_text s c.pred-item.result) c.in_ok-extend_from_slice-2.ensures.items
+          ∙ append_assoc c.loop-pred.text.items (codes " and ") (pred_text s c.pred-item.result)
+          ∙ ap (λ (p : Pred). c.loop-pred.text.items ++ (codes " and " ++ pred_text s p)) c.pred-item.is);
       spelled = All-more (IsSpelled s) c.in-Some.rest.now c.loop-pred.pred-index c.pred-item.result
-        c.loop-pred-test.true c.loop-pred.invariant.spelled (subst (IsSpelled s) c.pred-item.is c.in_ok-put_pred-2.ensures.spelled);
+          c.loop-pred-test.true c.loop-pred.invariant.spelled (subst (IsSpelled s) c.pred-item.is c.in_ok-put_pred-2.ensures.spelled);
     }
 
 pub returns-clause-written : goal.returns-clause-written
