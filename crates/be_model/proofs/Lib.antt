@@ -9,3 +9,4 @@ pub mod InSchema
 pub mod Orders
 pub mod AssignedValues
 pub mod Examples
+pub mod Putting

@@ -1,5 +1,5 @@
 -- The value that a text assigns to an attribute.
-use Rattle.std.specs.Prelude.{ℤ, Option, Some, None, option_and_then, option_map, Result, Ok, Err}
+use Rattle.std.specs.Prelude.{ℤ, Option, None, option_and_then, option_map, Result, Ok, Err}
 use Rattle.be_base.specs.Text.{Text, name_of}
 use Rattle.be_base.specs.declared.names.NameFault.{NameFault}
 use Rattle.be_base.specs.declared.names.AttrNo.{AttrNo}

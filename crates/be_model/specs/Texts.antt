@@ -1,5 +1,5 @@
 -- Values and names of a schema as texts.
-use Rattle.std.specs.Prelude.{ℕ, ℤ, pos, negsuc, ◌+◌, List, [], ◌∷◌, get_or, decimal, unsigned_abs}
+use Rattle.std.specs.Prelude.{ℤ, pos, negsuc, ◌+◌, [], ◌∷◌, get_or, decimal, unsigned_abs}
 use Rattle.std.specs.Option.{option_map_or}
 use Rattle.be_base.specs.Text.{Text}
 use Rattle.be_base.specs.declared.names.AttrNo.{AttrNo}
