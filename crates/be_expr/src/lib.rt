@@ -4,5 +4,6 @@
 mod faults;
 pub mod laws;
 mod parts;
+mod scan;
 
 pub use faults::ExprFault;
