@@ -2,9 +2,9 @@
 use Rattle.std.proofs.Common.{◌≡◌, Bool, true, false, List, [], ◌∷◌, Option, Some, None, option_map, option_and_then, refl, sym, ◌∙◌, ap, if◌then◌else◌}
 use Rattle.be_base.specs.Text.{Text}
 use Rattle.be_base.specs.Tokens.{Lexeme, word, comma, close_brace}
-use Rattle.be_expr.specs.Written.{is_attr}
-use Rattle.be_expr.specs.Readings.{Read, with_value, read_values}
-use Rattle.be_expr.specs.Parts.{read_word, read_attr, read_value}
+use Rattle.be_expr.specs.Written.{WrittenOp, WrittenPred, is_attr}
+use Rattle.be_expr.specs.Readings.{Read, with_attr, with_value, read_values}
+use Rattle.be_expr.specs.Parts.{read_word, read_attr, read_opening, read_head, read_value}
 
 -- a word that was read first is the attribute where it may be one
 attr_of_word : (ts : List Lexeme) → read_attr ts ≡ option_and_then (λ (r : Text × List Lexeme). if is_attr r.0 then Some r else None) (read_word ts)
@@ -23,15 +23,51 @@ kept_if w true (Some ts) e = ap (λ (c : Bool). if c then Some (w, ts) else None
 kept_if w false (Some ts) e = ap (λ (c : Bool). if c then Some (w, ts) else None) e
 
 -- by whether the first word may be an attribute's name
-pub attr_is_read : (w : Text) (o rest : Option (List Lexeme)) → is_attr w ≡ true → option_map (λ ts. (w, ts)) rest ≡ option_and_then read_word o
-    → option_map (λ ts. (w, ts)) rest ≡ option_and_then read_attr o
-attr_is_read w o rest e h =
-    sym (word_first o ∙ ap (option_and_then (λ (r : Text × List Lexeme). if is_attr r.0 then Some r else None)) (sym h) ∙ kept_if w true rest e)
+attr_is_read : (w : Text) (b : Bool) (o rest : Option (List Lexeme)) → is_attr w ≡ b → option_map (λ ts. (w, ts)) rest ≡ option_and_then read_word o
+    → option_and_then read_attr o ≡ (if b then option_map (λ ts. (w, ts)) rest else None)
+attr_is_read w b o rest e h =
+    word_first o ∙ ap (option_and_then (λ (r : Text × List Lexeme). if is_attr r.0 then Some r else None)) (sym h) ∙ kept_if w b rest e
 
-pub attr_is_refused : (w : Text) (o rest : Option (List Lexeme)) → is_attr w ≡ false → option_map (λ ts. (w, ts)) rest ≡ option_and_then read_word o
-    → option_and_then read_attr o ≡ None
-attr_is_refused w o rest e h =
-    word_first o ∙ ap (option_and_then (λ (r : Text × List Lexeme). if is_attr r.0 then Some r else None)) (sym h) ∙ kept_if w false rest e
+abbrev attr_then_op : Text × List Lexeme → Read WrittenPred
+attr_then_op r = option_map (with_attr r.0) (read_opening r.1)
+
+head_by_attr : (o : Option (List Lexeme)) → option_and_then read_head o ≡ option_and_then attr_then_op (option_and_then read_attr o)
+head_by_attr None = refl
+head_by_attr (Some ts) = refl
+
+op_after : (w : Text) (rest : Option (List Lexeme)) → option_and_then attr_then_op (option_map (λ ts. (w, ts)) rest) ≡ option_map (with_attr w) (option_and_then read_opening rest)
+op_after w None = refl
+op_after w (Some ts) = refl
+
+attr_met : (w attr : Text) (b : Bool) → Some attr ≡ (if b then Some w else None) → (b ≡ true) × (attr ≡ w)
+attr_met w attr true h = (refl, cc)
+attr_met w attr false h = absurd (cc)
+
+attr_missed : (w : Text) (b : Bool) → None ≡ (if b then Some w else None) → b ≡ false
+attr_missed w true h = absurd (cc)
+attr_missed w false h = refl
+
+-- the head of a predicate that begins with this attribute
+pub head_first : (w attr : Text) (o rest : Option (List Lexeme)) → Some attr ≡ (if is_attr w then Some w else None)
+    → option_map (λ ts. (w, ts)) rest ≡ option_and_then read_word o → option_and_then read_head o ≡ option_map (with_attr attr) (option_and_then read_opening rest)
+head_first w attr o rest met h =
+    let is = attr_met w attr (is_attr w) met in
+    head_by_attr o ∙ ap (option_and_then attr_then_op) (attr_is_read w true o rest is.0 h) ∙ op_after w rest
+    ∙ ap (λ (a : Text). option_map (with_attr a) (option_and_then read_opening rest)) (sym is.1)
+
+pub no_attr_first : (w : Text) (o rest : Option (List Lexeme)) → None ≡ (if is_attr w then Some w else None)
+    → option_map (λ ts. (w, ts)) rest ≡ option_and_then read_word o → option_and_then read_head o ≡ None
+no_attr_first w o rest missed h =
+    head_by_attr o ∙ ap (option_and_then attr_then_op) (attr_is_read w false o rest (attr_missed w (is_attr w) missed) h)
+
+wrapped : (attr : Text) (op : WrittenOp) (left : Option (List Lexeme))
+    → option_map (λ ts. (record { attr = attr; op = op }, ts)) left ≡ option_map (with_attr attr) (option_map (λ ts. (op, ts)) left)
+wrapped attr op None = refl
+wrapped attr op (Some ts) = refl
+
+pub head_of : (attr : Text) (op : WrittenOp) (left rest : Option (List Lexeme)) → option_map (λ ts. (op, ts)) left ≡ option_and_then read_opening rest
+    → option_map (λ ts. (record { attr = attr; op = op }, ts)) left ≡ option_map (with_attr attr) (option_and_then read_opening rest)
+head_of attr op left rest h = wrapped attr op left ∙ ap (option_map (with_attr attr)) h
 
 -- the values that are left: none behind the last one
 abbrev pub values_after : Bool → Option (List Lexeme) → Read (List Text)

@@ -1,4 +1,4 @@
-use Rattle.std.proofs.Common.{option_map, ap, ◌∙◌, arith, ◌≡◌, false}
+use Rattle.std.proofs.Common.{option_map, ap, ◌∙◌, arith}
 use Rattle.be_base.specs.Tokens.{tokens}
 use Rattle.be_expr.specs.Faults.{met_behind}
 use Rattle.be_expr.proofs.InParts.{values_after, value_first}

@@ -1,6 +1,5 @@
-use Rattle.std.proofs.Common.{◌≡◌, ◌+◌, ◌≤◌, ◌<◌, true, List, length, option_map, option_and_then}
-use Rattle.be_base.specs.Text.{Text}
-use Rattle.be_base.specs.Tokens.{Lexeme, tokens}
+use Rattle.std.proofs.Common.{◌≡◌, ◌+◌, ◌≤◌, ◌<◌, true, length, option_map, option_and_then}
+use Rattle.be_base.specs.Tokens.{tokens}
 use Rattle.be_expr.specs.Readings.{read_values}
 use Rattle.be_expr.specs.Faults.{met_with, met_behind}
 use Rattle.be_expr.proofs.InParts.{values_after}
