@@ -1,5 +1,5 @@
 -- The faults of a condition, as they are gathered from left to right.
-use Rattle.std.specs.Prelude.{◌+◌, ◌||◌, Bool, false, List, [], ◌∷◌, length, nat_lt, Option, Some, None, if◌then◌else◌}
+use Rattle.std.specs.Prelude.{◌+◌, ◌||◌, Bool, false, List, [], ◌∷◌, length, nat_lt, Option, Some, None, option_map, option_and_then, if◌then◌else◌}
 use Rattle.std.specs.List.{list_any}
 use Rattle.std.specs.Option.{is_none, option_map_or}
 use Rattle.be_base.specs.Text.{Text}
@@ -8,10 +8,10 @@ use Rattle.be_base.specs.declared.names.AttrNo.{AttrNo}
 use Rattle.be_model.specs.Schemas.{Attributes}
 use Rattle.be_model.specs.Assigned.{value_at}
 use Rattle.be_expr.specs.declared.faults.ExprFault.{ExprFault}
-use Rattle.be_expr.specs.declared.faults.ExprFault.TheVariants.{Many}
+use Rattle.be_expr.specs.declared.faults.ExprFault.TheVariants.{Attr, Dom, Many}
 use Rattle.be_expr.specs.declared.faults.Faults.{Faults}
 use Rattle.be_expr.specs.declared.scan.Met.{Met}
-use Rattle.be_expr.specs.Written.{WrittenPred}
+use Rattle.be_expr.specs.Written.{WrittenOp, WrittenPred}
 use Rattle.be_expr.specs.Readings.{read_preds}
 use Rattle.be_expr.specs.Expressions.{unknown_attr, outside_domain, has_many_values, words_of, or_else}
 
@@ -49,6 +49,22 @@ met_with s o r = (met_in s o r.0, r.1)
 
 abbrev pub met_behind : Attributes → Option AttrNo → Met → List Text × List Lexeme → Met × List Lexeme
 met_behind s o m r = (joined_met m (met_in s o r.0), r.1)
+
+-- an operator with its values as what is met in these
+abbrev pub met_of_op : Attributes → Option AttrNo → WrittenOp × List Lexeme → Met × List Lexeme
+met_of_op s o r = (met_in s o (words_of r.0), r.1)
+
+-- what is wrong with a predicate on this attribute, where that is met in its values
+abbrev pub judged_pred : Text → Option AttrNo → Met → Faults
+judged_pred name o m = record {
+  preds = 1;
+  unknown = if is_none o then Some (Attr name) else None;
+  outside = option_and_then (λ a. if m.is_outside then Some (Dom a) else None) o;
+  large_set = if nat_lt 64 m.count then Some (Many m.count) else None
+}
+
+abbrev pub faults_with : Attributes → WrittenPred × List Lexeme → Faults × List Lexeme
+faults_with s r = (faults_of s (r.0 ∷ []), r.1)
 
 -- the predicates up to the end
 abbrev pub preds_in : List Lexeme → Option (List WrittenPred)
