@@ -2,9 +2,9 @@
 use Rattle.std.proofs.Common.{◌≡◌, Bool, true, false, List, [], ◌∷◌, Option, Some, None, option_map, option_and_then, codes, refl, sym, ◌∙◌, ap, if◌then◌else◌}
 use Rattle.be_base.specs.Text.{Text, same_text}
 use Rattle.be_base.specs.Tokens.{Lexeme, word, less, less_or_equal, equal, not_equal, greater_or_equal, greater, open_brace, close_brace, comma, blank, stray}
-use Rattle.be_expr.specs.Written.{WrittenOp, compared, between, among, not_among, WrittenPred, is_attr, is_operator}
-use Rattle.be_expr.specs.Readings.{Read, with_attr, with_value, read_values, read_set, read_not, read_between, read_worded, read_op, read_pred}
-use Rattle.be_expr.specs.Parts.{read_word, read_attr, after_word, after_brace, read_high, read_ends, read_brace, read_worded_opening, read_opening, read_head, read_value, with_values}
+use Rattle.be_expr.specs.Written.{WrittenOp, compared, between, among, not_among, WrittenPred, is_attr}
+use Rattle.be_expr.specs.Readings.{Read, with_attr, with_value, read_values, read_set, read_not, read_between, read_op, read_pred}
+use Rattle.be_expr.specs.Parts.{read_word, read_attr, after_word, read_ends, read_brace, read_opening, read_head, read_value, with_values}
 
 -- a word that was read first is the attribute where it may be one
 attr_of_word : (ts : List Lexeme) → read_attr ts ≡ option_and_then (λ (r : Text × List Lexeme). if is_attr r.0 then Some r else None) (read_word ts)

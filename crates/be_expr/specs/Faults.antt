@@ -1,5 +1,5 @@
 -- The faults of a condition, as they are gathered from left to right.
-use Rattle.std.specs.Prelude.{◌+◌, ◌||◌, Bool, false, List, [], ◌∷◌, length, nat_lt, Option, Some, None, option_map, option_and_then, if◌then◌else◌}
+use Rattle.std.specs.Prelude.{◌+◌, ◌||◌, Bool, false, List, [], ◌∷◌, length, nat_lt, Option, Some, None, option_and_then, if◌then◌else◌}
 use Rattle.std.specs.List.{list_any}
 use Rattle.std.specs.Option.{is_none, option_map_or}
 use Rattle.be_base.specs.Text.{Text}
