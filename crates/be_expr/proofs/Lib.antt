@@ -1,3 +1,4 @@
 pub mod Grammar
 pub mod InParts
 pub mod Gathered
+pub mod Joining

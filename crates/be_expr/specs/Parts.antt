@@ -11,6 +11,11 @@ use Rattle.be_expr.specs.declared.parts.Value.{Value}
 use Rattle.be_expr.specs.Written.{WrittenOp, compared, between, among, not_among, WrittenPred, is_operator, is_attr}
 use Rattle.be_expr.specs.Readings.{Read, with_attr, read_values}
 
+-- `all` alone
+abbrev pub is_all : List Lexeme → Bool
+is_all (word w ∷ []) = same_text w (codes "all")
+is_all _ = false
+
 abbrev pub read_word : List Lexeme → Read Text
 read_word (word w ∷ ts) = Some (w, ts)
 read_word _ = None
