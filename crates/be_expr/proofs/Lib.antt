@@ -1,6 +1,8 @@
 pub mod Grammar
 pub mod InParts
-pub mod Joining
+pub mod Pieces
 pub mod CanonicalTokens
 pub mod CanonicalMeaning
 pub mod ChangesRead
+pub mod Gathered
+pub mod Joining

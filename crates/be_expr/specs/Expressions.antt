@@ -1,5 +1,5 @@
 -- What the text of a condition means in a schema, or its first fault.
-use Rattle.std.specs.Prelude.{◌≡◌, ℤ, pos, Bool, false, List, [], ◌∷◌, length, map, find, nat_lt, int_lt, Option, Some, None, option_map, option_and_then, Result, Ok, Err, if◌then◌else◌}
+use Rattle.std.specs.Prelude.{◌≡◌, ℤ, pos, Bool, false, List, [], ◌∷◌, length, map, find, nat_lt, Option, Some, None, option_map, option_and_then, Result, Ok, Err, if◌then◌else◌}
 use Rattle.std.specs.List.{list_any}
 use Rattle.std.specs.Option.{is_none, option_map_or}
 use Rattle.be_base.specs.Text.{Text}
@@ -10,6 +10,7 @@ use Rattle.be_model.specs.declared.conditions.Op.TheVariants.{Lt, Le, Eq, Ne, Ge
 use Rattle.be_model.specs.declared.conditions.Pred.{Pred}
 use Rattle.be_model.specs.Schemas.{Attributes, numbered, attribute_named}
 use Rattle.be_model.specs.Assigned.{value_at}
+use Rattle.be_model.specs.Forms.{put_value}
 use Rattle.be_expr.specs.Written.{WrittenOp, compared, between, among, not_among, WrittenPred}
 use Rattle.be_expr.specs.Readings.{written}
 use Rattle.be_expr.specs.declared.faults.ExprFault.{ExprFault}
@@ -55,11 +56,6 @@ or_else None next = next
 -- the first fault, in the order of the kinds
 abbrev pub fault_in : Attributes → List WrittenPred → Option ExprFault
 fault_in s ps = or_else (unknown_attr s ps) (or_else (outside_domain s ps) (too_many ps))
-
--- a value put among rising ones, where it doesn't stand yet
-abbrev pub put_value : ℤ → List ℤ → List ℤ
-put_value v [] = v ∷ []
-put_value v (x ∷ xs) = if int_lt v x then v ∷ x ∷ xs else (if int_lt x v then x ∷ put_value v xs else x ∷ xs)
 
 -- the different values, rising
 abbrev pub rising : List ℤ → List ℤ

@@ -9,7 +9,12 @@ use Rattle.be_expr.specs.declared.parts.Opening.TheVariants.{Compared, Between, 
 use Rattle.be_expr.specs.declared.parts.Head.{Head}
 use Rattle.be_expr.specs.declared.parts.Value.{Value}
 use Rattle.be_expr.specs.Written.{WrittenOp, compared, between, among, not_among, WrittenPred, is_operator, is_attr}
-use Rattle.be_expr.specs.Readings.{Read, with_attr}
+use Rattle.be_expr.specs.Readings.{Read, with_attr, read_values}
+
+-- `all` alone
+abbrev pub is_all : List Lexeme → Bool
+is_all (word w ∷ []) = same_text w (codes "all")
+is_all _ = false
 
 abbrev pub read_word : List Lexeme → Read Text
 read_word (word w ∷ ts) = Some (w, ts)
@@ -70,6 +75,13 @@ read_end [] = Some None
 read_end (word w ∷ ts) = if same_text w (codes "and") then Some (Some ts) else None
 read_end _ = None
 
+-- an operator, with the values that are left where it is of a set
+abbrev pub with_values : WrittenOp → Option (List Lexeme) → Read WrittenOp
+with_values (compared operator v) left = option_map (λ ts. (compared operator v, ts)) left
+with_values (between v w) left = option_map (λ ts. (between v w, ts)) left
+with_values (among vs) left = option_map (λ r. (among r.0, r.1)) (option_and_then read_values left)
+with_values (not_among vs) left = option_map (λ r. (not_among r.0, r.1)) (option_and_then read_values left)
+
 -- what a scan found, and the tokens of the text that it left
 abbrev pub following : {X Y : Type 0} → (X → Y) → Option (X × Bor Text) → Read Y
 following plain None = None
@@ -85,7 +97,7 @@ plain_opening Among = among []
 plain_opening NotAmong = not_among []
 
 abbrev pub plain_head : Head → WrittenPred
-plain_head head = record { attr = head.attr.now; op = plain_opening head.opening }
+plain_head head = record { attr = head.attr; op = plain_opening head.opening }
 
 abbrev pub plain_value : Value → Text × Bool
 plain_value value = (value.word.now, value.is_last)

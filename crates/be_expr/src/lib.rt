@@ -4,6 +4,7 @@
 mod faults;
 pub mod laws;
 mod parts;
+mod scan;
 mod writing;
 
 pub use faults::ExprFault;

@@ -1,11 +1,11 @@
 //! The parts of a condition's text: each function reads one from the front of a text.
 
-ghost use Rattle.std.specs.Prelude.{◌≡◌, ◌<◌, length, Some, None, option_map, option_and_then, IfSome};
+ghost use Rattle.std.specs.Prelude.{◌≡◌, ◌<◌, length, Some, None, option_and_then, IfSome, if◌then◌else◌};
 ghost use Rattle.be_base.specs.Text.{same_text};
 ghost use Rattle.be_base.specs.Tokens.{tokens};
 ghost use Rattle.be_base.specs.Scans.{lexeme};
 ghost use Rattle.be_expr.specs.Written.{is_attr, is_operator};
-ghost use Rattle.be_expr.specs.Parts.{read_word, after_word, after_brace, read_attr, read_high, read_ends, read_opening, read_worded_opening, read_head, read_value, read_end, following, now_of, plain_opening, plain_head, plain_value, end_of};
+ghost use Rattle.be_expr.specs.Parts.{read_word, after_word, after_brace, read_high, read_ends, read_opening, read_worded_opening, read_head, read_value, read_end, following, now_of, plain_opening, plain_head, plain_value, end_of};
 
 use be_base::{Name, Scan, Token, next_token};
 use be_model::is_reserved;
@@ -22,7 +22,7 @@ pub enum Opening<'a> {
 /// A predicate, but that the values of a set follow.
 #[derive(Clone, Copy)]
 pub struct Head<'a> {
-    pub attr: &'a [u8],
+    pub attr: Name,
     pub opening: Opening<'a>,
 }
 
@@ -38,7 +38,8 @@ pub fn read_head(text: &[u8]) -> Option<(Head<'_>, &[u8])>
     ensures head { following plain_head result ≡ option_and_then read_head (tokens text.now) }
     ensures shorter { IfSome result (λ r. length r.1.now < length text.now) }
 {
-    let (attr, rest) = read_attr(text)?;
+    let (word, rest) = read_word(text)?;
+    let attr = attr_name(word)?;
     let (opening, rest) = read_opening(rest)?;
     Some((Head { attr, opening }, rest))
 }
@@ -69,25 +70,13 @@ pub fn read_end(text: &[u8]) -> Option<Option<&[u8]>>
     }
 }
 
-fn read_attr(text: &[u8]) -> Option<(&[u8], &[u8])>
-    ensures attr { following now_of result ≡ option_and_then read_attr (tokens text.now) }
-    ensures shorter { IfSome result (λ r. length r.1.now < length text.now) }
-{
-    let (word, rest) = read_word(text)?;
-    if is_attr(word) {
-        Some((word, rest))
-    } else {
-        None
-    }
-}
-
-// Whether an attribute may have the word as its name.
-fn is_attr(word: &[u8]) -> bool
-    ensures { result ≡ is_attr word.now }
+// The word as the name of an attribute.
+fn attr_name(word: &[u8]) -> Option<Name>
+    ensures { result ≡ (if is_attr word.now then Some word.now else None) }
 {
     match Name::read(word) {
-        Ok(name) => !is_reserved(&name),
-        Err(_) => false,
+        Ok(name) if !is_reserved(&name) => Some(name),
+        _ => None,
     }
 }
 

@@ -11,3 +11,4 @@ pub mod AssignedValues
 pub mod Examples
 pub mod ReadBack
 pub mod NamePlaces
+pub mod Putting
