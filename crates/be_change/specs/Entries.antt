@@ -3,14 +3,9 @@ use Rattle.std.specs.Prelude.{◌≡◌, ℕ, ◌+◌, ◌-◌, ◌≤◌, List,
 use Rattle.std.specs.Arc.{arc_value}
 use Rattle.std.specs.declared.sync.Arc.{Arc}
 use Rattle.be_model.specs.declared.changes.Change.{Change}
-use Rattle.be_model.specs.declared.changes.Change.TheVariants.{Sub, Unsub, Bye}
 use Rattle.be_model.specs.declared.changes.Row.{Row}
+pub use Rattle.be_model.specs.Entries.{entry_of}
 use Rattle.be_change.specs.History.{Entry, subscribed, unsubscribed, left}
-
-abbrev pub entry_of : Change → Entry
-entry_of (Sub k n row) = subscribed k.0 n (arc_value row)
-entry_of (Unsub k n name) = unsubscribed k.0 n name
-entry_of (Bye k n) = left k.0 n
 
 abbrev pub entries_in : {Z : Type 0} → List (Arc Change Z) → List Entry
 entries_in xs = map (λ x. entry_of (arc_value x)) xs

@@ -2,15 +2,9 @@
 use Rattle.std.specs.Prelude.{◌≡◌, ℕ, ◌+◌, ◌==◌, ◌&&◌, Bool, true, false, not, List, [], ◌∷◌, ◌++◌, length, map, filter, if◌then◌else◌}
 use Rattle.std.specs.List.{list_any}
 pub use Rattle.be_base.specs.Text.{Text, same_text}
+pub use Rattle.be_model.specs.Entries.{Entry, subscribed, unsubscribed, left}
 use Rattle.be_model.specs.declared.changes.Row.{Row}
 use Rattle.be_model.specs.Matching.{Assignments, satisfies}
-
--- a change: who made it, as which of its own from 0, and what it is
-pub data Entry : Type 0 where
-  subscribed : (session serial : ℕ) → Row → Entry
-  unsubscribed : (session serial : ℕ) → Text → Entry
-  -- the session's Bye
-  left : (session serial : ℕ) → Entry
 
 abbrev pub session_of : Entry → ℕ
 session_of (subscribed k n row) = k

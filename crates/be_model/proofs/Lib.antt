@@ -9,4 +9,6 @@ pub mod InSchema
 pub mod Orders
 pub mod AssignedValues
 pub mod Examples
+pub mod ReadBack
 pub mod NamePlaces
+pub mod Putting

@@ -9,3 +9,5 @@ pub mod Forms
 pub mod Rows
 pub mod Laws
 pub mod Assigned
+pub mod Entries
+pub mod Texts

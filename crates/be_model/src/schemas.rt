@@ -266,10 +266,11 @@ impl Schema {
         !self.is_full() && !self.has(name) && !is_reserved(name) && domain.is_valid()
     }
 
-    fn attribute(&self, a: AttrNo) -> &Attribute
+    pub(crate) fn attribute(&self, a: AttrNo) -> &Attribute
         requires { a.0 < length self.now }
         ensures there { attribute_at self.now a ≡ Some result.now }
         ensures valid { is_domain result.now.domain ≡ true }
+        ensures form { IsSchema self.now }
     {
         &self.attributes[usize::from(a.0)]
     }
