@@ -1,3 +1,5 @@
+pub mod Grammar
+pub mod RoundTrip
 pub mod SchemaForms
 pub mod Items
 pub mod FirstLines
