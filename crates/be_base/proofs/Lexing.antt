@@ -108,7 +108,7 @@ word_unpaired : (b : ℕ) → is_word_byte b ≡ true → is_paired b ≡ false
 unfolding is_word_byte
 word_unpaired b h = grind (arith, nat_tests)
 
-lexemes_word : (b : ℕ) (text rest : Text) → is_word_byte b ≡ true → list_all is_word_byte text ≡ true → starts_with is_word_byte rest ≡ false
+pub lexemes_word : (b : ℕ) (text rest : Text) → is_word_byte b ≡ true → list_all is_word_byte text ≡ true → starts_with is_word_byte rest ≡ false
     → lexemes (b ∷ (text ++ rest)) ≡ word (b ∷ text) ∷ lexemes rest
 lexemes_word b [] rest h t r =
     put_alone b (lexemes rest) (inr (lexemes_no_word rest r)) (inl (word_unpaired b h)) ∙ rw h refl

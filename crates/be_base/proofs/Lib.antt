@@ -2,3 +2,5 @@ pub mod SameText
 pub mod NameForms
 pub mod Lexing
 pub mod Scanning
+pub mod Joined
+pub mod Decimals

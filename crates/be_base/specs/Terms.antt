@@ -1,7 +1,7 @@
 -- Two words with an operator between them.
-use Rattle.std.specs.Prelude.{◌≡◌, Bool, true, false, List, [], ◌∷◌, Option, Some, None, option_map}
+use Rattle.std.specs.Prelude.{List, [], ◌∷◌, Option, Some, None}
 use Rattle.be_base.specs.Text.{Text}
-use Rattle.be_base.specs.Tokens.{Lexeme, word, tokens, put_token}
+use Rattle.be_base.specs.Tokens.{Lexeme, word}
 use Rattle.be_base.specs.Scans.{lexeme}
 use Rattle.be_base.specs.declared.terms.Term.{Term}
 

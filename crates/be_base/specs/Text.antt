@@ -24,6 +24,11 @@ is_word_byte b =
 abbrev pub is_stray : ℕ → Bool
 is_stray b = not (is_word_byte b)
 
+-- one or more bytes of a word
+pub record IsWord (text : Text) : Type 0 where
+  pub some : 0 < length text
+  pub bytes : list_all is_word_byte text ≡ true
+
 -- the form of a name
 pub record IsName (text : Text) : Type 0 where
   pub some : 0 < length text

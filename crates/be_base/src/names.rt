@@ -36,6 +36,12 @@ pub struct SessionNo(pub u64);
 #[error("out of memory")]
 pub struct NoMemory;
 
+impl From<AllocError> for NoMemory {
+    fn from(_: AllocError) -> NoMemory {
+        NoMemory
+    }
+}
+
 /// Why a read was refused.
 #[derive(Clone, Copy, Debug, PartialEq, Eq, Error)]
 pub enum NoRead {

@@ -1,6 +1,7 @@
 -- The lines of a text, by its first line.
-use Rattle.std.proofs.Common.{◌≡◌, ℕ, zero, suc, ◌+◌, ◌-◌, ◌<◌, ◌≤◌, ◌==◌, ◌||◌, Bool, true, false, [], ◌∷◌, ◌++◌, length, take, drop, get_or, refl, sym, ap, ◌∙◌, arith, length-drop}
+use Rattle.std.proofs.Common.{◌≡◌, ℕ, zero, suc, ◌+◌, ◌-◌, ◌<◌, ◌≤◌, ◌==◌, ◌||◌, Bool, true, false, [], ◌∷◌, ◌++◌, length, take, drop, get_or, map, refl, sym, ap, ◌∙◌, arith, length-drop}
 use Rattle.std.proofs.lemmas.List.{take_all}
+use Rattle.std.specs.Str.Lines.{strip_carriage_return}
 use Rattle.be_base.specs.Text.{Text}
 use Rattle.be_io.specs.Lines.{has_lf, closed_lines, open_line, last_line, put_first}
 use Rattle.be_event.specs.SchemaTexts.{text_lines}
@@ -29,11 +30,11 @@ lf_at (suc n) (b ∷ text) within none here =
     lf_later b text n k.0 (lf_at n text (omega arith) k.1 here)
 
 lines_closed : (text : Text) (n : ℕ) → n < length text → has_lf (take n text) ≡ false → (get_or text n 0 == 10) ≡ true
-    → text_lines text ≡ take n text ∷ text_lines (drop (suc n) text)
+    → text_lines text ≡ strip_carriage_return (take n text) ∷ text_lines (drop (suc n) text)
 lines_closed text n within none here =
     let k = lf_at n text within none here in
-    ap (λ lines. lines ++ last_line true (open_line text)) k.closed
-    ∙ ap (λ end. take n text ∷ (closed_lines (drop (suc n) text) ++ last_line true end)) k.open_end
+    ap (λ lines. map (λ line. strip_carriage_return line) lines ++ last_line true (open_line text)) k.closed
+    ∙ ap (λ end. strip_carriage_return (take n text) ∷ (map (λ line. strip_carriage_return line) (closed_lines (drop (suc n) text)) ++ last_line true end)) k.open_end
 
 rest_is : (text : Text) (n : ℕ) → n < length text → drop (suc n) text ≡ take (length text - (n + 1)) (drop (n + 1) text)
 rest_is text n within =
@@ -41,11 +42,12 @@ rest_is text n within =
     ap (λ m. drop m text) e ∙ sym (take_all (length text - (n + 1)) (drop (n + 1) text) (omega (arith, length-drop (n + 1) text)))
 
 -- a text whose first LF stands at this place
-pub text_lines_closed : (text : Text) (n : ℕ) → n < length text → has_lf (take n text) ≡ false → get_or text n 0 ≡ 10
-    → text_lines text ≡ take n text ∷ text_lines (take (length text - (n + 1)) (drop (n + 1) text))
-text_lines_closed text n within none here =
+pub text_lines_closed : (text line : Text) (n : ℕ) → n < length text → has_lf (take n text) ≡ false → get_or text n 0 ≡ 10 → line ≡ strip_carriage_return (take n text)
+    → text_lines text ≡ line ∷ text_lines (take (length text - (n + 1)) (drop (n + 1) text))
+text_lines_closed text line n within none here is =
     lines_closed text n within none (ap (λ b. b == 10) here)
-    ∙ ap (λ rest. take n text ∷ text_lines rest) (rest_is text n within)
+    ∙ ap (λ rest. strip_carriage_return (take n text) ∷ text_lines rest) (rest_is text n within)
+    ∙ ap (λ l. l ∷ text_lines (take (length text - (n + 1)) (drop (n + 1) text))) (sym is)
 
 no_closed : (text : Text) → has_lf text ≡ false → closed_lines text ≡ []
 no_closed [] none = refl
@@ -57,7 +59,7 @@ lines_open : (text : Text) → 0 < length text → has_lf text ≡ false → tex
 lines_open [] some none = absurd (omega arith)
 lines_open (b ∷ text) some none =
     let e : open_line (b ∷ text) ≡ b ∷ text = rw none refl in
-    ap (λ lines. lines ++ last_line true (open_line (b ∷ text))) (no_closed (b ∷ text) none)
+    ap (λ lines. map (λ line. strip_carriage_return line) lines ++ last_line true (open_line (b ∷ text))) (no_closed (b ∷ text) none)
     ∙ ap (λ end. last_line true end) e
 
 -- a text without an LF is one line

@@ -1,4 +1,9 @@
-pub mod ItemLies
-pub mod FirstLines
-pub mod DeclaredNames
+pub mod Grammar
+pub mod RoundTrip
 pub mod SchemaForms
+pub mod Items
+pub mod FirstLines
+pub mod WordLemmas
+pub mod Scans
+pub mod Built
+pub mod Readings

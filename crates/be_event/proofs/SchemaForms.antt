@@ -1,102 +1,333 @@
--- Schemas that grow by an attribute at a time.
-use Rattle.std.proofs.Common.{◌≡◌, ℕ, suc, ◌+◌, ◌<◌, leb, ltb, Bool, true, false, cond, not, ◌&&◌, ◌||◌, List, [], ◌∷◌, ◌++◌, length, take, drop, get_or, Option, Some, None, option_and_then, refl, sym, ap, subst, ◌∙◌, arith, length-append, append_assoc}
-use Rattle.std.proofs.Math.Seq.{split_at}
-use Rattle.std.specs.List.{list_all}
+-- What the lines of a schema's text declare.
+use Rattle.std.proofs.Common.{◌≡◌, ◌⊎◌, inl, inr, ℕ, ℤ, zero, suc, ◌+◌, ◌<◌, ◌≤◌, leb, ltb, Bool, true, false, cond, not, ◌&&◌, ◌||◌, List, [], ◌∷◌, ◌++◌, length, map, is_some, Option, Some, None, option_map, option_and_then, Result, Ok, Err, codes, refl, sym, ap, subst, ◌∙◌, arith}
+use Rattle.std.specs.List.{list_all, list_any}
 use Rattle.std.proofs.lemmas.Bool.Decides.{nat_tests}
 use Rattle.std.proofs.lemmas.List.{map-append, length-map}
-use Rattle.std.proofs.lemmas.List.Folds.{list_any-append, list_all-append}
-use Rattle.be_base.specs.Text.{Text, same_text}
+use Rattle.be_base.specs.Text.{Text, same_text, name_of}
+use Rattle.be_base.specs.Numbers.{int_of}
+use Rattle.be_base.proofs.NameForms.{IsName-from_name_of}
 use Rattle.be_model.specs.declared.schemas.Attribute.{Attribute}
-use Rattle.be_base.specs.Tokens.{tokens}
 use Rattle.be_model.specs.declared.schemas.Domain.{Domain}
-use Rattle.be_model.specs.Schemas.{Attributes, IsSchema, attribute_of, names_of_attributes, is_among_texts, all_differ, is_domain, takes, reserved_words}
-use Rattle.be_model.proofs.Attributes.{and_left, and_right, IsSchema-push}
-use Rattle.be_event.specs.declared.schema_texts.Declaration.{Declaration}
-use Rattle.be_event.specs.SchemaTexts.{int_line, declared_by, may_follow, allowed, attribute_on, on_attribute, schema_from, text_lines, schema_of}
-use Rattle.be_event.specs.Declarations.{attribute, attributes}
+use Rattle.be_model.specs.declared.schemas.Domain.TheVariants.{Int, Sym}
+use Rattle.be_model.specs.Schemas.{Attributes, IsSchema, attribute_of, names_of_attributes, reserved_words, is_among_texts, all_differ, is_domain, takes}
+use Rattle.be_model.proofs.Attributes.{and_both, IsSchema-push}
+use Rattle.be_event.specs.Written.{is_name}
+use Rattle.be_event.specs.SchemaTexts.{words, is_remark, means_nothing, int_domain, sym_domain, domain_of, declared, repeats, is_out_of_range, has_many, first_kind, kind_of, judged, judge, declaration, after_line, schema_from, text_lines, schema_of}
+use Rattle.be_event.specs.Declarations.{names_declared, declared_on, flaws_of, flawed, JudgesWords}
+use Rattle.be_event.specs.declared.schema_texts.Declared.{Declared}
+use Rattle.be_event.specs.declared.schema_texts.Flaws.{Flaws}
+use Rattle.be_event.specs.declared.schema_texts.Judged.TheVariants.{Nothing, Fault, Declares}
+use Rattle.be_event.specs.declared.schema_texts.SchemaFault.{SchemaFault}
+use Rattle.be_event.specs.declared.schema_texts.SchemaFault.TheVariants.{Line}
+use Rattle.be_event.specs.declared.schema_texts.SchemaKind.{SchemaKind}
+use Rattle.be_event.specs.declared.schema_texts.SchemaKind.TheVariants.{Form, Reserved, Twice, Range, Many}
 
-not_or : (a b c : Bool) → (not (a || b) && c) ≡ true → (a ≡ false) × (c ≡ true)
-not_or false b c h = (refl, and_right (not b) c h)
-not_or true b c h = absurd (cc)
+pub count_declared : (ds : List Declared) → length (names_declared ds) ≡ length ds
+count_declared ds = length-map ds (λ (d : Declared). d.0)
 
-list_all_front : {X : Type 0} (p : X → Bool) (xs ys : List X) → list_all p (xs ++ ys) ≡ true → list_all p xs ≡ true
-list_all_front p xs ys h = and_left (list_all p xs) (list_all p ys) (sym (list_all-append p xs ys) ∙ h)
+pub name_declared : (ds : List Declared) (name : Text) → is_among_texts name (names_declared ds) ≡ list_any (λ (d : Declared). same_text d.0 name) ds
+name_declared [] name = refl
+name_declared (d ∷ ds) name = ap (λ b. same_text d.0 name || b) (name_declared ds name)
 
-all_differ_front : (xs ys : List Text) → all_differ (xs ++ ys) ≡ true → all_differ xs ≡ true
-all_differ_front [] ys h = refl
-all_differ_front (x ∷ xs) ys h =
-    let e = list_any-append (λ other. same_text other x) xs ys in
-    let k = not_or (is_among_texts x xs) (is_among_texts x ys) (all_differ (xs ++ ys)) (ap (λ b. not b && all_differ (xs ++ ys)) (sym e) ∙ h) in
-    rw k.0 (all_differ_front xs ys k.1)
+sym_by : (b : Bool) (w : Text) (ws : List Text) → is_some (cond b (Some (Sym (w ∷ ws))) None) ≡ true → cond b (Some (Sym (w ∷ ws))) None ≡ Some (Sym (w ∷ ws))
+sym_by true w ws h = refl
+sym_by false w ws h = absurd (cc)
 
-names-append : (s t : Attributes) → names_of_attributes (s ++ t) ≡ names_of_attributes s ++ names_of_attributes t
-names-append s t = map-append (λ (a : Attribute). a.name) s t
+-- symbols are the words
+pub sym_some : (ws : List Text) → is_some (sym_domain ws) ≡ true → sym_domain ws ≡ Some (Sym ws)
+sym_some [] h = absurd (cc)
+sym_some (w ∷ ws) h = sym_by (list_all (λ x. is_name (name_of x)) (w ∷ ws)) w ws h
 
--- the front of a schema is a schema
-pub IsSchema-front : (s t : Attributes) → IsSchema (s ++ t) → IsSchema s
-IsSchema-front s t f =
+all_by : (b : Bool) (w : Text) (ws : List Text) → is_some (cond b (Some (Sym (w ∷ ws))) None) ≡ true → b ≡ true
+all_by true w ws h = refl
+all_by false w ws h = absurd (cc)
+
+-- and each is a name
+pub sym_names : (ws : List Text) → is_some (sym_domain ws) ≡ true → list_all (λ x. is_name (name_of x)) ws ≡ true
+sym_names [] h = absurd (cc)
+sym_names (w ∷ ws) h = all_by (list_all (λ x. is_name (name_of x)) (w ∷ ws)) w ws h
+
+-- what is declared, where the domain has flaws to be looked at
+flawed_domain : (o : Option Domain) (f : Flaws) → Some f ≡ option_map flaws_of o → (d : Domain) × (o ≡ Some d) × (f ≡ flaws_of d)
+flawed_domain None f h = absurd (cc)
+flawed_domain (Some d) f h = (d, refl, cc)
+
+no_domain : (o : Option Domain) → None ≡ option_map flaws_of o → o ≡ None
+no_domain None h = refl
+no_domain (Some d) h = absurd (cc)
+
+record LineIs (ws : List Text) (kind name : Text) (rest : List Text) : Type 0 where
+  is : ws ≡ kind ∷ name ∷ rest
+  shown : is_remark kind ≡ false
+  named : is_name (name_of name) ≡ true
+
+line_is : (ws ws' rest : List Text) (kind text name : Text) → ws ≡ kind ∷ ws' → ws' ≡ text ∷ rest → is_remark kind ≡ false → Ok name ≡ name_of text → LineIs ws kind text rest
+line_is ws ws' rest kind text name a b r n = record { is = rw (a, b) refl; shown = r; named = rw (← n) refl }
+
+declared_as : (ws rest : List Text) (kind name : Text) (d : Domain) → LineIs ws kind name rest → domain_of kind rest ≡ Some d → declared ws ≡ Some (attribute_of name d)
+declared_as ws rest kind name d l h = rw (l.is, l.named, h) refl
+
+means_something : (ws rest : List Text) (kind name : Text) → LineIs ws kind name rest → means_nothing ws ≡ false
+means_something ws rest kind name l = rw l.is l.shown
+
+-- a line whose words say no domain
+pub says_no_domain : (names ws ws' rest : List Text) (kind text name : Text) → ws ≡ kind ∷ ws' → ws' ≡ text ∷ rest → is_remark kind ≡ false → Ok name ≡ name_of text
+    → None ≡ option_map flaws_of (domain_of kind rest) → (means_nothing ws ≡ false) × (declaration names ws ≡ Err Form)
+says_no_domain names ws ws' rest kind text name a b r n h =
+    let l = line_is ws ws' rest kind text name a b r n in
+    (means_something ws rest kind text l, ap (λ (x : List Text). declaration names x) l.is ∙ rw (l.named, no_domain (domain_of kind rest) h) refl)
+
+flawed_is : (names : List Text) (text name : Text) (d : Domain) (f : Flaws) (o : Option SchemaKind) → name ≡ text → f ≡ flaws_of d → o ≡ flawed names name f → kind_of names (attribute_of text d) ≡ o
+flawed_is names text name d f o e g h = sym (h ∙ ap (λ (x : Text). flawed names x f) e ∙ ap (flawed names text) g)
+
+judged_is : (names ws ws' rest : List Text) (kind text name : Text) (f : Flaws) (o : Option SchemaKind) → ws ≡ kind ∷ ws' → ws' ≡ text ∷ rest → is_remark kind ≡ false → Ok name ≡ name_of text
+    → Some f ≡ option_map flaws_of (domain_of kind rest) → o ≡ flawed names name f
+    → (means_nothing ws ≡ false) × (a : Attribute) × (declaration names ws ≡ judged a o) × (a.name ≡ name)
+judged_is names ws ws' rest kind text name f o a b r n h k =
+    let l = line_is ws ws' rest kind text name a b r n in
+    let d = flawed_domain (domain_of kind rest) f h in
+    let same = (IsName-from_name_of text name (sym n)).0 in
+    ( means_something ws rest kind text l
+    , attribute_of text d.0
+    , ap (judge names) (declared_as ws rest kind text d.0 l d.1) ∙ ap (judged (attribute_of text d.0)) (flawed_is names text name d.0 f o same d.2 k)
+    , sym same )
+
+-- a line that declares an attribute with a fault
+pub says_fault : (names ws ws' rest : List Text) (kind text name : Text) (f : Flaws) (fault : SchemaKind) → ws ≡ kind ∷ ws' → ws' ≡ text ∷ rest → is_remark kind ≡ false → Ok name ≡ name_of text
+    → Some f ≡ option_map flaws_of (domain_of kind rest) → Some fault ≡ flawed names name f → (means_nothing ws ≡ false) × (declaration names ws ≡ Err fault)
+says_fault names ws ws' rest kind text name f fault a b r n h k =
+    let j = judged_is names ws ws' rest kind text name f (Some fault) a b r n h k in (j.0, j.2)
+
+-- a line that declares an attribute without any
+pub says_attribute : (names ws ws' rest : List Text) (kind text name : Text) (f : Flaws) → ws ≡ kind ∷ ws' → ws' ≡ text ∷ rest → is_remark kind ≡ false → Ok name ≡ name_of text
+    → Some f ≡ option_map flaws_of (domain_of kind rest) → None ≡ flawed names name f
+    → (means_nothing ws ≡ false) × (a : Attribute) × (declaration names ws ≡ Ok a) × (a.name ≡ name)
+says_attribute names ws ws' rest kind text name f a b r n h k =
+    judged_is names ws ws' rest kind text name f None a b r n h k
+
+-- one line after another
+pub schema_from-nothing : (n : ℕ) (s : Attributes) (line : Text) (lines : List Text) → means_nothing (words line) ≡ true → schema_from n s (line ∷ lines) ≡ schema_from (n + 1) s lines
+schema_from-nothing n s line lines h = rw h refl
+
+pub schema_from-fault : (n : ℕ) (s : Attributes) (line : Text) (lines : List Text) (kind : SchemaKind) → means_nothing (words line) ≡ false → declaration (names_of_attributes s) (words line) ≡ Err kind
+    → schema_from n s (line ∷ lines) ≡ Err (Line n kind)
+schema_from-fault n s line lines kind h k = rw (h, k) refl
+
+pub schema_from-declares : (n : ℕ) (s : Attributes) (line : Text) (lines : List Text) (a : Attribute) → means_nothing (words line) ≡ false → declaration (names_of_attributes s) (words line) ≡ Ok a
+    → schema_from n s (line ∷ lines) ≡ schema_from (n + 1) (s ++ a ∷ []) lines
+schema_from-declares n s line lines a h k = rw (h, k) refl
+
+-- a line of symbols
+pub says_symbols : (kind : Text) (ws names : List Text) → same_text kind (codes "int") ≡ false → same_text kind (codes "sym") ≡ true → is_some (sym_domain ws) ≡ true → names ≡ ws
+    → Some (Sym names) ≡ domain_of kind ws
+says_symbols kind ws names i k some e = rw (i, k, e) (sym (sym_some ws some))
+
+-- the kinds by their tests
+none_of : (reserved twice range many : Bool) → first_kind reserved twice range many ≡ None → (reserved ≡ false) × (twice ≡ false) × (range ≡ false) × (many ≡ false)
+none_of true twice range many h = absurd (cc)
+none_of false true range many h = absurd (cc)
+none_of false false true many h = absurd (cc)
+none_of false false false true h = absurd (cc)
+none_of false false false false h = (refl, refl, refl, refl)
+
+or_false : (a b : Bool) → (a || b) ≡ false → (a ≡ false) × (b ≡ false)
+or_false true b h = absurd (cc)
+or_false false b h = (refl, h)
+
+double : (b : Bool) → not b ≡ false → b ≡ true
+double true h = refl
+double false h = absurd (cc)
+
+-- the domain of a line has a word where it has words
+abbrev pub HasWord : Domain → Type 0
+HasWord (Int lo hi) = Unit {0}
+HasWord (Sym words) = 0 < length words
+
+enough : (n : ℕ) → 0 < n → ltb 4096 n ≡ false → (leb 1 n ≡ true) × (leb n 4096 ≡ true)
+enough n h k = (grind (arith, nat_tests), grind (arith, nat_tests))
+
+valid : (d : Domain) → HasWord d → repeats d ≡ false → is_out_of_range d ≡ false → has_many d ≡ false → is_domain d ≡ true
+valid (Int lo hi) w a b c = double (is_domain (Int lo hi)) b
+valid (Sym words) w a b c =
+    let k = enough (length words) w c in
+    and_both (leb 1 (length words) && leb (length words) 4096) (all_differ words) (and_both (leb 1 (length words)) (leb (length words) 4096) k.0 k.1) (double (all_differ words) a)
+
+-- an attribute without fault may be put last
+pub may_be_put : (s : Attributes) (a : Attribute) → IsSchema s → HasWord a.domain → kind_of (names_of_attributes s) a ≡ None → IsSchema (s ++ a ∷ [])
+may_be_put s a f w h =
+    let k = none_of _ _ _ _ h in
+    let twice = or_false (is_among_texts a.name (names_of_attributes s)) (repeats a.domain) k.1 in
+    let many = or_false (leb 256 (length (names_of_attributes s))) (has_many a.domain) k.3 in
+    let room : leb 256 (length s) ≡ false = ap (λ n. leb 256 n) (sym (length-map s (λ (x : Attribute). x.name))) ∙ many.0 in
+    let d = valid a.domain w twice.1 k.2 many.1 in
+    IsSchema-push s a.name a.domain f (rw (room, twice.0, k.0, d) refl)
+
+-- what a line says, where it says it
+on_by : (b : Bool) (o : Option Attribute) (a : Attribute) → Some a ≡ cond b None o → (b ≡ false) × (o ≡ Some a)
+on_by true o a h = absurd (cc)
+on_by false o a h = (refl, sym h)
+
+off_by : (b : Bool) (o : Option Attribute) → None ≡ cond b None o → (b ≡ true) ⊎ (o ≡ None)
+off_by true o h = inl refl
+off_by false o h = inr (sym h)
+
+has_bounds : (o : Option ℤ) (lo : ℤ) (d : Domain) → option_map (λ h. Int lo h) o ≡ Some d → HasWord d
+has_bounds None lo d h = absurd (cc)
+has_bounds (Some hi) lo d h = let is : Int lo hi ≡ d = cc in subst (λ (x : Domain). HasWord x) is tt
+
+ints_said : (o : Option ℤ) (hi : Text) (d : Domain) → option_and_then (λ l. option_map (λ h. Int l h) (int_of hi)) o ≡ Some d → HasWord d
+ints_said None hi d h = absurd (cc)
+ints_said (Some lo) hi d h = has_bounds (int_of hi) lo d h
+
+int_said : (ws : List Text) (d : Domain) → int_domain ws ≡ Some d → HasWord d
+int_said (lo ∷ hi ∷ []) d h = ints_said (int_of lo) hi d h
+int_said ws d h = absurd (cc)
+
+syms_said : (b : Bool) (w : Text) (ws : List Text) (d : Domain) → cond b (Some (Sym (w ∷ ws))) None ≡ Some d → HasWord d
+syms_said true w ws d h = let is : Sym (w ∷ ws) ≡ d = cc in let some : 0 < length (w ∷ ws) = omega arith in subst (λ (x : Domain). HasWord x) is some
+syms_said false w ws d h = absurd (cc)
+
+sym_said : (ws : List Text) (d : Domain) → sym_domain ws ≡ Some d → HasWord d
+sym_said [] d h = absurd (cc)
+sym_said (w ∷ ws) d h = syms_said (list_all (λ x. is_name (name_of x)) (w ∷ ws)) w ws d h
+
+domain_said : (a b : Bool) (ws : List Text) (d : Domain) → cond a (int_domain ws) (cond b (sym_domain ws) None) ≡ Some d → HasWord d
+domain_said true b ws d h = int_said ws d h
+domain_said false true ws d h = sym_said ws d h
+domain_said false false ws d h = absurd (cc)
+
+named_said : (o : Option Domain) (name : Text) (a : Attribute) → ((d : Domain) → o ≡ Some d → HasWord d) → option_map (attribute_of name) o ≡ Some a → HasWord a.domain
+named_said None name a said h = absurd (cc)
+named_said (Some d) name a said h = let is : attribute_of name d ≡ a = cc in subst (λ (x : Attribute). HasWord x.domain) is (said d refl)
+
+line_said : (b : Bool) (kind name : Text) (ws : List Text) (a : Attribute) → cond b (option_map (attribute_of name) (domain_of kind ws)) None ≡ Some a → HasWord a.domain
+line_said true kind name ws a h = named_said (domain_of kind ws) name a (domain_said (same_text kind (codes "int")) (same_text kind (codes "sym")) ws) h
+line_said false kind name ws a h = absurd (cc)
+
+-- an attribute that a line declares has a word, where it has words
+declared_said : (ws : List Text) (a : Attribute) → declared ws ≡ Some a → HasWord a.domain
+declared_said [] a h = absurd (cc)
+declared_said (kind ∷ []) a h = absurd (cc)
+declared_said (kind ∷ name ∷ ws) a h = line_said (is_name (name_of name)) kind name ws a h
+
+judge_by : (o : Option SchemaKind) (a x : Attribute) → judged a o ≡ Ok x → (o ≡ None) × (a ≡ x)
+judge_by None a x h = (refl, cc)
+judge_by (Some kind) a x h = absurd (cc)
+
+-- the scan of a text, as far as it came
+pub record Scanned (text rest : Text) (number : ℕ) (names : List Text) : Type 0 where
+  pub attributes : Attributes
+  pub named : names ≡ names_of_attributes attributes
+  pub same : schema_from (number + 1) attributes (text_lines rest) ≡ schema_of text
+  pub within : number + length rest ≤ length text
+
+pub scanned_nothing : (text : Text) (names : List Text) → names ≡ [] → Scanned text text 0 names
+scanned_nothing text names e = record { attributes = []; named = e; same = refl; within = omega arith }
+
+-- the next line means nothing
+pub scanned_remark : (text rest line after : Text) (number : ℕ) (names : List Text) → text_lines rest ≡ line ∷ text_lines after → length after < length rest
+    → JudgesWords names (words line) Nothing → Scanned text rest number names → Scanned text after (number + 1) names
+scanned_remark text rest line after number names lines shorter j p =
     record {
-      few = let few = f.few in omega (arith, length-append s t);
-      differ = all_differ_front (names_of_attributes s) (names_of_attributes t) (rw names-append at f.differ);
-      unreserved = list_all_front (λ name. not (is_among_texts name reserved_words)) (names_of_attributes s) (names_of_attributes t) (rw names-append at f.unreserved);
-      domains = list_all_front (λ (a : Attribute). is_domain a.domain) s t f.domains;
+      attributes = p.attributes;
+      named = p.named;
+      same = sym (schema_from-nothing (number + 1) p.attributes line (text_lines after) j) ∙ ap (λ ls. schema_from (number + 1) p.attributes ls) (sym lines) ∙ p.same;
+      within = let w = p.within in omega arith;
     }
 
-kept : (names : List Text) (x a : Attribute) (b : Bool) → may_follow names x ≡ b → cond b (Some x) None ≡ Some a → may_follow names a ≡ true
-kept names x a true e h = let is : a ≡ x = cc in ap (may_follow names) is ∙ e
-kept names x a false e h = absurd (cc)
+-- the next line declares an attribute
+pub scanned_declares : (text rest line after : Text) (number : ℕ) (names new : List Text) (name : Text) → text_lines rest ≡ line ∷ text_lines after → length after < length rest
+    → JudgesWords names (words line) (Declares name) → new ≡ names ++ name ∷ [] → Scanned text rest number names → Scanned text after (number + 1) new
+scanned_declares text rest line after number names new name lines shorter j put p =
+    let a = j.1 in
+    record {
+      attributes = p.attributes ++ a ∷ [];
+      named = put ∙ ap (λ n. names ++ n ∷ []) (sym j.3) ∙ ap (λ ns. ns ++ a.name ∷ []) p.named ∙ sym (map-append (λ (x : Attribute). x.name) p.attributes (a ∷ []));
+      same = sym (schema_from-declares (number + 1) p.attributes line (text_lines after) a j.0 (ap (λ ns. declaration ns (words line)) (sym p.named) ∙ j.2))
+          ∙ ap (λ ls. schema_from (number + 1) p.attributes ls) (sym lines) ∙ p.same;
+      within = let w = p.within in omega arith;
+    }
 
-allowed_follows : (names : List Text) (o : Option Attribute) (a : Attribute) → option_and_then (allowed names) o ≡ Some a → may_follow names a ≡ true
-allowed_follows names None a h = absurd (cc)
-allowed_follows names (Some x) a h = kept names x a (may_follow names x) refl h
+-- the next line has a fault
+pub scanned_fault : (text rest line after : Text) (number : ℕ) (names : List Text) (kind : SchemaKind) → text_lines rest ≡ line ∷ text_lines after
+    → JudgesWords names (words line) (Fault kind) → Scanned text rest number names → schema_of text ≡ Err (Line (number + 1) kind)
+scanned_fault text rest line after number names kind lines j p =
+    sym p.same ∙ ap (λ ls. schema_from (number + 1) p.attributes ls) lines
+    ∙ schema_from-fault (number + 1) p.attributes line (text_lines after) kind j.0 (ap (λ ns. declaration ns (words line)) (sym p.named) ∙ j.1)
 
-room : (n m : ℕ) → n ≡ m → not (leb 256 m) ≡ ltb n 256
-room n m e = grind (arith, nat_tests)
+-- no line is left
+pub scanned_all : (text rest : Text) (number : ℕ) (names : List Text) → length rest ≡ 0 → Scanned text rest number names → (s : Attributes) × (schema_of text ≡ Ok s)
+scanned_all text [] number names e p = (p.attributes, sym p.same)
+scanned_all text (b ∷ rest) number names e p = absurd (omega arith)
 
-takes_from_follows : (s : Attributes) (a : Attribute) → may_follow (names_of_attributes s) a ≡ true → takes s a.name a.domain ≡ true
-takes_from_follows s a h =
-    let e = room (length (names_of_attributes s)) (length s) (length-map s (λ (x : Attribute). x.name)) in
-    ap (λ b. b && not (is_among_texts a.name (names_of_attributes s)) && not (is_among_texts a.name reserved_words) && is_domain a.domain) e ∙ h
+room_by : (names : List Text) (o : Option Attribute) (a : Attribute) → judge names o ≡ Ok a → length names < 256
+room_by names None a h = absurd (cc)
+room_by names (Some x) a h =
+    let k = none_of _ _ _ _ (judge_by (kind_of names x) x a h).0 in
+    let many = or_false (leb 256 (length names)) (has_many x.domain) k.3 in
+    let first = many.0 in grind (arith, nat_tests)
 
--- a schema with the attribute that the next line declares
-pub IsSchema-line : (s : Attributes) (a : Attribute) (line : Text) → Some a ≡ attribute_on (names_of_attributes s) line → IsSchema s → IsSchema (s ++ a ∷ [])
-IsSchema-line s a line h f =
-    IsSchema-push s a.name a.domain f (takes_from_follows s a (allowed_follows (names_of_attributes s) (option_and_then declared_by (int_line (tokens line))) a (sym h)))
+-- there is room for an attribute without fault
+pub room_left : (names : List Text) (ws : List Text) (name : Text) → JudgesWords names ws (Declares name) → length names < 256
+room_left names ws name j = room_by names (declared ws) j.1 j.2
 
--- the lines after it go on from there
-pub schema_from-line : (n : ℕ) (s : Attributes) (a : Attribute) (line : Text) (lines : List Text) → Some a ≡ attribute_on (names_of_attributes s) line
-    → schema_from n s (line ∷ lines) ≡ schema_from (n + 1) (s ++ a ∷ []) lines
-schema_from-line n s a line lines h = ap (λ o. on_attribute n o (λ x. schema_from (n + 1) (s ++ x ∷ []) lines)) (sym h)
+-- the attributes of a text without a fault, as far as they were put
+pub record Put (text rest : Text) (s : Attributes) : Type 0 where
+  pub number : ℕ
+  pub form : IsSchema s
+  pub same : schema_from number s (text_lines rest) ≡ schema_of text
 
-split_attributes : (ds : List Declaration) (i : ℕ) (d : Declaration) → i < length ds → d ≡ get_or ds i d
-    → attributes ds ≡ (attributes (take i ds) ++ attribute d ∷ []) ++ attributes (drop (suc i) ds)
-split_attributes ds i d within is =
-    let later = attributes (drop (suc i) ds) in
-    ap attributes (split_at ds i d within)
-    ∙ map-append attribute (take i ds) (get_or ds i d ∷ drop (suc i) ds)
-    ∙ ap (λ x. attributes (take i ds) ++ attribute x ∷ later) (sym is)
-    ∙ sym (append_assoc (attributes (take i ds)) (attribute d ∷ []) later)
+pub put_nothing : (text : Text) (s : Attributes) → s ≡ [] → Put text text s
+put_nothing text s e = record { number = 1; form = rw e (record { few = omega arith; differ = refl; unreserved = refl; domains = refl }); same = rw e refl }
 
-front_is : (s t u : Attributes) → s ≡ t ++ u → IsSchema s → IsSchema t
-front_is s t u e f = IsSchema-front t u (subst (λ (x : Attributes). IsSchema x) e f)
+next_is : (text rest line after : Text) (s whole : Attributes) (p : Put text rest s) → text_lines rest ≡ line ∷ text_lines after → schema_of text ≡ Ok whole → schema_from p.number s (line ∷ text_lines after) ≡ Ok whole
+next_is text rest line after s whole p lines ok = ap (λ ls. schema_from p.number s ls) (sym lines) ∙ p.same ∙ ok
 
--- of attributes that a schema may have, the next may be put last
-pub next_may_be_put : (ds : List Declaration) (i : ℕ) (d : Declaration) (s : Attributes) (domain : Domain) → i < length ds → d ≡ get_or ds i d
-    → s ≡ attributes (take i ds) → domain ≡ (attribute d).domain → IsSchema (attributes ds) → IsSchema (s ++ attribute_of d.name domain ∷ [])
-next_may_be_put ds i d s domain within is se de f =
-    rw (se, de) (front_is (attributes ds) (attributes (take i ds) ++ attribute d ∷ []) (attributes (drop (suc i) ds)) (split_attributes ds i d within is) f)
+form_fault : (n : ℕ) (s whole : Attributes) (line : Text) (lines : List Text) (b : Bool) → means_nothing (words line) ≡ b → declared (words line) ≡ None → schema_from n s (line ∷ lines) ≡ Ok whole → b ≡ true
+form_fault n s whole line lines true e d h = refl
+form_fault n s whole line lines false e d h = let k = schema_from-fault n s line lines Form e (rw d refl) in absurd (cc)
 
--- what was declared, with what the next line declares
-pub grown : (ds seen new : List Declaration) (d : Declaration) (text line rest whole : Text) → seen ≡ ds → new ≡ ds ++ d ∷ [] → text_lines text ≡ line ∷ text_lines rest
-    → Some (attribute d) ≡ attribute_on (names_of_attributes (attributes seen)) line → IsSchema (attributes ds) → schema_from (length ds + 1) (attributes ds) (text_lines text) ≡ schema_of whole
-    → IsSchema (attributes new) × (schema_from (length new + 1) (attributes new) (text_lines rest) ≡ schema_of whole)
-grown ds seen new d text line rest whole same put lines on f h =
-    let on_ds = on ∙ ap (λ (xs : List Declaration). attribute_on (names_of_attributes (attributes xs)) line) same in
-    let e : attributes new ≡ attributes ds ++ attribute d ∷ [] = ap attributes put ∙ map-append attribute ds (d ∷ []) in
-    let n : length new + 1 ≡ length ds + 1 + 1 = omega (arith, ap length put, length-append ds (d ∷ [])) in
-    let step = schema_from-line (length ds + 1) (attributes ds) (attribute d) line (text_lines rest) on_ds in (
-      subst (λ (x : Attributes). IsSchema x) (sym e) (IsSchema-line (attributes ds) (attribute d) line on_ds f),
-      ap (λ m. schema_from m (attributes new) (text_lines rest)) n
-          ∙ ap (λ s. schema_from (length ds + 1 + 1) s (text_lines rest)) e
-          ∙ sym step ∙ ap (λ ls. schema_from (length ds + 1) (attributes ds) ls) (sym lines) ∙ h,
-    )
+-- the next line declares nothing, and so it means nothing
+pub put_none : (text rest line after : Text) (s whole : Attributes) → text_lines rest ≡ line ∷ text_lines after → schema_of text ≡ Ok whole → None ≡ declared_on (words line) → Put text rest s → Put text after s
+put_none text rest line after s whole lines ok d p =
+    let nothing : means_nothing (words line) ≡ true =
+        elim (off_by (means_nothing (words line)) (declared (words line)) d) [
+          inl e ↦ e
+          | inr e ↦ form_fault p.number s whole line (text_lines after) (means_nothing (words line)) refl e (next_is text rest line after s whole p lines ok)
+        ] in
+    record { number = p.number + 1; form = p.form; same = sym (schema_from-nothing p.number s line (text_lines after) nothing) ∙ ap (λ ls. schema_from p.number s ls) (sym lines) ∙ p.same }
+
+unflawed : (n : ℕ) (s whole : Attributes) (line : Text) (lines : List Text) (a : Attribute) (o : Option SchemaKind) → means_nothing (words line) ≡ false → declared (words line) ≡ Some a
+    → kind_of (names_of_attributes s) a ≡ o → schema_from n s (line ∷ lines) ≡ Ok whole → o ≡ None
+unflawed n s whole line lines a None m d e h = refl
+unflawed n s whole line lines a (Some kind) m d e h =
+    let k = schema_from-fault n s line lines kind m (ap (judge (names_of_attributes s)) d ∙ ap (judged a) e) in absurd (cc)
+
+no_flaw : (text rest line after : Text) (s whole : Attributes) (a : Attribute) → text_lines rest ≡ line ∷ text_lines after → schema_of text ≡ Ok whole → Some a ≡ declared_on (words line) → Put text rest s
+    → kind_of (names_of_attributes s) a ≡ None
+no_flaw text rest line after s whole a lines ok d p =
+    let k = on_by (means_nothing (words line)) (declared (words line)) a d in
+    unflawed p.number s whole line (text_lines after) a (kind_of (names_of_attributes s) a) k.0 k.1 refl (next_is text rest line after s whole p lines ok)
+
+-- the attribute that the next line declares may be put
+pub next_may_be_put : (text rest line after : Text) (s whole : Attributes) (a : Attribute) → text_lines rest ≡ line ∷ text_lines after → schema_of text ≡ Ok whole → Some a ≡ declared_on (words line) → Put text rest s
+    → IsSchema (s ++ a ∷ [])
+next_may_be_put text rest line after s whole a lines ok d p =
+    may_be_put s a p.form (declared_said (words line) a (on_by (means_nothing (words line)) (declared (words line)) a d).1) (no_flaw text rest line after s whole a lines ok d p)
+
+pub put_next : (text rest line after : Text) (s whole new : Attributes) (a : Attribute) → text_lines rest ≡ line ∷ text_lines after → schema_of text ≡ Ok whole → Some a ≡ declared_on (words line)
+    → new ≡ s ++ a ∷ [] → Put text rest s → Put text after new
+put_next text rest line after s whole new a lines ok d put p =
+    let k = on_by (means_nothing (words line)) (declared (words line)) a d in
+    let none = no_flaw text rest line after s whole a lines ok d p in
+    record {
+      number = p.number + 1;
+      form = rw put (next_may_be_put text rest line after s whole a lines ok d p);
+      same = ap (λ x. schema_from (p.number + 1) x (text_lines after)) put
+          ∙ sym (schema_from-declares p.number s line (text_lines after) a k.0 (ap (judge (names_of_attributes s)) k.1 ∙ ap (judged a) none))
+          ∙ ap (λ ls. schema_from p.number s ls) (sym lines) ∙ p.same;
+    }
+
+pub put_all : (text rest : Text) (s : Attributes) → length rest ≡ 0 → Put text rest s → schema_of text ≡ Ok s
+put_all text [] s e p = sym p.same
+put_all text (b ∷ rest) s e p = absurd (omega arith)

@@ -1,16 +1,19 @@
 -- What a scan of a schema's text keeps of its lines.
-use Rattle.std.specs.Prelude.{◌≡◌, ℕ, List, map, codes, Result, Ok, Err}
-use Rattle.arrayvec.specs.ArrayVec.{ArrayVec}
+use Rattle.std.specs.Prelude.{◌≡◌, ◌||◌, true, false, List, [], ◌∷◌, length, map, codes, Option, Some, None, nat_le, Result, Ok, Err, if◌then◌else◌}
 use Rattle.be_base.specs.Text.{Text}
 use Rattle.be_model.specs.declared.schemas.Attribute.{Attribute}
-use Rattle.be_model.specs.Schemas.{Attributes, IsSchema}
-use Rattle.be_event.specs.declared.schema_texts.Declaration.{Declaration}
-use Rattle.be_event.specs.declared.schema_texts.IntWords.{IntWords}
+use Rattle.be_model.specs.declared.schemas.Domain.{Domain}
+use Rattle.be_model.specs.Schemas.{Attributes, reserved_words, is_among_texts}
 use Rattle.be_event.specs.declared.schema_texts.SchemaFault.{SchemaFault}
 use Rattle.be_event.specs.declared.schema_texts.SchemaFault.TheVariants.{Line}
+use Rattle.be_event.specs.declared.schema_texts.LineFault.{LineFault}
 use Rattle.be_event.specs.declared.schema_texts.SchemaKind.{SchemaKind}
 use Rattle.be_event.specs.declared.schema_texts.SchemaKind.TheVariants.{Form, Reserved, Twice, Range, Many}
-use Rattle.be_event.specs.SchemaTexts.{IntLine, with_bounds}
+use Rattle.be_event.specs.declared.schema_texts.Declared.{Declared}
+use Rattle.be_event.specs.declared.schema_texts.Flaws.{Flaws}
+use Rattle.be_event.specs.declared.schema_texts.Judged.{Judged}
+use Rattle.be_event.specs.declared.schema_texts.Judged.TheVariants.{Nothing, Fault, Declares}
+use Rattle.be_event.specs.SchemaTexts.{words, means_nothing, declared, repeats, is_out_of_range, has_many, first_kind, declaration}
 
 -- as it is printed
 abbrev pub kind_name : SchemaKind → Text
@@ -20,18 +23,29 @@ kind_name Twice = codes "Twice"
 kind_name Range = codes "Range"
 kind_name Many = codes "Many"
 
--- the words as bytes
-abbrev pub plain_line : IntWords → IntLine
-plain_line words = record { name = words.name.now; lo = words.lo.now; hi = words.hi.now }
+abbrev pub names_declared : List Declared → List Text
+names_declared ds = map (λ (d : Declared). d.0) ds
 
--- the attribute that was declared
-abbrev pub attribute : Declaration → Attribute
-attribute d = with_bounds d.name d.lo d.hi
+-- the attribute's first fault, or its name
+abbrev pub JudgesWords : List Text → List Text → Judged → Type 0
+JudgesWords names ws Nothing = means_nothing ws ≡ true
+JudgesWords names ws (Fault kind) = (means_nothing ws ≡ false) × (declaration names ws ≡ Err kind)
+JudgesWords names ws (Declares name) = (means_nothing ws ≡ false) × (a : Attribute) × (declaration names ws ≡ Ok a) × (a.name ≡ name)
 
-abbrev pub attributes : List Declaration → Attributes
-attributes ds = map attribute ds
+-- the text is a schema, or has this fault
+abbrev pub Checks : Result (Unit {0}) LineFault → Result Attributes SchemaFault → Type 0
+Checks (Ok _) read = (s : Attributes) × (read ≡ Ok s)
+Checks (Err fault) read = read ≡ Err (Line fault.line fault.kind)
 
--- the attributes of a schema, or the number of the first faulty line
-abbrev pub Declares : Result (ArrayVec Declaration) ℕ → Result Attributes SchemaFault → Type 0
-Declares (Ok declared) read = IsSchema (attributes declared.items) × (read ≡ Ok (attributes declared.items))
-Declares (Err line) read = read ≡ Err (Line line Form)
+-- the attribute that a line declares, where it means something
+abbrev pub declared_on : List Text → Option Attribute
+declared_on ws = if means_nothing ws then None else declared ws
+
+-- what is wrong with the domain
+abbrev pub flaws_of : Domain → Flaws
+flaws_of d = record { repeats = repeats d; range = is_out_of_range d; many = has_many d }
+
+-- the first kind of fault of an attribute of this name that comes after these names, where its domain has these flaws
+abbrev pub flawed : List Text → Text → Flaws → Option SchemaKind
+flawed names name f =
+    first_kind (is_among_texts name reserved_words) (is_among_texts name names || f.repeats) f.range (nat_le 256 (length names) || f.many)

@@ -1,70 +1,119 @@
 -- The texts of schemas.
-use Rattle.std.specs.Prelude.{◌≡◌, ℕ, ℤ, ◌+◌, ◌&&◌, not, Bool, true, List, [], ◌∷◌, ◌++◌, length, nat_lt, Option, Some, None, option_and_then, Result, Ok, Err, codes, if◌then◌else◌}
+use Rattle.std.specs.Prelude.{◌≡◌, ℕ, ℤ, ◌+◌, ◌==◌, ◌&&◌, ◌||◌, not, Bool, true, false, List, [], ◌∷◌, ◌++◌, length, map, nat_le, nat_lt, Option, Some, None, option_map, option_and_then, Result, Ok, Err, codes, if◌then◌else◌}
+use Rattle.std.specs.List.{list_all}
+use Rattle.std.specs.Str.Lines.{strip_carriage_return}
 use Rattle.be_base.specs.Text.{Text, same_text, name_of}
 use Rattle.be_base.specs.Numbers.{int_of}
-use Rattle.be_base.specs.Tokens.{Lexeme, word, tokens}
-use Rattle.be_base.specs.declared.names.NameFault.{NameFault}
+use Rattle.be_base.specs.Tokens.{is_blank}
+use Rattle.be_base.specs.Fronts.{starts_with}
 use Rattle.be_io.specs.Lines.{closed_lines, open_line, last_line}
 use Rattle.be_model.specs.declared.schemas.Attribute.{Attribute}
-use Rattle.be_model.specs.declared.schemas.Domain.TheVariants.{Int}
-use Rattle.be_model.specs.Schemas.{Attributes, names_of_attributes, reserved_words, is_among_texts, is_domain}
+use Rattle.be_model.specs.declared.schemas.Domain.{Domain}
+use Rattle.be_model.specs.declared.schemas.Domain.TheVariants.{Int, Sym}
+use Rattle.be_model.specs.Schemas.{Attributes, attribute_of, names_of_attributes, reserved_words, is_among_texts, all_differ, is_domain}
+use Rattle.be_event.specs.Written.{is_name}
 use Rattle.be_event.specs.declared.schema_texts.SchemaFault.{SchemaFault}
 use Rattle.be_event.specs.declared.schema_texts.SchemaFault.TheVariants.{Line, NoMemory}
-use Rattle.be_event.specs.declared.schema_texts.SchemaKind.TheVariants.{Form}
+use Rattle.be_event.specs.declared.schema_texts.SchemaKind.{SchemaKind}
+use Rattle.be_event.specs.declared.schema_texts.SchemaKind.TheVariants.{Form, Reserved, Twice, Range, Many}
 
--- the words of a line `int NAME LO HI`
-pub record IntLine : Type 0 where
-  pub name : Text
-  pub lo : Text
-  pub hi : Text
-
-abbrev pub int_line : Option (List Lexeme) → Option IntLine
-int_line (Some (word kind ∷ word name ∷ word lo ∷ word hi ∷ [])) =
-    if same_text kind (codes "int") then Some (record { name = name; lo = lo; hi = hi }) else None
-int_line _ = None
-
-abbrev pub named : Result Text NameFault → Option Text
-named (Ok name) = Some name
-named (Err fault) = None
-
-abbrev pub with_bounds : Text → ℤ → ℤ → Attribute
-with_bounds name lo hi = record { name = name; domain = Int lo hi }
-
--- the attribute that the words declare
-abbrev pub declared_by : IntLine → Option Attribute
-declared_by l =
-    option_and_then (λ name.
-    option_and_then (λ lo.
-    option_and_then (λ hi. Some (with_bounds name lo hi))
-    (int_of l.hi)) (int_of l.lo)) (named (name_of l.name))
-
--- the attribute may come next: fewer than 256 stand before it, none of them has its name, its name isn't reserved,
--- and its bounds are in order and in range
-abbrev pub may_follow : List Text → Attribute → Bool
-may_follow names a =
-    nat_lt (length names) 256 && not (is_among_texts a.name names)
-    && not (is_among_texts a.name reserved_words) && is_domain a.domain
-
-abbrev pub allowed : List Text → Attribute → Option Attribute
-allowed names a = if may_follow names a then Some a else None
-
--- the attribute that a line without any fault declares, where these names were declared before
-abbrev pub attribute_on : List Text → Text → Option Attribute
-attribute_on names line = option_and_then (allowed names) (option_and_then declared_by (int_line (tokens line)))
-
+-- the lines of a file. A CR directly before an LF isn't part of the line
 abbrev pub text_lines : Text → List Text
-text_lines text = closed_lines text ++ last_line true (open_line text)
+text_lines text = map (λ line. strip_carriage_return line) (closed_lines text) ++ last_line true (open_line text)
 
--- a line that declares nothing is a fault
-abbrev pub on_attribute : ℕ → Option Attribute → (Attribute → Result Attributes SchemaFault) → Result Attributes SchemaFault
-on_attribute n None rest = Err (Line n Form)
-on_attribute n (Some a) rest = rest a
+-- a byte before words: it is part of the first one, or a word of its own
+abbrev pub put_byte : ℕ → Bool → List Text → List Text
+put_byte b true (word ∷ words) = (b ∷ word) ∷ words
+put_byte b _ words = (b ∷ []) ∷ words
+
+abbrev pub begins_word : Text → Bool
+begins_word text = starts_with (λ b. not (is_blank b)) text
+
+-- the words of a line: its parts between blanks
+abbrev pub words : Text → List Text
+words [] = []
+words (b ∷ text) = if is_blank b then words text else put_byte b (begins_word text) (words text)
+
+abbrev pub is_remark : Text → Bool
+is_remark word = starts_with (λ b. b == 35) word
+
+-- an empty or blank line, or one whose first byte after blanks is `#`
+abbrev pub means_nothing : List Text → Bool
+means_nothing [] = true
+means_nothing (word ∷ words) = is_remark word
+
+-- `LO HI`
+abbrev pub int_domain : List Text → Option Domain
+int_domain (lo ∷ hi ∷ []) = option_and_then (λ l. option_map (λ h. Int l h) (int_of hi)) (int_of lo)
+int_domain _ = None
+
+-- `WORD { WORD }`, each a name
+abbrev pub sym_domain : List Text → Option Domain
+sym_domain [] = None
+sym_domain (word ∷ words) = if list_all (λ w. is_name (name_of w)) (word ∷ words) then Some (Sym (word ∷ words)) else None
+
+-- the domain that the words after the name say
+abbrev pub domain_of : Text → List Text → Option Domain
+domain_of kind words =
+    if same_text kind (codes "int") then int_domain words else
+    (if same_text kind (codes "sym") then sym_domain words else None)
+
+-- the attribute that a line declares: `int NAME LO HI` or `sym NAME WORD { WORD }`
+abbrev pub declared : List Text → Option Attribute
+declared (kind ∷ name ∷ words) =
+    if is_name (name_of name) then option_map (attribute_of name) (domain_of kind words) else None
+declared _ = None
+
+abbrev pub repeats : Domain → Bool
+repeats (Int lo hi) = false
+repeats (Sym words) = not (all_differ words)
+
+-- the bounds are turned, or beyond 32 bits
+abbrev pub is_out_of_range : Domain → Bool
+is_out_of_range (Int lo hi) = not (is_domain (Int lo hi))
+is_out_of_range (Sym words) = false
+
+abbrev pub has_many : Domain → Bool
+has_many (Int lo hi) = false
+has_many (Sym words) = nat_lt 4096 (length words)
+
+-- the first kind that applies
+abbrev pub first_kind : Bool → Bool → Bool → Bool → Option SchemaKind
+first_kind reserved twice range many =
+    if reserved then Some Reserved else
+    (if twice then Some Twice else
+    (if range then Some Range else
+    (if many then Some Many else None)))
+
+-- what is wrong with an attribute that comes after these names
+abbrev pub kind_of : List Text → Attribute → Option SchemaKind
+kind_of names a =
+    first_kind (is_among_texts a.name reserved_words) (is_among_texts a.name names || repeats a.domain) (is_out_of_range a.domain)
+    (nat_le 256 (length names) || has_many a.domain)
+
+abbrev pub judged : Attribute → Option SchemaKind → Result Attribute SchemaKind
+judged a None = Ok a
+judged a (Some kind) = Err kind
+
+abbrev pub judge : List Text → Option Attribute → Result Attribute SchemaKind
+judge names None = Err Form
+judge names (Some a) = judged a (kind_of names a)
+
+-- the attribute that the words of a line declare after these names, or the line's first kind of fault
+abbrev pub declaration : List Text → List Text → Result Attribute SchemaKind
+declaration names words = judge names (declared words)
+
+-- what follows a line's attribute, or the fault of the line
+abbrev pub after_line : ℕ → Result Attribute SchemaKind → (Attribute → Result Attributes SchemaFault) → Result Attributes SchemaFault
+after_line n (Err kind) rest = Err (Line n kind)
+after_line n (Ok a) rest = rest a
 
 -- the schema that these lines declare after these attributes, or the first faulty line, where the first line has this number
 abbrev pub schema_from : ℕ → Attributes → List Text → Result Attributes SchemaFault
 schema_from n s [] = Ok s
 schema_from n s (line ∷ lines) =
-    on_attribute n (attribute_on (names_of_attributes s) line) (λ a. schema_from (n + 1) (s ++ a ∷ []) lines)
+    if means_nothing (words line) then schema_from (n + 1) s lines else
+    after_line n (declaration (names_of_attributes s) (words line)) (λ a. schema_from (n + 1) (s ++ a ∷ []) lines)
 
 -- the schema that a text is, or its first fault
 abbrev pub schema_of : Text → Result Attributes SchemaFault

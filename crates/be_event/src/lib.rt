@@ -2,10 +2,15 @@
 #![tactic(auto)]
 
 mod events;
+mod laws;
 mod schema_texts;
+mod words;
+mod writing;
 
 pub use events::{EventFault, read_event};
+pub use laws::{reads_are_written, texts_are_read};
 pub use schema_texts::{SchemaFault, SchemaKind, read_schema};
+pub use writing::write_event;
 
 #[cfg(test)]
 mod tests;

@@ -1,16 +1,18 @@
 //! The texts of schemas.
 
-ghost use Rattle.std.specs.Prelude.{◌≡◌, ◌<◌, ◌∷◌, Some, true, length, option_map, option_and_then, IfSome, IfOk};
+ghost use Rattle.std.specs.Prelude.{◌≡◌, ◌<◌, ◌∷◌, Ok, true, length, option_map, is_some, IfOk};
 ghost use Rattle.std.specs.List.{list_any};
 ghost use Rattle.be_base.specs.Text.{same_text};
-ghost use Rattle.be_base.specs.Tokens.{tokens};
-ghost use Rattle.be_model.specs.Schemas.{IsSchema, names_of_attributes, is_among_texts, is_domain};
-ghost use Rattle.be_event.specs.SchemaTexts.{int_line, declared_by, may_follow, attribute_on, text_lines, schema_of, ReadsSchema};
-ghost use Rattle.be_event.specs.Declarations.{kind_name, plain_line, attribute, attributes, Declares};
+ghost use Rattle.std.specs.Str.Lines.{strip_carriage_return};
+ghost use Rattle.be_model.specs.declared.schemas.Domain.TheVariants.{Int};
+ghost use Rattle.be_model.specs.Schemas.{Attributes, attribute_of, is_among_texts};
+ghost use Rattle.be_event.specs.SchemaTexts.{words, is_remark, int_domain, sym_domain, domain_of, text_lines, schema_of, ReadsSchema};
+ghost use Rattle.be_event.specs.Declarations.{kind_name, names_declared, JudgesWords, Checks, flaws_of, flawed, declared_on};
 
 use arrayvec::ArrayVec;
-use be_base::{Name, NoMemory, Scan, Token, next_token, read_int};
-use be_model::{Domain, Schema, is_reserved};
+use crate::words::{are_different, are_names, count_words, next_word};
+use be_base::{ATTRIBUTES, Name, NoMemory, SYMBOLS, read_int};
+use be_model::{Domain, Names, Schema, is_reserved};
 use std::alloc::Global;
 use std::fmt;
 use thiserror::Error;
@@ -66,45 +68,60 @@ pub enum SchemaFault {
 pub fn read_schema(alloc: Global, text: &[u8]) -> Result<Schema, SchemaFault>
     ensures { ReadsSchema result (schema_of text.now) }
 {
-    match declarations(text) {
-        Ok(declared) => match schema_with(alloc, declared.as_slice()) {
-            Ok(schema) => Ok(schema),
-            Err(_) => Err(SchemaFault::NoMemory),
-        },
-        Err(line) => Err(SchemaFault::Line {
-            line,
-            kind: SchemaKind::Form,
-        }),
+    if let Err(fault) = check(text) {
+        return Err(SchemaFault::Line {
+            line: fault.line,
+            kind: fault.kind,
+        });
+    }
+    match schema_with(alloc, text) {
+        Ok(schema) => Ok(schema),
+        Err(_) => Err(SchemaFault::NoMemory),
     }
 }
 
-// A schema of these attributes.
-fn schema_with(alloc: Global, declared: &[Declaration]) -> Result<Schema, NoMemory>
-    requires { IsSchema (attributes declared.now) }
-    ensures { IfOk result (λ schema. schema ≡ attributes declared.now) }
-{
-    let mut schema = Schema::make(alloc);
-    for declaration in declared {
-        schema.push((declaration.name, declaration.domain()))?;
-    }
-    Ok(schema)
+// The first faulty line of a text, and its first kind.
+#[derive(Clone, Copy)]
+struct LineFault {
+    line: u64,
+    kind: SchemaKind,
 }
 
-// What a text declares, or the number of its first faulty line.
-fn declarations(text: &[u8]) -> Result<ArrayVec<Declaration, 256>, u64>
-    ensures { Declares result (schema_of text.now) }
+// Finds the first fault of a text.
+fn check(text: &[u8]) -> Result<(), LineFault>
+    ensures { Checks result (schema_of text.now) }
 {
-    let mut declared = ArrayVec::new();
+    let mut names = ArrayVec::<Declared, 256>::new();
+    let mut number = 0;
     let mut rest = text;
     while !rest.is_empty() {
         let (line, after) = first_line(rest);
-        let Some(next) = declared_on(declared.as_slice(), line) else {
-            return Err(declared.len() as u64 + 1);
-        };
-        declared.push(next);
+        number += 1;
+        match judge(names.as_slice(), line) {
+            Judged::Nothing => {}
+            Judged::Fault(kind) => return Err(LineFault { line: number, kind }),
+            Judged::Declares(name) => names.push(Declared(name)),
+        }
         rest = after;
     }
-    Ok(declared)
+    Ok(())
+}
+
+// The schema of a text without a fault.
+fn schema_with(alloc: Global, text: &[u8]) -> Result<Schema, NoMemory>
+    requires { (s : Attributes) × (schema_of text.now ≡ Ok s) }
+    ensures { IfOk result (λ s. schema_of text.now ≡ Ok s) }
+{
+    let mut schema = Schema::make(alloc);
+    let mut rest = text;
+    while !rest.is_empty() {
+        let (line, after) = first_line(rest);
+        if let Some(attribute) = attribute_on(alloc, line)? {
+            schema.push(attribute)?;
+        }
+        rest = after;
+    }
+    Ok(schema)
 }
 
 // The first line of a text, and the text after it.
@@ -115,120 +132,206 @@ fn first_line(text: &[u8]) -> (&[u8], &[u8])
 {
     for (place, b) in text.iter().enumerate() {
         if *b == b'\n' {
-            return (&text[..place], &text[place + 1..]);
+            return (without_cr(&text[..place]), &text[place + 1..]);
         }
     }
     (text, &text[text.len()..])
 }
 
-// An integer attribute that a line declares.
+fn without_cr(line: &[u8]) -> &[u8]
+    ensures { result.now ≡ strip_carriage_return line.now }
+{
+    match line {
+        [before @ .., b'\r'] => before,
+        _ => line,
+    }
+}
+
+// The name of an attribute that was declared.
 #[derive(Clone, Copy)]
-struct Declaration {
-    name: Name,
-    lo: i64,
-    hi: i64,
-}
-
-impl Declaration {
-    fn domain(&self) -> Domain
-        ensures { result ≡ (attribute self.now).domain }
-    {
-        Domain::Int {
-            lo: self.lo,
-            hi: self.hi,
-        }
-    }
-
-    fn is_in_range(&self) -> bool
-        ensures { result ≡ is_domain (attribute self.now).domain }
-    {
-        self.domain().is_valid()
-    }
-}
+struct Declared(Name);
 
 // It stands in the unused places of a table, where nothing reads it.
-impl Default for Declaration {
-    fn default() -> Declaration {
-        Declaration {
-            name: Name::read(b"-").unwrap(),
-            lo: 0,
-            hi: 0,
-        }
+impl Default for Declared {
+    fn default() -> Declared {
+        Declared(Name::read(b"-").unwrap())
     }
 }
 
-// What a line without any fault declares after these.
-fn declared_on(before: &[Declaration], line: &[u8]) -> Option<Declaration>
-    ensures exact { option_map attribute result ≡ attribute_on (names_of_attributes (attributes before.now)) line.now }
-    ensures room { IfSome result (λ next. length before.now < 256) }
-{
-    let next = read_declaration(line)?;
-    may_follow(before, &next).then_some(next)
+// What a line is after these names.
+enum Judged {
+    // It means nothing.
+    Nothing,
+    // Its first fault.
+    Fault(SchemaKind),
+    // It declares an attribute of this name.
+    Declares(Name),
 }
 
-#[tactic(auto, using(crate::proofs::DeclaredNames::declared_count))]
-fn may_follow(before: &[Declaration], next: &Declaration) -> bool
-    ensures exact { result ≡ may_follow (names_of_attributes (attributes before.now)) (attribute next.now) }
-    ensures room { result ≡ true → length before.now < 256 }
+fn judge(names: &[Declared], line: &[u8]) -> Judged
+    ensures { JudgesWords (names_declared names.now) (words line.now) result }
 {
-    before.len() < 256
-        && !is_declared(before, &next.name)
-        && !is_reserved(&next.name)
-        && next.is_in_range()
+    let Some((kind, rest)) = next_word(line) else {
+        return Judged::Nothing;
+    };
+    if is_remark(kind) {
+        return Judged::Nothing;
+    }
+    let Some((name, rest)) = next_word(rest) else {
+        return Judged::Fault(SchemaKind::Form);
+    };
+    let Ok(name) = Name::read(name) else {
+        return Judged::Fault(SchemaKind::Form);
+    };
+    let Some(flaws) = domain_flaws(kind, rest) else {
+        return Judged::Fault(SchemaKind::Form);
+    };
+    match kind_of(names, &name, flaws) {
+        Some(kind) => Judged::Fault(kind),
+        None => Judged::Declares(name),
+    }
 }
 
-#[tactic(auto, using(crate::proofs::DeclaredNames::declared_name))]
-fn is_declared(declared: &[Declaration], name: &Name) -> bool
-    ensures { result ≡ is_among_texts name.now (names_of_attributes (attributes declared.now)) }
+// The first kind of fault of an attribute that comes after these names.
+#[tactic(auto, using(crate::proofs::SchemaForms::count_declared))]
+fn kind_of(names: &[Declared], name: &Name, flaws: Flaws) -> Option<SchemaKind>
+    ensures { result ≡ flawed (names_declared names.now) name.now flaws }
+{
+    if is_reserved(name) {
+        return Some(SchemaKind::Reserved);
+    }
+    if flaws.repeats || is_declared(names, name) {
+        return Some(SchemaKind::Twice);
+    }
+    if flaws.range {
+        return Some(SchemaKind::Range);
+    }
+    if flaws.many || ATTRIBUTES <= names.len() {
+        return Some(SchemaKind::Many);
+    }
+    None
+}
+
+// What is wrong with a domain.
+#[derive(Clone, Copy)]
+struct Flaws {
+    // A word stands twice.
+    repeats: bool,
+    // The bounds are turned, or beyond 32 bits.
+    range: bool,
+    // There are too many words.
+    many: bool,
+}
+
+// The flaws of the domain that the text says, if it says one.
+fn domain_flaws(kind: &[u8], text: &[u8]) -> Option<Flaws>
+    ensures { result ≡ option_map flaws_of (domain_of kind.now (words text.now)) }
+{
+    if kind == b"int".as_slice() {
+        let (lo, hi) = bounds(text)?;
+        let range = !(Domain::Int { lo, hi }).is_valid();
+        return Some(Flaws { repeats: false, range, many: false });
+    }
+    if kind == b"sym".as_slice() && are_symbols(text) {
+        let repeats = !are_different(text);
+        let many = SYMBOLS < count_words(text);
+        return Some(Flaws { repeats, range: false, many });
+    }
+    None
+}
+
+// Whether there is a word, and each is a name.
+fn are_symbols(text: &[u8]) -> bool
+    ensures { result ≡ is_some (sym_domain (words text.now)) }
+{
+    next_word(text).is_some() && are_names(text)
+}
+
+fn is_remark(word: &[u8]) -> bool
+    ensures { result ≡ is_remark word.now }
+{
+    match word.split_first() {
+        Some((first, _)) => *first == b'#',
+        None => false,
+    }
+}
+
+#[tactic(auto, using(crate::proofs::SchemaForms::name_declared))]
+fn is_declared(declared: &[Declared], name: &Name) -> bool
+    ensures { result ≡ is_among_texts name.now (names_declared declared.now) }
 {
     has_name(declared, name)
 }
 
-fn has_name(declared: &[Declaration], name: &Name) -> bool
-    ensures { result ≡ list_any (λ x. same_text x.name name.now) declared.now }
+fn has_name(declared: &[Declared], name: &Name) -> bool
+    ensures { result ≡ list_any (λ x. same_text x.0 name.now) declared.now }
 {
-    declared
-        .iter()
-        .any(|declaration| declaration.name.same(name))
+    declared.iter().any(|other| other.0.same(name))
 }
 
-// What the words of a line declare.
-fn read_declaration(line: &[u8]) -> Option<Declaration>
-    ensures { option_map attribute result ≡ option_and_then declared_by (int_line (tokens line.now)) }
+// The two numbers that the text is.
+fn bounds(text: &[u8]) -> Option<(i64, i64)>
+    ensures { option_map (λ r. Int r.0 r.1) result ≡ int_domain (words text.now) }
 {
-    let words = int_words(line)?;
-    Some(Declaration {
-        name: Name::read(words.name).ok()?,
-        lo: read_int(words.lo)?,
-        hi: read_int(words.hi)?,
-    })
-}
-
-// The words of a line `int NAME LO HI`.
-#[derive(Clone, Copy)]
-struct IntWords<'a> {
-    name: &'a [u8],
-    lo: &'a [u8],
-    hi: &'a [u8],
-}
-
-fn int_words(line: &[u8]) -> Option<IntWords<'_>>
-    ensures { option_map plain_line result ≡ int_line (tokens line.now) }
-{
-    let Scan::Found(Token::Word(kind), rest) = next_token(line) else {
-        return None;
-    };
-    let Scan::Found(Token::Word(name), rest) = next_token(rest) else {
-        return None;
-    };
-    let Scan::Found(Token::Word(lo), rest) = next_token(rest) else {
-        return None;
-    };
-    let Scan::Found(Token::Word(hi), rest) = next_token(rest) else {
-        return None;
-    };
-    match next_token(rest) {
-        Scan::End if kind == b"int".as_slice() => Some(IntWords { name, lo, hi }),
-        _ => None,
+    let (lo, rest) = next_word(text)?;
+    let (hi, rest) = next_word(rest)?;
+    match next_word(rest) {
+        Some(_) => None,
+        None => Some((read_int(lo)?, read_int(hi)?)),
     }
+}
+
+// What a line of a schema declares.
+fn attribute_on(alloc: Global, line: &[u8]) -> Result<Option<(Name, Domain)>, NoMemory>
+    ensures { IfOk result (λ r. option_map (λ a. attribute_of a.0 a.1) r ≡ declared_on (words line.now)) }
+{
+    let Some((kind, rest)) = next_word(line) else {
+        return Ok(None);
+    };
+    if is_remark(kind) {
+        return Ok(None);
+    }
+    let Some((name, rest)) = next_word(rest) else {
+        return Ok(None);
+    };
+    let Ok(name) = Name::read(name) else {
+        return Ok(None);
+    };
+    match domain_on(alloc, kind, rest)? {
+        Some(domain) => Ok(Some((name, domain))),
+        None => Ok(None),
+    }
+}
+
+// The domain that the text says.
+fn domain_on(alloc: Global, kind: &[u8], text: &[u8]) -> Result<Option<Domain>, NoMemory>
+    ensures { IfOk result (λ r. r ≡ domain_of kind.now (words text.now)) }
+{
+    if kind == b"int".as_slice() {
+        return match bounds(text) {
+            Some((lo, hi)) => Ok(Some(Domain::Int { lo, hi })),
+            None => Ok(None),
+        };
+    }
+    if kind == b"sym".as_slice() && are_symbols(text) {
+        let words = names_in(alloc, text)?;
+        return Ok(Some(Domain::Sym { words }));
+    }
+    Ok(None)
+}
+
+// The words of a text of names.
+fn names_in(alloc: Global, text: &[u8]) -> Result<Names, NoMemory>
+    requires { is_some (sym_domain (words text.now)) ≡ true }
+    ensures { IfOk result (λ names. names ≡ words text.now) }
+{
+    let mut names = Names::make(alloc);
+    let mut rest = text;
+    while let Some((word, after)) = next_word(rest) {
+        if let Ok(name) = Name::read(word) {
+            names.push(name)?;
+        }
+        rest = after;
+    }
+    Ok(names)
 }

@@ -1,1 +1,8 @@
-pub mod PredicateLies
+pub mod Grammar
+pub mod InParts
+pub mod Pieces
+pub mod CanonicalTokens
+pub mod CanonicalMeaning
+pub mod ChangesRead
+pub mod Gathered
+pub mod Joining

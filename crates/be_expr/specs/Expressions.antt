@@ -1,38 +1,101 @@
--- The texts of conditions.
-use Rattle.std.specs.Prelude.{◌≡◌, ℤ, List, [], ◌∷◌, Option, Some, None, option_and_then, option_map, ok_or, ◌<◌, length, Result, Ok, Err}
+-- What the text of a condition means in a schema, or its first fault.
+use Rattle.std.specs.Prelude.{◌≡◌, ℤ, pos, Bool, false, List, [], ◌∷◌, length, map, find, nat_lt, Option, Some, None, option_map, option_and_then, Result, Ok, Err, if◌then◌else◌}
+use Rattle.std.specs.List.{list_any}
+use Rattle.std.specs.Option.{is_none, option_map_or}
 use Rattle.be_base.specs.Text.{Text}
-use Rattle.be_base.specs.Tokens.{Lexeme, less, less_or_equal, equal, not_equal, greater_or_equal, greater, tokens}
-use Rattle.be_base.specs.Terms.{PlainTerm, term_of}
+use Rattle.be_base.specs.Tokens.{Lexeme, less, less_or_equal, not_equal, greater_or_equal, greater, tokens}
 use Rattle.be_base.specs.declared.names.AttrNo.{AttrNo}
 use Rattle.be_model.specs.declared.conditions.Op.{Op}
-use Rattle.be_model.specs.declared.conditions.Op.TheVariants.{Lt, Le, Eq, Ne, Ge, Gt}
+use Rattle.be_model.specs.declared.conditions.Op.TheVariants.{Lt, Le, Eq, Ne, Ge, Gt, Between, OneOf, NoneOf}
 use Rattle.be_model.specs.declared.conditions.Pred.{Pred}
-use Rattle.be_model.specs.Schemas.{Attributes}
-use Rattle.be_model.specs.Assigned.{assigned}
-use Rattle.be_expr.specs.declared.ExprFault.{ExprFault}
-use Rattle.be_expr.specs.declared.ExprFault.TheVariants.{Bad, Attr, Dom, Many, NoMemory}
+use Rattle.be_model.specs.Schemas.{Attributes, numbered, attribute_named}
+use Rattle.be_model.specs.Assigned.{value_at}
+use Rattle.be_model.specs.Forms.{put_value}
+use Rattle.be_expr.specs.Written.{WrittenOp, compared, between, among, not_among, WrittenPred}
+use Rattle.be_expr.specs.Readings.{written}
+use Rattle.be_expr.specs.declared.faults.ExprFault.{ExprFault}
+use Rattle.be_expr.specs.declared.faults.ExprFault.TheVariants.{Bad, Attr, Dom, Many, NoMemory}
+
+-- the values as they are written, from left to right
+abbrev pub words_of : WrittenOp → List Text
+words_of (compared operator v) = v ∷ []
+words_of (between v w) = v ∷ w ∷ []
+words_of (among vs) = vs
+words_of (not_among vs) = vs
+
+abbrev pub is_unknown : Attributes → WrittenPred → Bool
+is_unknown s p = is_none (attribute_named s p.attr)
+
+-- the first attribute that the schema doesn't have
+abbrev pub unknown_attr : Attributes → List WrittenPred → Option ExprFault
+unknown_attr s ps = option_map (λ (p : WrittenPred). Attr p.attr) (find (is_unknown s) ps)
+
+-- one of the values is outside the attribute's domain
+abbrev pub is_outside : Attributes → WrittenPred → Bool
+is_outside s p =
+    option_map_or (λ a. list_any (λ v. is_none (value_at s a v)) (words_of p.op)) (attribute_named s p.attr) false
+
+-- the attribute of the first value outside its domain
+abbrev pub outside_domain : Attributes → List WrittenPred → Option ExprFault
+outside_domain s ps =
+    option_map (λ a. Dom a) (option_and_then (λ (p : WrittenPred). attribute_named s p.attr) (find (is_outside s) ps))
+
+abbrev pub has_many_values : WrittenPred → Bool
+has_many_values p = nat_lt 64 (length (words_of p.op))
+
+-- more than 32 predicates, else the first set of more than 64 written values
+abbrev pub too_many : List WrittenPred → Option ExprFault
+too_many ps =
+    if nat_lt 32 (length ps) then Some (Many (length ps)) else
+    option_map (λ (p : WrittenPred). Many (length (words_of p.op))) (find has_many_values ps)
+
+abbrev pub or_else : Option ExprFault → Option ExprFault → Option ExprFault
+or_else (Some fault) next = Some fault
+or_else None next = next
+
+-- the first fault, in the order of the kinds
+abbrev pub fault_in : Attributes → List WrittenPred → Option ExprFault
+fault_in s ps = or_else (unknown_attr s ps) (or_else (outside_domain s ps) (too_many ps))
+
+-- the different values, rising
+abbrev pub rising : List ℤ → List ℤ
+rising [] = []
+rising (v ∷ vs) = put_value v (rising vs)
 
 -- the comparison that an operator makes with a value
-abbrev pub comparison : Lexeme → ℤ → Option Op
-comparison less v = Some (Lt v)
-comparison less_or_equal v = Some (Le v)
-comparison equal v = Some (Eq v)
-comparison not_equal v = Some (Ne v)
-comparison greater_or_equal v = Some (Ge v)
-comparison greater v = Some (Gt v)
-comparison _ v = None
+abbrev pub comparison : Lexeme → ℤ → Op
+comparison less v = Lt v
+comparison less_or_equal v = Le v
+comparison not_equal v = Ne v
+comparison greater_or_equal v = Ge v
+comparison greater v = Gt v
+comparison _ v = Eq v
 
--- the predicate on the attribute that compares with the value
-abbrev pub compared : Lexeme → AttrNo × ℤ → Option Pred
-compared operator item = option_map (λ op. record { attr = item.0; op = op }) (comparison operator item.1)
+-- the comparison, where each word has this value
+abbrev pub meant_op : (Text → ℤ) → WrittenOp → Op
+meant_op value (compared operator v) = comparison operator (value v)
+meant_op value (between v w) = Between (value v) (value w)
+meant_op value (among vs) = OneOf (rising (map value vs))
+meant_op value (not_among vs) = NoneOf (rising (map value vs))
 
--- one comparison: an attribute of the schema, an operator and a value in the attribute's domain
-abbrev pub predicate : Attributes → PlainTerm → Option Pred
-predicate s t = option_and_then (compared t.operator) (assigned s t.left t.right)
+abbrev pub pred_on : Attributes → AttrNo → WrittenOp → Pred
+pred_on s a op = record { attr = a; op = meant_op (λ v. option_map_or (λ n. n) (value_at s a v) (pos 0)) op }
+
+-- the predicate, where it has no fault. Then its attribute is there, and each word has a value
+abbrev pub meant_pred : Attributes → WrittenPred → Pred
+meant_pred s p = option_map_or (λ a. pred_on s a p.op) (attribute_named s p.attr) (pred_on s (numbered 0) p.op)
+
+abbrev pub judged : List Pred → Option ExprFault → Result (List Pred) ExprFault
+judged conj None = Ok conj
+judged conj (Some fault) = Err fault
+
+abbrev pub meaning : Attributes → Option (List WrittenPred) → Result (List Pred) ExprFault
+meaning s None = Err Bad
+meaning s (Some ps) = judged (map (meant_pred s) ps) (fault_in s ps)
 
 -- the condition that these tokens are, or the first fault
 abbrev pub condition : Attributes → Option (List Lexeme) → Result (List Pred) ExprFault
-condition s ts = ok_or (option_map (λ p. p ∷ []) (option_and_then (predicate s) (term_of ts))) Bad
+condition s ts = meaning s (option_and_then written ts)
 
 -- the condition that a text is, or its first fault
 abbrev pub expression : Attributes → Text → Result (List Pred) ExprFault
@@ -43,8 +106,3 @@ abbrev pub Reads : Result (List Pred) ExprFault → Result (List Pred) ExprFault
 Reads (Ok conj) read = read ≡ Ok conj
 Reads (Err NoMemory) read = (conj : List Pred) × (read ≡ Ok conj)
 Reads (Err fault) read = read ≡ Err fault
-
--- a fault that names an attribute names one of the schema
-abbrev pub IsKnown : Attributes → ExprFault → Type 0
-IsKnown s (Dom a) = a.0 < length s
-IsKnown s _ = Unit {0}

@@ -1,1 +1,7 @@
+pub mod Written
+pub mod Readings
+pub mod Parts
 pub mod Expressions
+pub mod Faults
+pub mod Canonical
+pub mod Changes

@@ -54,7 +54,8 @@ with_value s a text (Some v) item e h =
     let is : item ≡ (a, v) = cc in
     ap (item_lies s) is ∙ value_lies (attribute_at s a) text v e
 
-with_attribute : (s : Attributes) (text : Text) (o : Option AttrNo) (item : AttrNo × ℤ)
+-- the value that a text has in an attribute's domain lies there
+pub with_attribute : (s : Attributes) (text : Text) (o : Option AttrNo) (item : AttrNo × ℤ)
     → option_and_then (λ a. option_map (λ v. (a, v)) (value_at s a text)) o ≡ Some item → item_lies s item ≡ true
 with_attribute s text None item h = absurd (cc)
 with_attribute s text (Some a) item h = with_value s a text (value_at s a text) item refl h

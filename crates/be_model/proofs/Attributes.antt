@@ -41,7 +41,7 @@ all_at p [] i x h e = absurd (cc)
 all_at p (y ∷ ys) zero x h e = let k : y ≡ x = cc in ap p (sym k) ∙ and_left (p y) (list_all p ys) h
 all_at p (y ∷ ys) (suc i) x h e = all_at p ys i x (and_right (p y) (list_all p ys) h) e
 
-parts3 : (a b c : Bool) → (a && b && c) ≡ true → (a ≡ true) × (b ≡ true) × (c ≡ true)
+pub parts3 : (a b c : Bool) → (a && b && c) ≡ true → (a ≡ true) × (b ≡ true) × (c ≡ true)
 parts3 true true c h = (refl, refl, h)
 parts3 true false c h = absurd (cc)
 parts3 false b c h = absurd (cc)
@@ -66,7 +66,7 @@ high_bounds (Int lo hi) h =
 high_bounds (Sym words) h =
     let k = few_words (length words) (parts3 (leb 1 (length words)) (leb (length words) 4096) (all_differ words) h).1 in omega (arith, ints)
 
-same_text_sym : (a b : Text) → same_text a b ≡ same_text b a
+pub same_text_sym : (a b : Text) → same_text a b ≡ same_text b a
 same_text_sym a b =
     let d = same_text-Decides b a in
     let e : Decides (same_text b a) (a ≡ b) = (λ h. sym (d.0 h), λ h. d.1 (sym h)) in

@@ -12,3 +12,6 @@ pub mod Examples
 pub mod RowsByIds
 pub mod RangeBits
 pub mod FewItems
+pub mod ReadBack
+pub mod NamePlaces
+pub mod Putting

@@ -1,6 +1,7 @@
 -- Domains: ranges of whole numbers, and how they are halved.
-use Rattle.std.specs.Prelude.{ℕ, ℤ, pos, ◌+ℤ◌, ◌-ℤ◌, ◌+◌, ◌-◌, ◌/◌, ◌&&◌, zero, suc, Bool, List, length, nat_le, int_le, int_div, unsigned_abs, Option, Some, None, option_map, position, if◌then◌else◌}
-use Rattle.be_base.specs.Text.{Text, same_text}
+pub use Rattle.be_model.specs.TextLists.{place_of}
+use Rattle.std.specs.Prelude.{ℕ, ℤ, pos, ◌+ℤ◌, ◌-ℤ◌, ◌+◌, ◌-◌, ◌/◌, ◌&&◌, zero, suc, Bool, length, nat_le, int_le, int_div, unsigned_abs, Option, Some, None, option_map, if◌then◌else◌}
+use Rattle.be_base.specs.Text.{Text}
 use Rattle.be_base.specs.Numbers.{int_of}
 use Rattle.be_model.specs.declared.schemas.Domain.{Domain}
 use Rattle.be_model.specs.declared.schemas.Domain.TheVariants.{Int, Sym}
@@ -19,10 +20,6 @@ is_within r v = int_le r.0 v && int_le v r.1
 
 abbrev pub width : Range → ℕ
 width r = unsigned_abs ((r.1 -ℤ r.0) +ℤ pos 1)
-
--- the place of the equal text
-abbrev pub place_of : Text → List Text → Option ℕ
-place_of text texts = position (λ other. same_text other text) texts
 
 -- the number that the word is, where it lies in the range
 abbrev pub within : Range → Option ℤ → Option ℤ

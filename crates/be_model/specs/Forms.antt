@@ -1,5 +1,5 @@
 -- The forms of sets, conjunctions and events.
-use Rattle.std.specs.Prelude.{◌≡◌, ℤ, ◌<◌, ◌≤◌, ◌&&◌, Bool, true, List, [], ◌∷◌, length, nat_lt, int_lt, All}
+use Rattle.std.specs.Prelude.{◌≡◌, ℤ, ◌<◌, ◌≤◌, ◌&&◌, Bool, true, List, [], ◌∷◌, length, nat_lt, int_lt, All, if◌then◌else◌}
 use Rattle.be_model.specs.declared.conditions.Op.{Op}
 use Rattle.be_model.specs.declared.conditions.Op.TheVariants.{Lt, Le, Eq, Ne, Ge, Gt, Between, OneOf, NoneOf}
 use Rattle.be_model.specs.declared.conditions.Pred.{Pred}
@@ -10,6 +10,11 @@ abbrev pub rises : List ℤ → Bool
 rises [] = true
 rises (x ∷ []) = true
 rises (x ∷ y ∷ ys) = int_lt x y && rises (y ∷ ys)
+
+-- a value put among rising ones, where it doesn't stand yet
+abbrev pub put_value : ℤ → List ℤ → List ℤ
+put_value v [] = v ∷ []
+put_value v (x ∷ xs) = if int_lt v x then v ∷ x ∷ xs else (if int_lt x v then x ∷ put_value v xs else x ∷ xs)
 
 -- 1 to 64 rising values
 pub record AreValues (xs : List ℤ) : Type 0 where

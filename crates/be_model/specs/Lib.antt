@@ -1,3 +1,5 @@
+pub mod TextLists
+pub mod Places
 pub mod Domains
 pub mod Schemas
 pub mod Matching

@@ -1,11 +1,12 @@
 -- What lies in a schema.
-use Rattle.std.specs.Prelude.{ℤ, Bool, false, List, [], ◌∷◌, Option, Some, None}
+use Rattle.std.specs.Prelude.{ℤ, Bool, true, false, List, [], ◌∷◌, Option, Some, None}
 use Rattle.std.specs.List.{list_all}
 use Rattle.be_base.specs.declared.names.AttrNo.{AttrNo}
 use Rattle.be_model.specs.declared.conditions.Op.{Op}
 use Rattle.be_model.specs.declared.conditions.Op.TheVariants.{Lt, Le, Eq, Ne, Ge, Gt, Between, OneOf, NoneOf}
 use Rattle.be_model.specs.declared.conditions.Pred.{Pred}
 use Rattle.be_model.specs.declared.changes.Row.{Row}
+use Rattle.be_model.specs.Entries.{Entry, subscribed, unsubscribed, left}
 use Rattle.be_model.specs.Domains.{Range, is_within}
 use Rattle.be_model.specs.Schemas.{Attributes, range_of}
 use Rattle.be_model.specs.Matching.{Assignments}
@@ -45,3 +46,9 @@ event_lies s e = list_all (item_lies s) e
 
 abbrev pub row_lies : Attributes → Row → Bool
 row_lies s row = conj_lies s row.conj
+
+-- what a change adds lies in the schema
+abbrev pub entry_lies : Attributes → Entry → Bool
+entry_lies s (subscribed k n row) = row_lies s row
+entry_lies s (unsubscribed k n name) = true
+entry_lies s (left k n) = true

@@ -1,7 +1,8 @@
 -- Schemas: which attributes there are.
+pub use Rattle.be_model.specs.TextLists.{is_among_texts, all_differ}
 use Rattle.std.specs.Prelude.{◌≡◌, ℕ, pos, negsuc, ◌≤◌, ◌&&◌, not, Bool, true, List, [], ◌∷◌, length, map, nat_le, int_le, Option, option_map, slice_get, codes}
-use Rattle.std.specs.List.{list_all, list_any}
-use Rattle.be_base.specs.Text.{Text, same_text}
+use Rattle.std.specs.List.{list_all}
+use Rattle.be_base.specs.Text.{Text}
 use Rattle.be_base.specs.declared.names.AttrNo.{AttrNo}
 use Rattle.be_model.specs.declared.schemas.Domain.{Domain}
 use Rattle.be_model.specs.declared.schemas.Domain.TheVariants.{Int, Sym}
@@ -18,13 +19,6 @@ names_of_attributes s = map (λ (a : Attribute). a.name) s
 -- `all`, `and`, `between`, `in` and `not`
 abbrev pub reserved_words : List Text
 reserved_words = codes "all" ∷ codes "and" ∷ codes "between" ∷ codes "in" ∷ codes "not" ∷ []
-
-abbrev pub is_among_texts : Text → List Text → Bool
-is_among_texts text texts = list_any (λ other. same_text other text) texts
-
-abbrev pub all_differ : List Text → Bool
-all_differ [] = true
-all_differ (text ∷ texts) = not (is_among_texts text texts) && all_differ texts
 
 abbrev pub is_domain : Domain → Bool
 is_domain (Int lo hi) = int_le (negsuc 2147483647) lo && int_le lo hi && int_le hi (pos 2147483647)

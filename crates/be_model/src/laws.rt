@@ -1,6 +1,7 @@
-//! What hulls, spans, halves and numbers of halvings are good for. The functions do nothing; each contract is a law.
+//! What hulls, spans, halves, numbers of halvings and texts are good for. The functions do nothing; each contract is a law.
 
 ghost use Rattle.be_model.specs.Laws.{HullsHold, SpansHold, SpansAre, SpansLie, HalvingsCount, HalvesSplit};
+ghost use Rattle.be_model.specs.Texts.{ValuesAreRead, ValuesAreWords, NamesAreFound};
 
 /// A hull holds every value of the domain of which its predicate holds.
 pub fn hulls_hold()
@@ -30,4 +31,19 @@ pub fn halvings_count()
 /// The halves of a range aren't empty, cover it and have no value in common.
 pub fn halves_split()
     ensures { HalvesSplit }
+{}
+
+/// A value of a domain is read back from its text.
+pub fn values_are_read()
+    ensures { ValuesAreRead }
+{}
+
+/// The text of a value of a domain is a word.
+pub fn values_are_words()
+    ensures { ValuesAreWords }
+{}
+
+/// An attribute is found by its name.
+pub fn names_are_found()
+    ensures { NamesAreFound }
 {}

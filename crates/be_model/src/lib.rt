@@ -10,12 +10,16 @@ mod found;
 mod laws;
 mod paths;
 mod schemas;
+mod texts;
 
 pub use changes::{Change, Row};
 pub use conditions::{Conj, DomFault, Op, Pred, Values, check_conj};
 pub use costs::Cost;
 pub use events::Event;
 pub use found::Found;
-pub use laws::{halves_split, halvings_count, hulls_hold, spans_are, spans_hold, spans_lie};
+pub use laws::{
+    halves_split, halvings_count, hulls_hold, names_are_found, spans_are, spans_hold, spans_lie,
+    values_are_read, values_are_words,
+};
 pub use paths::{Hop, Path};
 pub use schemas::{Attribute, Domain, Names, Schema, is_reserved};

@@ -8,20 +8,28 @@ ghost use Rattle.be_model.specs.Schemas.{IsSchema, attribute_of, attribute_named
 
 use be_base::{ATTRIBUTES, AttrNo, FIRST_INT, LAST_INT, Name, NoMemory, SYMBOLS, read_int};
 use std::alloc::Global;
+use std::collections::HashMap;
 use std::marker::Model;
 
-/// A list of names.
+/// A list of names. A name is found by its text without a scan.
 #[derive(Drop)]
 pub struct Names {
     names: Vec<Name>,
+    // The first place of each name.
+    places: HashMap<Name, usize>,
+    // Whether no two names are the same.
+    differ: bool,
 }
 
 impl Model for Names {
     ghost use Rattle.std.specs.Prelude.{ℕ, List};
+    ghost use Rattle.be_model.specs.Places.{FindsPlaces};
 
     ghost Value = { List (List ℕ) };
 
     ghost view = { λ n. n.names.items };
+
+    ghost invariant = { λ n. FindsPlaces n.places n.differ n.names.items };
 }
 
 impl Names {
@@ -31,6 +39,8 @@ impl Names {
     {
         Names {
             names: Vec::new(alloc),
+            places: HashMap::new(alloc),
+            differ: true,
         }
     }
 
@@ -39,9 +49,21 @@ impl Names {
         ensures put { OnOk result (self.new ≡ self.old ++ name ∷ []) }
         ensures refused { OnErr result (self.new ≡ self.old) }
     {
-        match self.names.push(name) {
-            Ok(()) => Ok(()),
-            Err(_) => Err(NoMemory),
+        let place = self.names.len();
+        let known = self.place(name.bytes()).is_some();
+        if self.names.push(name).is_err() {
+            return Err(NoMemory);
+        }
+        if known {
+            self.differ = false;
+            return Ok(());
+        }
+        match self.places.insert(name, place) {
+            Ok(_) => Ok(()),
+            Err(_) => {
+                self.names.truncate(place);
+                Err(NoMemory)
+            }
         }
     }
 
@@ -65,17 +87,22 @@ impl Names {
 
     /// The place of the name that the text is.
     pub fn place(&self, text: &[u8]) -> Option<usize>
-        ensures { result ≡ place_of text.now self.now }
+        ensures exact { result ≡ place_of text.now self.now }
+        ensures below { IfSome result (λ place. place < length self.now) }
     {
-        place_among(text, self.names.as_slice())
+        let places = &self.places;
+        match Name::read(text) {
+            Ok(name) => places.get(&name).copied(),
+            Err(_) => None,
+        }
     }
-}
 
-fn place_among(text: &[u8], names: &[Name]) -> Option<usize>
-    ensures exact { result ≡ place_of text.now names.now }
-    ensures below { IfSome result (λ place. place < length names.now) }
-{
-    names.iter().position(|name| name.bytes() == text)
+    // Whether no two names are the same.
+    fn are_different(&self) -> bool
+        ensures { result ≡ all_differ self.now }
+    {
+        self.differ
+    }
 }
 
 /// The values of an attribute.
@@ -95,7 +122,7 @@ impl Domain {
         match self {
             Domain::Int { lo, hi } => FIRST_INT <= *lo && *lo <= *hi && *hi <= LAST_INT,
             Domain::Sym { words } => {
-                1 <= words.len() && words.len() <= SYMBOLS && are_different(words.as_slice())
+                1 <= words.len() && words.len() <= SYMBOLS && words.are_different()
             }
         }
     }
@@ -144,29 +171,13 @@ impl Domain {
                 }
             }
             Domain::Sym { words } => {
-                let place = place_among(word, words.as_slice())?;
+                let place = words.place(word)?;
+                // A slice shows that each place is a value.
+                let _ = words.as_slice().len();
                 Some(place as i64)
             }
         }
     }
-}
-
-// Whether no two names are the same.
-fn are_different(names: &[Name]) -> bool
-    ensures { result ≡ all_differ names.now }
-{
-    for (place, name) in names.iter().enumerate() {
-        if is_among(name, &names[place + 1..]) {
-            return false;
-        }
-    }
-    true
-}
-
-fn is_among(name: &Name, names: &[Name]) -> bool
-    ensures { result ≡ is_among_texts name.now names.now }
-{
-    names.iter().any(|other| other.same(name))
 }
 
 /// Whether the name is a word that no attribute may have as its name.
@@ -192,19 +203,21 @@ pub struct Attribute {
 #[derive(Drop)]
 pub struct Schema {
     attributes: Vec<Attribute>,
+    // The names of the attributes.
+    names: Names,
 }
 
 impl Model for Schema {
-    ghost use Rattle.std.specs.Prelude.{List};
+    ghost use Rattle.std.specs.Prelude.{◌≡◌, List};
     ghost use Rattle.be_model.specs.declared.schemas.Attribute.{Attribute};
 
     ghost Value = { List Attribute };
 
-    ghost use Rattle.be_model.specs.Schemas.{IsSchema};
+    ghost use Rattle.be_model.specs.Schemas.{IsSchema, names_of_attributes};
 
     ghost view = { λ s. s.attributes.items };
 
-    ghost invariant = { λ s. IsSchema s.attributes.items };
+    ghost invariant = { λ s. IsSchema s.attributes.items × (s.names ≡ names_of_attributes s.attributes.items) };
 }
 
 impl Schema {
@@ -214,6 +227,7 @@ impl Schema {
     {
         Schema {
             attributes: Vec::new(alloc),
+            names: Names::make(alloc),
         }
     }
 
@@ -224,9 +238,17 @@ impl Schema {
         ensures refused { OnErr result (self.new ≡ self.old) }
     {
         let (name, domain) = item;
+        let count = self.attributes.len();
         match self.attributes.push(Attribute { name, domain }) {
+            Ok(()) => {}
+            Err(_) => return Err(NoMemory),
+        }
+        match self.names.push(name) {
             Ok(()) => Ok(()),
-            Err(_) => Err(NoMemory),
+            Err(_) => {
+                self.attributes.truncate(count);
+                Err(NoMemory)
+            }
         }
     }
 
@@ -244,10 +266,11 @@ impl Schema {
         !self.is_full() && !self.has(name) && !is_reserved(name) && domain.is_valid()
     }
 
-    fn attribute(&self, a: AttrNo) -> &Attribute
+    pub(crate) fn attribute(&self, a: AttrNo) -> &Attribute
         requires { a.0 < length self.now }
         ensures there { attribute_at self.now a ≡ Some result.now }
         ensures valid { is_domain result.now.domain ≡ true }
+        ensures form { IsSchema self.now }
     {
         &self.attributes[usize::from(a.0)]
     }
@@ -271,15 +294,16 @@ impl Schema {
     pub fn has(&self, name: &Name) -> bool
         ensures { result ≡ is_among_texts name.now (names_of_attributes self.now) }
     {
-        has_name(self.attributes.as_slice(), name)
+        self.names.place(name.bytes()).is_some()
     }
 
     /// The attribute of this name.
     pub fn find(&self, name: &Name) -> Option<AttrNo>
         ensures exact { result ≡ attribute_named self.now name.now }
         ensures below { IfSome result (λ a. a.0 < length self.now) }
+        ensures few { IfSome result (λ a. a.0 < 256) }
     {
-        let place = place_of_name(self.attributes.as_slice(), name)?;
+        let place = self.names.place(name.bytes())?;
         Some(AttrNo(place as u16))
     }
 
@@ -327,21 +351,6 @@ impl Schema {
             None
         }
     }
-}
-
-fn has_name(attributes: &[Attribute], name: &Name) -> bool
-    ensures { result ≡ list_any (λ x. same_text x.name name.now) attributes.now }
-{
-    attributes.iter().any(|attribute| attribute.name.same(name))
-}
-
-fn place_of_name(attributes: &[Attribute], name: &Name) -> Option<usize>
-    ensures exact { result ≡ position (λ x. same_text x.name name.now) attributes.now }
-    ensures below { IfSome result (λ place. place < length attributes.now) }
-{
-    attributes
-        .iter()
-        .position(|attribute| attribute.name.same(name))
 }
 
 // How often a range of so many values is halved.

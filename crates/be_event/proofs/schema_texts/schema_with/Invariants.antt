@@ -1,6 +1,9 @@
-use Rattle.std.proofs.Common.{◌≡◌, take}
-use Rattle.be_event.specs.Declarations.{attributes}
+use Rattle.std.proofs.Common.{length}
+use Rattle.be_event.proofs.SchemaForms.{Put}
 use Rattle.be_event.proofs.schema_texts.schema_with.Given as goal
 
-abbrev pub invariant-loop-declaration : goal.invariant-loop-declaration
-invariant-loop-declaration l = l.schema ≡ attributes (take l.declaration-index l.declared)
+abbrev pub invariant-loop-rest : goal.invariant-loop-rest
+invariant-loop-rest l = Put l.text l.rest l.schema
+
+abbrev pub decreases-loop-rest : goal.decreases-loop-rest
+decreases-loop-rest l = length l.rest

@@ -4,4 +4,4 @@ use Rattle.be_model.proofs.schemas.Schema.accepts.Goals as goal
 
 pub returns : goal.returns
 returns c =
-    (λ h. IsSchema-push c.args.self.now c.args.name.now c.args.domain.now (rw (← c.self.view_is) c.self.invariant) (sym c.takes.ensures ∙ h), λ f. c.takes.ensures ∙ takes-from_IsSchema c.args.self.now c.args.name.now c.args.domain.now f)
+    (λ h. IsSchema-push c.args.self.now c.args.name.now c.args.domain.now (rw (← c.self.view_is) c.self.invariant.0) (sym c.takes.ensures ∙ h), λ f. c.takes.ensures ∙ takes-from_IsSchema c.args.self.now c.args.name.now c.args.domain.now f)

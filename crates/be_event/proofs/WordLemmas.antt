@@ -1,0 +1,53 @@
+-- The words of a line, by its first bytes.
+use Rattle.std.proofs.Common.{◌≡◌, ◌≢◌, ℕ, zero, suc, ◌+◌, ◌-◌, ◌<◌, ◌≤◌, ◌==◌, ◌||◌, ◌&&◌, not, Bool, true, false, cond, List, [], ◌∷◌, ◌++◌, length, take, drop, get_or, refl, sym, ap, ◌∙◌, arith, length-drop}
+use Rattle.std.specs.List.{list_all}
+use Rattle.std.proofs.lemmas.List.{at_drop_more}
+use Rattle.be_base.specs.Text.{Text}
+use Rattle.be_base.specs.Tokens.{is_blank}
+use Rattle.be_base.specs.Fronts.{starts_with}
+use Rattle.be_model.proofs.Attributes.{and_left, and_right}
+use Rattle.be_event.specs.SchemaTexts.{words, put_byte, begins_word}
+
+-- a blank in front changes nothing
+words_blank : (b : ℕ) (text : Text) → is_blank b ≡ true → words (b ∷ text) ≡ words text
+words_blank b text h = rw h refl
+
+pub blank_skipped : (text : Text) (i : ℕ) → i < length text → is_blank (get_or text i 0) ≡ true → words (drop (i + 1) text) ≡ words (drop i text)
+blank_skipped text i h b =
+    let e : words (drop i text) ≡ words (get_or text i 0 ∷ drop (i + 1) text) = at_drop_more words text i 0 h in
+    sym (words_blank (get_or text i 0) (drop (i + 1) text) b) ∙ sym e
+
+not_blank : (b : Bool) → not b ≡ true → b ≡ false
+not_blank true h = absurd (cc)
+not_blank false h = refl
+
+-- a word is as long as it can be
+pub words_first : (n : ℕ) (text : Text) → n ≢ 0 → n ≤ length text → list_all (λ b. not (is_blank b)) (take n text) ≡ true → begins_word (drop n text) ≡ false
+    → words text ≡ take n text ∷ words (drop n text)
+words_first zero text some within all rest = absurd (some refl)
+words_first (suc n) [] some within all rest = absurd (omega arith)
+words_first (suc zero) (b ∷ text) some within all rest =
+    let first = not_blank (is_blank b) (and_left (not (is_blank b)) true all) in rw (first, rest) refl
+words_first (suc (suc n)) (b ∷ []) some within all rest = absurd (omega arith)
+words_first (suc (suc n)) (b ∷ c ∷ text) some within all rest =
+    let first = not_blank (is_blank b) (and_left (not (is_blank b)) (list_all (λ d. not (is_blank d)) (c ∷ take n text)) all) in
+    let more = and_right (not (is_blank b)) (list_all (λ d. not (is_blank d)) (c ∷ take n text)) all in
+    let second = and_left (not (is_blank c)) (list_all (λ d. not (is_blank d)) (take n text)) more in
+    rw (first, second, words_first (suc n) (c ∷ text) (omega arith) (omega arith) more rest) refl
+
+word_some : (text : Text) → 0 < length text → starts_with is_blank text ≡ false → begins_word text ≡ true
+word_some [] some first = absurd (omega arith)
+word_some (b ∷ text) some first = rw first refl
+
+not_none : (n : ℕ) (text : Text) → 0 < length text → starts_with is_blank text ≡ false → begins_word (drop n text) ≡ false → n ≢ 0
+not_none zero text some first rest h = let k = word_some text some first in absurd (cc)
+not_none (suc n) text some first rest h = absurd (omega arith)
+
+-- what a scan answers at a word that w and r split off
+pub word_found : (n : ℕ) (whole text w r : Text) → words text ≡ words whole → length text ≤ length whole → starts_with is_blank text ≡ false → 0 < length text
+    → n ≤ length text → list_all (λ b. not (is_blank b)) (take n text) ≡ true → begins_word (drop n text) ≡ false → w ≡ take n text → r ≡ drop n text
+    → (words whole ≡ w ∷ words r) × (length r < length whole)
+word_found n whole text w r same shorter first some within all rest we re =
+    let found = not_none n text some first rest in
+    ( sym same ∙ words_first n text found within all rest ∙ ap (λ x. x ∷ words (drop n text)) (sym we) ∙ ap (λ x. w ∷ words x) (sym re)
+    , let e : length r ≡ length text - n = ap length re ∙ length-drop n text in omega arith )

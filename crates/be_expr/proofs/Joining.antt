@@ -1,0 +1,158 @@
+-- The predicates of a text, one after the other.
+use Rattle.std.proofs.Common.{◌≡◌, ℕ, zero, suc, ◌+◌, ◌-◌, ◌≤◌, ◌<◌, Bool, true, false, List, [], ◌∷◌, ◌++◌, length, length-append, Option, Some, None, Bor, option_map, option_and_then, codes, refl, sym, ◌∙◌, ap, subst, arith, if◌then◌else◌}
+use Rattle.std.specs.Option.{option_map_or}
+use Rattle.be_base.specs.Text.{Text, same_text}
+use Rattle.be_base.specs.Tokens.{Lexeme, word, less, less_or_equal, equal, not_equal, greater_or_equal, greater, open_brace, close_brace, comma, blank, stray, tokens}
+use Rattle.be_expr.specs.Written.{WrittenPred, is_attr, pred_tokens}
+use Rattle.be_expr.specs.Readings.{Read, with_attr, read_pred, read_joined, read_preds, written}
+use Rattle.be_expr.specs.Parts.{is_all, read_end, end_of}
+use Rattle.be_expr.specs.Faults.{preds_in}
+use Rattle.be_expr.proofs.Grammar.{PredRead, pred_is_written}
+
+shorter_behind : (ts : List Lexeme) (r : WrittenPred × List Lexeme) → PredRead ts (Some r) → length r.1 < length ts
+shorter_behind ts r h =
+    subst (λ (whole : List Lexeme). length r.1 < length whole) h.1 (omega (arith, length-append (pred_tokens r.0) r.1))
+
+-- a predicate takes a token at least
+pred_shortens : (ts : List Lexeme) (o : Read WrittenPred) (r : WrittenPred × List Lexeme) → read_pred ts ≡ o → o ≡ Some r → length r.1 < length ts
+pred_shortens ts o r e h = shorter_behind ts r (subst (PredRead ts) (e ∙ h) (pred_is_written ts))
+
+joined_alike : (f g : List Lexeme → Option (List WrittenPred)) (p : WrittenPred) (rest : List Lexeme) (n : ℕ)
+    → ((ts : List Lexeme) → length ts ≤ n → f ts ≡ g ts) → length rest ≤ n + 1 → read_joined f p rest ≡ read_joined g p rest
+joined_alike f g p [] n each few = refl
+joined_alike f g p (word w ∷ ts) n each few =
+    ap (λ (o : Option (List WrittenPred)). if same_text w (codes "and") then option_map (λ ps. p ∷ ps) o else None) (each ts (omega (arith, few)))
+joined_alike f g p _ n each few = refl
+
+first_alike : (f g : List Lexeme → Option (List WrittenPred)) (o : Read WrittenPred) (n : ℕ) → ((ts : List Lexeme) → length ts ≤ n → f ts ≡ g ts)
+    → ((r : WrittenPred × List Lexeme) → o ≡ Some r → length r.1 ≤ n + 1)
+    → option_and_then (λ (r : WrittenPred × List Lexeme). read_joined f r.0 r.1) o ≡ option_and_then (λ (r : WrittenPred × List Lexeme). read_joined g r.0 r.1) o
+first_alike f g None n each few = refl
+first_alike f g (Some r) n each few = joined_alike f g r.0 r.1 n each (few r refl)
+
+-- more fuel than tokens changes nothing
+fuel_is_enough : (fuel more : ℕ) (ts : List Lexeme) → length ts ≤ fuel → length ts ≤ more → read_preds fuel ts ≡ read_preds more ts
+fuel_is_enough zero zero ts p q = refl
+fuel_is_enough zero (suc more) [] p q = refl
+fuel_is_enough zero (suc more) (t ∷ ts) p q = absurd (omega arith)
+fuel_is_enough (suc fuel) zero [] p q = refl
+fuel_is_enough (suc fuel) zero (t ∷ ts) p q = absurd (omega arith)
+fuel_is_enough (suc fuel) (suc more) ts p q =
+    first_alike (read_preds fuel) (read_preds more) (read_pred ts) (length ts - 1)
+        (λ after few. fuel_is_enough fuel more after (omega (arith, few)) (omega (arith, few)))
+        (λ r e. let less_left : length r.1 < length ts = pred_shortens ts (read_pred ts) r refl e in omega arith)
+
+pred_is_some : (ts : List Lexeme) (n : ℕ) → length ts ≡ n → read_preds n ts ≡ option_and_then (λ (r : WrittenPred × List Lexeme). read_joined preds_in r.0 r.1) (read_pred ts)
+pred_is_some [] zero e = refl
+pred_is_some (t ∷ ts) zero e = absurd (omega arith)
+pred_is_some ts (suc n) e =
+    first_alike (read_preds n) preds_in (read_pred ts) n
+        (λ after few. fuel_is_enough n (length after) after few (omega arith))
+        (λ r h. let less_left : length r.1 < length ts = pred_shortens ts (read_pred ts) r refl h in omega arith)
+
+-- the first predicate, and those behind it
+first_pred : (ts : List Lexeme) → preds_in ts ≡ option_and_then (λ (r : WrittenPred × List Lexeme). read_joined preds_in r.0 r.1) (read_pred ts)
+first_pred ts = pred_is_some ts (length ts) refl
+
+-- the predicates behind another one
+abbrev pub preds_behind : Option (List Lexeme) → Option (List WrittenPred)
+preds_behind None = Some []
+preds_behind (Some ts) = preds_in ts
+
+joined_if : (p : WrittenPred) (b : Bool) (ts : List Lexeme)
+    → (if b then option_map (λ ps. p ∷ ps) (preds_in ts) else None) ≡ option_map (λ ps. p ∷ ps) (option_and_then preds_behind (if b then Some (Some ts) else None))
+joined_if p true ts = refl
+joined_if p false ts = refl
+
+joined_by_end : (p : WrittenPred) (ts : List Lexeme) → read_joined preds_in p ts ≡ option_map (λ ps. p ∷ ps) (option_and_then preds_behind (read_end ts))
+joined_by_end p [] = refl
+joined_by_end p (word w ∷ ts) = joined_if p (same_text w (codes "and")) ts
+joined_by_end p _ = refl
+
+abbrev preds_then : WrittenPred × List Lexeme → Option (List WrittenPred)
+preds_then r = option_map (λ ps. r.0 ∷ ps) (option_and_then preds_behind (read_end r.1))
+
+then_alike : (o : Read WrittenPred) → option_and_then (λ (r : WrittenPred × List Lexeme). read_joined preds_in r.0 r.1) o ≡ option_and_then preds_then o
+then_alike None = refl
+then_alike (Some r) = joined_by_end r.0 r.1
+
+preds_by_first : (o : Option (List Lexeme)) → option_and_then preds_in o ≡ option_and_then preds_then (option_and_then read_pred o)
+preds_by_first None = refl
+preds_by_first (Some ts) = first_pred ts ∙ then_alike (read_pred ts)
+
+abbrev pub before : {X : Type 0} → X → List Lexeme → X × List Lexeme
+before x ts = (x, ts)
+
+abbrev pub first_as : {X : Type 0} → (WrittenPred → X) → WrittenPred × List Lexeme → X × List Lexeme
+first_as f r = (f r.0, r.1)
+
+mapped_behind : {X Y : Type 0} (f : WrittenPred → X) (h : List WrittenPred → Y) (k : X → Y → Y) (p : WrittenPred) (o : Option (List WrittenPred))
+    → ((ps : List WrittenPred) → h (p ∷ ps) ≡ k (f p) (h ps)) → option_map h (option_map (λ ps. p ∷ ps) o) ≡ option_map (k (f p)) (option_map h o)
+mapped_behind f h k p None each = refl
+mapped_behind f h k p (Some ps) each = ap (λ y. Some y) (each ps)
+
+mapped_then : {X Y : Type 0} (f : WrittenPred → X) (h : List WrittenPred → Y) (k : X → Y → Y) (o : Read WrittenPred) (x : X) (left : Option (List Lexeme)) (end : Option (Option (List Lexeme)))
+    → ((p : WrittenPred) (ps : List WrittenPred) → h (p ∷ ps) ≡ k (f p) (h ps))
+    → option_map (before x) left ≡ option_map (first_as f) o → end ≡ option_and_then read_end left
+    → option_map h (option_and_then preds_then o) ≡ option_map (k x) (option_map h (option_and_then preds_behind end))
+mapped_then f h k None x None end each p q = ap (λ e. option_map (k x) (option_map h (option_and_then preds_behind e))) (sym q)
+mapped_then f h k (Some r) x None end each p q = absurd (cc)
+mapped_then f h k None x (Some ts) end each p q = absurd (cc)
+mapped_then f h k (Some r) x (Some ts) end each p q =
+    let first : x ≡ f r.0 = ap (λ o. option_map_or (λ y. y.0) o x) p in
+    let rest : ts ≡ r.1 = ap (λ o. option_map_or (λ y. y.1) o ts) p in
+    let ends : read_end r.1 ≡ end = ap read_end (sym rest) ∙ sym q in
+    mapped_behind f h k r.0 (option_and_then preds_behind (read_end r.1)) (each r.0)
+    ∙ ap (λ e. option_map (k (f r.0)) (option_map h (option_and_then preds_behind e))) ends
+    ∙ ap (λ y. option_map (k y) (option_map h (option_and_then preds_behind end))) (sym first)
+
+-- one predicate more, where a function of the predicates goes by the first one
+pub preds_step : {X Y : Type 0} (f : WrittenPred → X) (h : List WrittenPred → Y) (k : X → Y → Y) (o : Option (List Lexeme)) (x : X) (left : Option (List Lexeme)) (end : Option (Option (List Lexeme)))
+    → ((p : WrittenPred) (ps : List WrittenPred) → h (p ∷ ps) ≡ k (f p) (h ps))
+    → option_map (before x) left ≡ option_map (first_as f) (option_and_then read_pred o) → end ≡ option_and_then read_end left
+    → option_map h (option_and_then preds_in o) ≡ option_map (k x) (option_map h (option_and_then preds_behind end))
+preds_step f h k o x left end each p q =
+    ap (option_map h) (preds_by_first o) ∙ mapped_then f h k (option_and_then read_pred o) x left end each p q
+
+pub no_preds_step : (o : Option (List Lexeme)) → option_and_then read_pred o ≡ None → option_and_then preds_in o ≡ None
+no_preds_step o h = preds_by_first o ∙ ap (option_and_then preds_then) h
+
+-- the predicates that are left
+abbrev pub preds_left : Option (Bor Text) → Option (List WrittenPred)
+preds_left None = Some []
+preds_left (Some text) = option_and_then preds_in (tokens text.now)
+
+abbrev pub left_size : Option (Bor Text) → ℕ
+left_size None = 0
+left_size (Some text) = length text.now + 1
+
+left_behind : (o : Option (List Lexeme)) → option_and_then preds_behind (option_map (λ ts. Some ts) o) ≡ option_and_then preds_in o
+left_behind None = refl
+left_behind (Some ts) = refl
+
+pub left_by_end : (left : Option (Bor Text)) → option_and_then preds_behind (end_of (Some left)) ≡ preds_left left
+left_by_end None = refl
+left_by_end (Some text) = left_behind (tokens text.now)
+
+no_op_alone : (a : Text) (b : Bool) → (if b then option_map (with_attr a) None else None) ≡ None
+no_op_alone a true = refl
+no_op_alone a false = refl
+
+one_word : (w : Text) → preds_in (word w ∷ []) ≡ None
+one_word w = ap (option_and_then (λ (r : WrittenPred × List Lexeme). read_joined (read_preds 0) r.0 r.1)) (no_op_alone w (is_attr w))
+
+all_if : (w : Text) (b : Bool) → (if b then Some [] else None) ≡ (if b then Some [] else preds_in (word w ∷ []))
+all_if w true = refl
+all_if w false = sym (one_word w)
+
+written_by_all : (ts : List Lexeme) → written ts ≡ (if is_all ts then Some [] else preds_in ts)
+written_by_all [] = refl
+written_by_all (word w ∷ []) = all_if w (same_text w (codes "all"))
+written_by_all (t ∷ []) = refl
+written_by_all (word w ∷ u ∷ ts) = refl
+written_by_all (t ∷ u ∷ ts) = refl
+
+-- `all` alone, or else predicates
+pub written_if : (o : Option (List Lexeme)) → option_and_then written o ≡ (if option_map_or is_all o false then Some [] else option_and_then preds_in o)
+written_if None = refl
+written_if (Some ts) = written_by_all ts

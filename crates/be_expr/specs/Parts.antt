@@ -1,0 +1,108 @@
+-- A condition read part by part.
+use Rattle.std.specs.Prelude.{Bool, true, false, List, [], ◌∷◌, Option, Some, None, option_map, option_and_then, codes, if◌then◌else◌}
+use Rattle.std.specs.Borrow.{Bor}
+use Rattle.be_base.specs.Text.{Text, same_text}
+use Rattle.be_base.specs.Tokens.{Lexeme, word, open_brace, close_brace, comma, tokens}
+use Rattle.be_base.specs.Scans.{lexeme}
+use Rattle.be_expr.specs.declared.parts.Opening.{Opening}
+use Rattle.be_expr.specs.declared.parts.Opening.TheVariants.{Compared, Between, Among, NotAmong}
+use Rattle.be_expr.specs.declared.parts.Head.{Head}
+use Rattle.be_expr.specs.declared.parts.Value.{Value}
+use Rattle.be_expr.specs.Written.{WrittenOp, compared, between, among, not_among, WrittenPred, is_operator, is_attr}
+use Rattle.be_expr.specs.Readings.{Read, with_attr, read_values}
+
+-- `all` alone
+abbrev pub is_all : List Lexeme → Bool
+is_all (word w ∷ []) = same_text w (codes "all")
+is_all _ = false
+
+abbrev pub read_word : List Lexeme → Read Text
+read_word (word w ∷ ts) = Some (w, ts)
+read_word _ = None
+
+-- the tokens after the wanted word
+abbrev pub after_word : Text → List Lexeme → Option (List Lexeme)
+after_word wanted (word w ∷ ts) = if same_text w wanted then Some ts else None
+after_word wanted _ = None
+
+abbrev pub after_brace : List Lexeme → Option (List Lexeme)
+after_brace (open_brace ∷ ts) = Some ts
+after_brace _ = None
+
+-- the word behind an `and`
+abbrev pub read_high : List Lexeme → Read Text
+read_high ts = option_and_then read_word (after_word (codes "and") ts)
+
+-- the two values of a `between`
+abbrev pub read_ends : List Lexeme → Read WrittenOp
+read_ends ts =
+    option_and_then (λ (low : Text × List Lexeme). option_map (λ (high : Text × List Lexeme). (between low.0 high.0, high.1)) (read_high low.1)) (read_word ts)
+
+-- a set, before its values
+abbrev pub read_brace : WrittenOp → List Lexeme → Read WrittenOp
+read_brace op ts = option_map (λ after. (op, after)) (after_brace ts)
+
+-- what follows the word of an operator, but that the values of a set are left
+abbrev pub read_worded_opening : Text → List Lexeme → Read WrittenOp
+read_worded_opening w ts =
+    if same_text w (codes "between") then read_ends ts else
+    (if same_text w (codes "in") then read_brace (among []) ts else
+    (if same_text w (codes "not") then option_and_then (read_brace (not_among [])) (after_word (codes "in") ts) else None))
+
+-- an operator and its values, but that the values of a set are left
+abbrev pub read_opening : List Lexeme → Read WrittenOp
+read_opening (word w ∷ ts) = read_worded_opening w ts
+read_opening (operator ∷ word v ∷ ts) = if is_operator operator then Some (compared operator v, ts) else None
+read_opening _ = None
+
+abbrev pub read_attr : List Lexeme → Read Text
+read_attr (word a ∷ ts) = if is_attr a then Some (a, ts) else None
+read_attr _ = None
+
+-- a predicate, but that the values of a set are left
+abbrev pub read_head : List Lexeme → Read WrittenPred
+read_head ts = option_and_then (λ (r : Text × List Lexeme). option_map (with_attr r.0) (read_opening r.1)) (read_attr ts)
+
+-- a value of a set, and whether it is the last
+abbrev pub read_value : List Lexeme → Read (Text × Bool)
+read_value (word v ∷ comma ∷ ts) = Some ((v, false), ts)
+read_value (word v ∷ close_brace ∷ ts) = Some ((v, true), ts)
+read_value _ = None
+
+-- what is left behind a predicate: nothing, or what follows an `and`
+abbrev pub read_end : List Lexeme → Option (Option (List Lexeme))
+read_end [] = Some None
+read_end (word w ∷ ts) = if same_text w (codes "and") then Some (Some ts) else None
+read_end _ = None
+
+-- an operator, with the values that are left where it is of a set
+abbrev pub with_values : WrittenOp → Option (List Lexeme) → Read WrittenOp
+with_values (compared operator v) left = option_map (λ ts. (compared operator v, ts)) left
+with_values (between v w) left = option_map (λ ts. (between v w, ts)) left
+with_values (among vs) left = option_map (λ r. (among r.0, r.1)) (option_and_then read_values left)
+with_values (not_among vs) left = option_map (λ r. (not_among r.0, r.1)) (option_and_then read_values left)
+
+-- what a scan found, and the tokens of the text that it left
+abbrev pub following : {X Y : Type 0} → (X → Y) → Option (X × Bor Text) → Read Y
+following plain None = None
+following plain (Some r) = option_map (λ ts. (plain r.0, ts)) (tokens r.1.now)
+
+abbrev pub now_of : Bor Text → Text
+now_of text = text.now
+
+abbrev pub plain_opening : Opening → WrittenOp
+plain_opening (Compared operator v) = compared (lexeme operator) v.now
+plain_opening (Between v w) = between v.now w.now
+plain_opening Among = among []
+plain_opening NotAmong = not_among []
+
+abbrev pub plain_head : Head → WrittenPred
+plain_head head = record { attr = head.attr; op = plain_opening head.opening }
+
+abbrev pub plain_value : Value → Text × Bool
+plain_value value = (value.word.now, value.is_last)
+
+abbrev pub end_of : Option (Option (Bor Text)) → Option (Option (List Lexeme))
+end_of None = None
+end_of (Some None) = Some None
+end_of (Some (Some text)) = option_map (λ ts. Some ts) (tokens text.now)

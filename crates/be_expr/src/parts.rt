@@ -1,0 +1,176 @@
+//! The parts of a condition's text: each function reads one from the front of a text.
+
+ghost use Rattle.std.specs.Prelude.{◌≡◌, ◌<◌, length, Some, None, option_and_then, IfSome, if◌then◌else◌};
+ghost use Rattle.be_base.specs.Text.{same_text};
+ghost use Rattle.be_base.specs.Tokens.{tokens};
+ghost use Rattle.be_base.specs.Scans.{lexeme};
+ghost use Rattle.be_expr.specs.Written.{is_attr, is_operator};
+ghost use Rattle.be_expr.specs.Parts.{read_word, after_word, after_brace, read_high, read_ends, read_opening, read_worded_opening, read_head, read_value, read_end, following, now_of, plain_opening, plain_head, plain_value, end_of};
+
+use be_base::{Name, Scan, Token, next_token};
+use be_model::is_reserved;
+
+/// What stands after an attribute: an operator with its values, but that those of a set follow.
+#[derive(Clone, Copy)]
+pub enum Opening<'a> {
+    Compared(Token<'a>, &'a [u8]),
+    Between(&'a [u8], &'a [u8]),
+    Among,
+    NotAmong,
+}
+
+/// A predicate, but that the values of a set follow.
+#[derive(Clone, Copy)]
+pub struct Head<'a> {
+    pub attr: Name,
+    pub opening: Opening<'a>,
+}
+
+/// A value of a set.
+#[derive(Clone, Copy)]
+pub struct Value<'a> {
+    pub word: &'a [u8],
+    pub is_last: bool,
+}
+
+/// Reads a predicate, and in a set only what stands before its first value.
+pub fn read_head(text: &[u8]) -> Option<(Head<'_>, &[u8])>
+    ensures head { following plain_head result ≡ option_and_then read_head (tokens text.now) }
+    ensures shorter { IfSome result (λ r. length r.1.now < length text.now) }
+{
+    let (word, rest) = read_word(text)?;
+    let attr = attr_name(word)?;
+    let (opening, rest) = read_opening(rest)?;
+    Some((Head { attr, opening }, rest))
+}
+
+/// Reads a value of a set, and the comma or the brace behind it.
+pub fn read_value(text: &[u8]) -> Option<(Value<'_>, &[u8])>
+    ensures value { following plain_value result ≡ option_and_then read_value (tokens text.now) }
+    ensures shorter { IfSome result (λ r. length r.1.now < length text.now) }
+{
+    let (word, rest) = read_word(text)?;
+    let (is_last, rest) = match next_token(rest) {
+        Scan::Found(Token::Comma, rest) => (false, rest),
+        Scan::Found(Token::CloseBrace, rest) => (true, rest),
+        _ => return None,
+    };
+    Some((Value { word, is_last }, rest))
+}
+
+/// The text behind an `and`, or nothing at the end of the text.
+pub fn read_end(text: &[u8]) -> Option<Option<&[u8]>>
+    ensures end { end_of result ≡ option_and_then read_end (tokens text.now) }
+    ensures shorter { IfSome result (λ next. IfSome next (λ rest. length rest.now < length text.now)) }
+{
+    match next_token(text) {
+        Scan::End => Some(None),
+        Scan::Found(Token::Word(word), rest) if word == b"and".as_slice() => Some(Some(rest)),
+        _ => None,
+    }
+}
+
+// The word as the name of an attribute.
+fn attr_name(word: &[u8]) -> Option<Name>
+    ensures { result ≡ (if is_attr word.now then Some word.now else None) }
+{
+    match Name::read(word) {
+        Ok(name) if !is_reserved(&name) => Some(name),
+        _ => None,
+    }
+}
+
+fn read_word(text: &[u8]) -> Option<(&[u8], &[u8])>
+    ensures word { following now_of result ≡ option_and_then read_word (tokens text.now) }
+    ensures shorter { IfSome result (λ r. length r.1.now < length text.now) }
+{
+    match next_token(text) {
+        Scan::Found(Token::Word(word), rest) => Some((word, rest)),
+        _ => None,
+    }
+}
+
+// The text behind the wanted word.
+fn after_word<'a>(text: &'a [u8], wanted: &[u8]) -> Option<&'a [u8]>
+    ensures word { option_and_then (λ rest. tokens rest.now) result ≡ option_and_then (after_word wanted.now) (tokens text.now) }
+    ensures shorter { IfSome result (λ rest. length rest.now < length text.now) }
+{
+    match read_word(text) {
+        Some((word, rest)) if word == wanted => Some(rest),
+        _ => None,
+    }
+}
+
+// The text behind an opening brace.
+fn after_brace(text: &[u8]) -> Option<&[u8]>
+    ensures brace { option_and_then (λ rest. tokens rest.now) result ≡ option_and_then after_brace (tokens text.now) }
+    ensures shorter { IfSome result (λ rest. length rest.now < length text.now) }
+{
+    match next_token(text) {
+        Scan::Found(Token::OpenBrace, rest) => Some(rest),
+        _ => None,
+    }
+}
+
+fn read_opening(text: &[u8]) -> Option<(Opening<'_>, &[u8])>
+    ensures opening { following plain_opening result ≡ option_and_then read_opening (tokens text.now) }
+    ensures shorter { IfSome result (λ r. length r.1.now < length text.now) }
+{
+    match next_token(text) {
+        Scan::Found(Token::Word(word), rest) => read_worded(word, rest),
+        Scan::Found(operator, rest) if is_operator(operator) => {
+            let (value, rest) = read_word(rest)?;
+            Some((Opening::Compared(operator, value), rest))
+        }
+        _ => None,
+    }
+}
+
+fn is_operator(token: Token<'_>) -> bool
+    ensures { result ≡ is_operator (lexeme token.entry) }
+{
+    match token {
+        Token::Less
+        | Token::LessOrEqual
+        | Token::Equal
+        | Token::NotEqual
+        | Token::GreaterOrEqual
+        | Token::Greater => true,
+        _ => false,
+    }
+}
+
+fn read_between(text: &[u8]) -> Option<(Opening<'_>, &[u8])>
+    ensures opening { following plain_opening result ≡ option_and_then read_ends (tokens text.now) }
+    ensures shorter { IfSome result (λ r. length r.1.now < length text.now) }
+{
+    let (low, rest) = read_word(text)?;
+    let (high, rest) = read_high(rest)?;
+    Some((Opening::Between(low, high), rest))
+}
+
+// The word behind an `and`.
+fn read_high(text: &[u8]) -> Option<(&[u8], &[u8])>
+    ensures word { following now_of result ≡ option_and_then read_high (tokens text.now) }
+    ensures shorter { IfSome result (λ r. length r.1.now < length text.now) }
+{
+    let rest = after_word(text, b"and")?;
+    read_word(rest)
+}
+
+// What stands behind the word of an operator.
+fn read_worded<'a>(word: &[u8], text: &'a [u8]) -> Option<(Opening<'a>, &'a [u8])>
+    ensures opening { following plain_opening result ≡ option_and_then (read_worded_opening word.now) (tokens text.now) }
+    ensures shorter { IfSome result (λ r. length r.1.now < length text.now) }
+{
+    if word == b"between".as_slice() {
+        read_between(text)
+    } else if word == b"in".as_slice() {
+        Some((Opening::Among, after_brace(text)?))
+    } else if word == b"not".as_slice() {
+        let rest = after_word(text, b"in")?;
+        Some((Opening::NotAmong, after_brace(rest)?))
+    } else {
+        None
+    }
+}
