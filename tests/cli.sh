@@ -81,9 +81,9 @@ else
     echo 'skipped: a schema without permission: this user may read every file'
 fi
 : >empty.txt
-call run empty.txt; same 'an empty schema' 0 'BAD\nBAD\nBAD\n' ''
+call run empty.txt; same 'an empty schema' 0 'ATTR price\nATTR price\nATTR price\n' ''
 printf 'int price 10 1\nint qty -5 5\nint one 7 7\n' >first.txt
-call run first.txt; same 'a fault on line 1' 3 '' 'schema line 1: Form\n'
+call run first.txt; same 'a fault on line 1' 3 '' 'schema line 1: Range\n'
 printf 'int price 0 1000\nint qty -5 5\nint one 7\n' >third.txt
 call run third.txt; same 'a fault on line 3' 3 '' 'schema line 3: Form\n'
 printf 'int price 0 1000\nint qty -5 5\nint one 7' >short.txt
@@ -93,11 +93,20 @@ call run over.txt; same 'a file over the limit' 4 '' 'file over 67108864 bytes\n
 truncate -s 67108864 limit.txt
 call run limit.txt; same 'a file at the limit' 3 '' 'schema line 1: Form\n'
 
+printf '# a comment\r\n\r\nint all 0 1\r\n' >reserved.txt
+call run reserved.txt; same 'a reserved name behind a comment' 3 '' 'schema line 3: Reserved\n'
+printf 'sym a x y x\n' >twice.txt
+call run twice.txt; same 'a symbol twice' 3 '' 'schema line 1: Twice\n'
+{ for i in $(seq 257); do echo "int a$i 0 1"; done; } >many.txt
+call run many.txt; same 'an attribute too many' 3 '' 'schema line 257: Many\n'
+
 # sessions
 call run schema.txt; same 'the three lines' 0 "$replies" ''
 call run "$room/schema.txt"; same 'a schema by its whole path' 0 "$replies" ''
 printf 'SUB a price >= 10\nPUB price=10' >in
 call run schema.txt; same 'a last line without LF' 0 'OK 1\nHIT 1 1 a\n' ''
+printf 'SUB a all\r\nUNSUB b\nLIST\nQUIT\nPUB -\n' >in
+call run schema.txt; same 'a QUIT' 0 'OK 1\nNONE 1\nLIST 1 1 a\nBYE 2\n' ''
 : >in
 call run schema.txt; same 'an empty input' 0 '' ''
 { head -c 65537 /dev/zero; printf '\n'; head -c 65536 /dev/zero; printf "\n$three"; } >in

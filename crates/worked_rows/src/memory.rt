@@ -2,10 +2,12 @@
 
 use be_base::{AttrNo, Id, LINE_BYTES, Name, SessionNo};
 use be_change::ChangeLog;
-use be_event::{read_event, read_schema};
-use be_expr::read_expr;
+use be_event::{read_event, read_schema, write_event};
+use be_expr::{read_change, read_expr, write_change, write_expr};
 use be_io::LineReader;
-use be_model::{Change, Conj, Domain, Event, Found, Names, Op, Pred, Row, Schema, Values};
+use be_model::{
+    Change, Conj, Domain, Event, Found, Hop, Names, Op, Path, Pred, Row, Schema, Values,
+};
 use std::sync::Arc;
 use std::test::Fail;
 
@@ -48,8 +50,19 @@ fn calls_have_memory(rt: HostRuntime) -> Result<(), Fail> {
     };
     assert!(rt; log.push(Arc::new(alloc, bye)?).is_ok());
     let _reader = LineReader::make(alloc, LINE_BYTES)?;
-    assert!(rt; read_schema(alloc, b"int price 0 1000\n").is_ok());
-    assert!(rt; read_expr(alloc, &schema, b"price >= 10").is_ok());
+    assert!(rt; read_schema(alloc, b"int price 0 1000\nsym side buy sell\n").is_ok());
+    assert!(rt; read_expr(alloc, &schema, b"price >= 10 and price in {1,2}").is_ok());
     assert!(rt; read_event(alloc, &schema, b"price=10").is_ok());
+    assert!(rt; read_change(alloc, &schema, b"SUB 1 0 a price >= 10", Id(0)).is_ok());
+    let mut path = Path::make(alloc);
+    path.push(Hop::Low)?;
+    assert!(rt; write_expr(alloc, &schema, &row.conj)?.as_slice() == b"price >= 10");
+    assert!(rt; write_event(alloc, &schema, &event)?.as_slice() == b"price=10");
+    let gone = Change::Unsub {
+        session: SessionNo(1),
+        serial: 1,
+        name,
+    };
+    assert!(rt; write_change(alloc, &schema, &gone)?.as_slice() == b"UNSUB 1 1 price");
     Ok(())
 }

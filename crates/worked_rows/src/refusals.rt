@@ -8,10 +8,11 @@ use std::test::Fail;
 const SCRIPT: &[u8] = b"SUB a price >= 10\nPUB price=10\nPUB price=9\n";
 
 fn form_at(line: u64) -> Status {
-    Status::SchemaBad {
-        line,
-        kind: SchemaKind::Form,
-    }
+    faulty(line, SchemaKind::Form)
+}
+
+fn faulty(line: u64, kind: SchemaKind) -> Status {
+    Status::SchemaBad { line, kind }
 }
 
 // A setting in which the input would be answered, if it were read.
@@ -62,40 +63,29 @@ fn words_without_a_reading(rt: HostRuntime) -> Result<(), Fail> {
     Ok(())
 }
 
-// Schemas with the first line that has a fault.
-const FAULTY: &[(&str, u64)] = &[
-    ("int price 10 1\nint qty -5 5\nint one 7 7\n", 1),
-    ("int a 0\n", 1),
-    ("int a\n", 1),
-    ("int\n", 1),
-    ("int a 0 1 2\n", 1),
-    ("int a 0 x\n", 1),
-    ("int a x 1\n", 1),
-    ("int a 0 1.5\n", 1),
-    ("int a 0 +1\n", 1),
-    ("int a,0,1\n", 1),
-    ("int a = 0 1\n", 1),
-    ("Int a 0 1\n", 1),
-    ("sym a x y\n", 1),
-    ("# prices\nint a 0 1\n", 1),
-    ("\nint a 0 1\n", 1),
-    (" \nint a 0 1\n", 1),
-    ("int all 0 1\n", 1),
-    ("int between 0 1\n", 1),
-    ("int a 0 2147483648\n", 1),
-    ("int a -2147483649 0\n", 1),
-    ("int a 0 99999999999999999999\n", 1),
-    ("int a 0 1\r\n", 1),
-    ("int \0 0 1\n", 1),
-    ("int price 0 1000\nint qty -5 5\nint one 7\n", 3),
-    ("int price 0 1000\nint qty -5 5\nint one 7", 3),
-    ("int price 0 1000\nint qty -5 5\nint one 8 7\n", 3),
-    ("int price 0 1000\nint qty -5 5\nint price 7 7\n", 3),
-    ("int price 0 1000\nint qty -5 5\nint and 7 7\n", 3),
-    ("int price 0 1000\nint qty -5 5\nsym side buy\n", 3),
-    ("int price 0 1000\nint qty -5 5\n\n", 3),
-    ("int price 0 1000\nint qty -5 5\n# one\nint one\n", 3),
-    ("int price 0 1000\nint qty 5 -5\nint one\n", 2),
+// Schemas with the first line that has a fault, and its first kind.
+const FAULTY: &[(&str, u64, SchemaKind)] = &[
+    ("int price 10 1\nint qty -5 5\nint one 7 7\n", 1, SchemaKind::Range),
+    ("int a 0 1\nint a 0 2\n", 2, SchemaKind::Twice),
+    ("int all 0 1\n", 1, SchemaKind::Reserved),
+    ("int a 0\n", 1, SchemaKind::Form),
+    ("int\n", 1, SchemaKind::Form),
+    ("int a 0 1 2\n", 1, SchemaKind::Form),
+    ("int a 0 x\n", 1, SchemaKind::Form),
+    ("int a,0,1\n", 1, SchemaKind::Form),
+    ("Int a 0 1\n", 1, SchemaKind::Form),
+    ("sym a\n", 1, SchemaKind::Form),
+    ("sym a x y x\n", 1, SchemaKind::Twice),
+    ("\n# a comment\n  \nsym a x,y\n", 4, SchemaKind::Form),
+    ("int between 0 1\n", 1, SchemaKind::Reserved),
+    ("int a 0 2147483648\n", 1, SchemaKind::Range),
+    ("int a -2147483649 0\n", 1, SchemaKind::Range),
+    ("int a 0 99999999999999999999\n", 1, SchemaKind::Range),
+    ("int all 5 1\nint a 0\n", 1, SchemaKind::Reserved),
+    ("int a 0 1\r\n\r\nint b 1 0\r\n", 3, SchemaKind::Range),
+    ("int a 0 1\nint \0 0 1\n", 2, SchemaKind::Form),
+    ("int price 0 1000\nint qty -5 5\nint one 7", 3, SchemaKind::Form),
+    ("int price 0 1000\nint qty -5 5\nint price 8 7\n", 3, SchemaKind::Twice),
 ];
 
 // Words that name a file that isn't there.
@@ -104,9 +94,9 @@ const MISSING: &[&[&str]] = &[&["run", "missing"], &["run", "s"], &["run", ""]];
 #[test]
 fn files_without_a_schema(rt: HostRuntime) -> Result<(), Fail> {
     let alloc = rt.alloc();
-    for (schema, line) in FAULTY {
+    for (schema, line, kind) in FAULTY {
         let ran = run(&rt, alloc, &refused(RUN, schema.as_bytes(), 2))?;
-        assert!(rt; ran.status == form_at(*line), "{schema:?}");
+        assert!(rt; ran.status == faulty(*line, *kind), "{schema:?}");
         assert!(rt;
             is_untouched(&ran) && ran.is_next_ask_refused,
             "one file was asked for"
@@ -129,7 +119,7 @@ fn files_without_a_schema(rt: HostRuntime) -> Result<(), Fail> {
     let ran = run(&rt, alloc, &refused(RUN, b"", 2))?;
     assert_eq!(rt;
         str::from_utf8(&ran.out)?,
-        "BAD\nBAD\nBAD\n",
+        "ATTR price\nATTR price\nATTR price\n",
         "a schema without attributes"
     );
     assert!(rt; ran.status == Status::Done && ran.left == 0);
@@ -143,7 +133,10 @@ fn codes_and_texts(rt: HostRuntime) -> Result<(), Fail> {
         (Status::Done, 0, ""),
         (Status::Words, 2, "words refused"),
         (form_at(1), 3, "schema line 1: Form"),
-        (form_at(3), 3, "schema line 3: Form"),
+        (faulty(3, SchemaKind::Reserved), 3, "schema line 3: Reserved"),
+        (faulty(4, SchemaKind::Twice), 3, "schema line 4: Twice"),
+        (faulty(5, SchemaKind::Range), 3, "schema line 5: Range"),
+        (faulty(6, SchemaKind::Many), 3, "schema line 6: Many"),
         (Status::ReadFault, 4, "read fault"),
         (Status::LongFile, 4, "file over 67108864 bytes"),
         (Status::WriteFault, 5, "write fault"),
