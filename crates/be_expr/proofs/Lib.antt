@@ -2,3 +2,5 @@ pub mod Grammar
 pub mod InParts
 pub mod Gathered
 pub mod Joining
+pub mod Built
+pub mod BuiltPreds
