@@ -69,14 +69,14 @@ joined_by_end p [] = refl
 joined_by_end p (word w ∷ ts) = joined_if p (same_text w (codes "and")) ts
 joined_by_end p _ = refl
 
-abbrev preds_then : WrittenPred × List Lexeme → Option (List WrittenPred)
+abbrev pub preds_then : WrittenPred × List Lexeme → Option (List WrittenPred)
 preds_then r = option_map (λ ps. r.0 ∷ ps) (option_and_then preds_behind (read_end r.1))
 
 then_alike : (o : Read WrittenPred) → option_and_then (λ (r : WrittenPred × List Lexeme). read_joined preds_in r.0 r.1) o ≡ option_and_then preds_then o
 then_alike None = refl
 then_alike (Some r) = joined_by_end r.0 r.1
 
-preds_by_first : (o : Option (List Lexeme)) → option_and_then preds_in o ≡ option_and_then preds_then (option_and_then read_pred o)
+pub preds_by_first : (o : Option (List Lexeme)) → option_and_then preds_in o ≡ option_and_then preds_then (option_and_then read_pred o)
 preds_by_first None = refl
 preds_by_first (Some ts) = first_pred ts ∙ then_alike (read_pred ts)
 

@@ -1,5 +1,5 @@
 -- What a text without a fault is built into.
-use Rattle.std.specs.Prelude.{◌≡◌, ℕ, ℤ, pos, ◌+◌, ◌≤◌, ◌&&◌, not, Bool, true, false, List, [], ◌∷◌, ◌++◌, length, map, Option, Some, None}
+use Rattle.std.specs.Prelude.{◌≡◌, ℕ, ℤ, pos, ◌+◌, ◌≤◌, ◌&&◌, not, Bool, true, false, List, length, map, Option, Some, None}
 use Rattle.std.specs.List.{list_any, list_all}
 use Rattle.std.specs.Option.{is_none, option_map_or}
 use Rattle.be_base.specs.Text.{Text}
@@ -9,7 +9,6 @@ use Rattle.be_model.specs.declared.conditions.Op.{Op}
 use Rattle.be_model.specs.declared.conditions.Pred.{Pred}
 use Rattle.be_model.specs.Schemas.{Attributes}
 use Rattle.be_model.specs.Assigned.{value_at}
-use Rattle.be_model.specs.Forms.{put_value}
 use Rattle.be_expr.specs.Written.{WrittenOp, WrittenPred}
 use Rattle.be_expr.specs.Readings.{Read}
 use Rattle.be_expr.specs.Expressions.{words_of, is_unknown, is_outside, has_many_values, rising, meant_op, meant_pred}

@@ -4,7 +4,7 @@ ghost use Rattle.std.specs.Prelude.{◌≡◌, ◌<◌, ◌≤◌, length, map, 
 ghost use Rattle.be_base.specs.Tokens.{tokens};
 ghost use Rattle.be_base.specs.Scans.{lexeme};
 ghost use Rattle.be_model.specs.Assigned.{value_at};
-ghost use Rattle.be_expr.specs.Readings.{read_values, read_pred, written};
+ghost use Rattle.be_expr.specs.Readings.{with_attr, read_values, read_pred, written};
 ghost use Rattle.be_expr.specs.Expressions.{comparison, meant_pred};
 ghost use Rattle.be_expr.specs.Parts.{plain_opening, with_values};
 ghost use Rattle.be_expr.specs.Faults.{preds_in};
@@ -12,7 +12,7 @@ ghost use Rattle.be_expr.specs.Building.{FineValues, FineOp, FinePred, FinePreds
 
 use crate::faults::ExprFault;
 use crate::parts::{Opening, is_all, read_end, read_head, read_value};
-use be_base::{AttrNo, Token};
+use be_base::{AttrNo, Name, Token};
 use be_model::{Conj, Op, Pred, Schema, Values};
 use std::alloc::Global;
 
@@ -55,15 +55,25 @@ fn build_pred<'a>(alloc: Global, schema: &Schema, text: &'a [u8]) -> Result<(Pre
     ensures shorter { IfOk result (λ r. length r.1.now < length text.now) }
     ensures memory { IfErr result (λ fault. fault ≡ ExprFault.NoMemory) }
 {
-    let Some((head, rest)) = read_head(text) else {
-        return Err(ExprFault::Bad);
-    };
-    let Some(attr) = schema.find(&head.attr) else {
-        return Err(ExprFault::Attr { name: head.attr });
-    };
-    match build_op(alloc, schema, attr, head.opening, rest) {
-        Ok((op, rest)) => Ok((Pred { attr, op }, rest)),
-        Err(fault) => Err(fault),
+    match read_head(text) {
+        Some((head, rest)) => build_behind(alloc, schema, head.attr, head.opening, rest),
+        None => Err(ExprFault::Bad),
+    }
+}
+
+// A predicate, from the values that its head leaves.
+fn build_behind<'a>(alloc: Global, schema: &Schema, name: Name, opening: Opening<'_>, text: &'a [u8]) -> Result<(Pred, &'a [u8]), ExprFault>
+    requires { FinePred schema.now (option_map (with_attr name) (with_values (plain_opening opening) (tokens text.now))) }
+    ensures pred { IfOk result (λ r. option_map (λ ts. (r.0, ts)) (tokens r.1.now) ≡ option_map (pred_with schema.now) (option_map (with_attr name) (with_values (plain_opening opening.entry) (tokens text.now)))) }
+    ensures within { IfOk result (λ r. length r.1.now ≤ length text.now) }
+    ensures memory { IfErr result (λ fault. fault ≡ ExprFault.NoMemory) }
+{
+    match schema.find(&name) {
+        Some(attr) => match build_op(alloc, schema, attr, opening, text) {
+            Ok((op, rest)) => Ok((Pred { attr, op }, rest)),
+            Err(fault) => Err(fault),
+        },
+        None => Err(ExprFault::Attr { name }),
     }
 }
 

@@ -1,5 +1,4 @@
-use Rattle.std.proofs.Common.{◌≡◌, ◌<◌, ℕ, ℤ, List, [], ◌∷◌, length, sym, ◌∙◌, ap, subst, arith, rules, w64, to_z, of_z, option_map, IfSome, Some, true, false}
-use Rattle.std.proofs.Math.Facts.{to_z-of_z}
+use Rattle.std.proofs.Common.{◌≡◌, ◌<◌, ℤ, List, [], ◌∷◌, length, sym, ◌∙◌, ap, subst, arith, rules, w64, to_z, of_z, option_map, IfSome}
 use Rattle.be_base.specs.Tokens.{tokens}
 use Rattle.be_model.specs.Assigned.{value_at}
 use Rattle.be_model.specs.Forms.{put_value}
