@@ -4,3 +4,5 @@ pub mod Gathered
 pub mod Joining
 pub mod Built
 pub mod BuiltPreds
+pub mod Meanings
+pub mod Lying

@@ -5,6 +5,8 @@ mod build;
 mod faults;
 pub mod laws;
 mod parts;
+mod read;
 mod scan;
 
 pub use faults::ExprFault;
+pub use read::read_expr;
