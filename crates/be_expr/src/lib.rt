@@ -9,3 +9,6 @@ mod writing;
 
 pub use faults::ExprFault;
 pub use writing::{write_change, write_expr};
+
+#[cfg(test)]
+mod writing_tests;
