@@ -1,5 +1,5 @@
 -- The predicates of a text, one after the other.
-use Rattle.std.proofs.Common.{◌≡◌, ℕ, zero, suc, ◌+◌, ◌-◌, ◌≤◌, ◌<◌, Bool, true, false, List, [], ◌∷◌, length, length-append, Option, Some, None, Bor, option_map, option_and_then, codes, refl, sym, ◌∙◌, ap, subst, arith, if◌then◌else◌}
+use Rattle.std.proofs.Common.{◌≡◌, ℕ, zero, suc, ◌+◌, ◌-◌, ◌≤◌, ◌<◌, ◌&&◌, Bool, true, false, List, [], ◌∷◌, length, length-append, Option, Some, None, IfSome, Bor, option_map, option_and_then, codes, refl, sym, ◌∙◌, ap, subst, arith, if◌then◌else◌}
 use Rattle.std.specs.Option.{option_map_or}
 use Rattle.be_base.specs.Text.{Text, same_text}
 use Rattle.be_base.specs.Tokens.{Lexeme, word, tokens}
@@ -39,16 +39,16 @@ fuel_is_enough (suc fuel) zero [] p q = refl
 fuel_is_enough (suc fuel) zero (t ∷ ts) p q = absurd (omega arith)
 fuel_is_enough (suc fuel) (suc more) ts p q =
     first_alike (read_preds fuel) (read_preds more) (read_pred ts) (length ts - 1)
-    (λ after few. fuel_is_enough fuel more after (omega (arith, few)) (omega (arith, few)))
-    (λ r e. let less_left : length r.1 < length ts = pred_shortens ts (read_pred ts) r refl e in omega arith)
+        (λ after few. fuel_is_enough fuel more after (omega (arith, few)) (omega (arith, few)))
+        (λ r e. let less_left : length r.1 < length ts = pred_shortens ts (read_pred ts) r refl e in omega arith)
 
 pred_is_some : (ts : List Lexeme) (n : ℕ) → length ts ≡ n → read_preds n ts ≡ option_and_then (λ (r : WrittenPred × List Lexeme). read_joined preds_in r.0 r.1) (read_pred ts)
 pred_is_some [] zero e = refl
 pred_is_some (t ∷ ts) zero e = absurd (omega arith)
 pred_is_some ts (suc n) e =
     first_alike (read_preds n) preds_in (read_pred ts) n
-    (λ after few. fuel_is_enough n (length after) after few (omega arith))
-    (λ r h. let less_left : length r.1 < length ts = pred_shortens ts (read_pred ts) r refl h in omega arith)
+        (λ after few. fuel_is_enough n (length after) after few (omega arith))
+        (λ r h. let less_left : length r.1 < length ts = pred_shortens ts (read_pred ts) r refl h in omega arith)
 
 -- the first predicate, and those behind it
 first_pred : (ts : List Lexeme) → preds_in ts ≡ option_and_then (λ (r : WrittenPred × List Lexeme). read_joined preds_in r.0 r.1) (read_pred ts)
@@ -69,14 +69,14 @@ joined_by_end p [] = refl
 joined_by_end p (word w ∷ ts) = joined_if p (same_text w (codes "and")) ts
 joined_by_end p _ = refl
 
-abbrev preds_then : WrittenPred × List Lexeme → Option (List WrittenPred)
+abbrev pub preds_then : WrittenPred × List Lexeme → Option (List WrittenPred)
 preds_then r = option_map (λ ps. r.0 ∷ ps) (option_and_then preds_behind (read_end r.1))
 
 then_alike : (o : Read WrittenPred) → option_and_then (λ (r : WrittenPred × List Lexeme). read_joined preds_in r.0 r.1) o ≡ option_and_then preds_then o
 then_alike None = refl
 then_alike (Some r) = joined_by_end r.0 r.1
 
-preds_by_first : (o : Option (List Lexeme)) → option_and_then preds_in o ≡ option_and_then preds_then (option_and_then read_pred o)
+pub preds_by_first : (o : Option (List Lexeme)) → option_and_then preds_in o ≡ option_and_then preds_then (option_and_then read_pred o)
 preds_by_first None = refl
 preds_by_first (Some ts) = first_pred ts ∙ then_alike (read_pred ts)
 
@@ -126,6 +126,10 @@ abbrev pub left_size : Option (Bor Text) → ℕ
 left_size None = 0
 left_size (Some text) = length text.now + 1
 
+pub left_size_within : (left : Option (Bor Text)) (n : ℕ) → IfSome left (λ (rest : Bor Text). length rest.now < n) → left_size left ≤ n
+left_size_within None n h = omega arith
+left_size_within (Some text) n h = omega (arith, h)
+
 left_behind : (o : Option (List Lexeme)) → option_and_then preds_behind (option_map (λ ts. Some ts) o) ≡ option_and_then preds_in o
 left_behind None = refl
 left_behind (Some ts) = refl
@@ -141,15 +145,19 @@ no_op_alone a false = refl
 one_word : (w : Text) → preds_in (word w ∷ []) ≡ None
 one_word w = ap (option_and_then (λ (r : WrittenPred × List Lexeme). read_joined (read_preds 0) r.0 r.1)) (no_op_alone w (is_attr w))
 
-all_if : (w : Text) (b : Bool) → (if b then Some [] else None) ≡ (if b then Some [] else preds_in (word w ∷ []))
+all_if : (w : Text) (b : Bool) → (if b then Some [] else None) ≡ (if b && true then Some [] else preds_in (word w ∷ []))
 all_if w true = refl
 all_if w false = sym (one_word w)
+
+never : (b : Bool) (x y : Option (List WrittenPred)) → y ≡ (if b && false then x else y)
+never true x y = refl
+never false x y = refl
 
 written_by_all : (ts : List Lexeme) → written ts ≡ (if is_all ts then Some [] else preds_in ts)
 written_by_all [] = refl
 written_by_all (word w ∷ []) = all_if w (same_text w (codes "all"))
 written_by_all (t ∷ []) = refl
-written_by_all (word w ∷ u ∷ ts) = refl
+written_by_all (word w ∷ u ∷ ts) = never (same_text w (codes "all")) (Some []) (preds_in (word w ∷ u ∷ ts))
 written_by_all (t ∷ u ∷ ts) = refl
 
 -- `all` alone, or else predicates

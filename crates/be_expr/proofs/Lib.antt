@@ -6,3 +6,5 @@ pub mod CanonicalMeaning
 pub mod ChangesRead
 pub mod Gathered
 pub mod Joining
+pub mod Built
+pub mod BuiltPreds

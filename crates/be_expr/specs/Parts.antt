@@ -1,5 +1,5 @@
 -- A condition read part by part.
-use Rattle.std.specs.Prelude.{Bool, true, false, List, [], ◌∷◌, Option, Some, None, option_map, option_and_then, codes, if◌then◌else◌}
+use Rattle.std.specs.Prelude.{◌&&◌, Bool, true, false, List, [], ◌∷◌, Option, Some, None, option_map, option_and_then, codes, if◌then◌else◌}
 use Rattle.std.specs.Borrow.{Bor}
 use Rattle.be_base.specs.Text.{Text, same_text}
 use Rattle.be_base.specs.Tokens.{Lexeme, word, open_brace, close_brace, comma, tokens}
@@ -11,9 +11,13 @@ use Rattle.be_expr.specs.declared.parts.Value.{Value}
 use Rattle.be_expr.specs.Written.{WrittenOp, compared, between, among, not_among, WrittenPred, is_operator, is_attr}
 use Rattle.be_expr.specs.Readings.{Read, with_attr, read_values}
 
+abbrev pub is_empty : List Lexeme → Bool
+is_empty [] = true
+is_empty (t ∷ ts) = false
+
 -- `all` alone
 abbrev pub is_all : List Lexeme → Bool
-is_all (word w ∷ []) = same_text w (codes "all")
+is_all (word w ∷ ts) = same_text w (codes "all") && is_empty ts
 is_all _ = false
 
 abbrev pub read_word : List Lexeme → Read Text

@@ -1,6 +1,7 @@
 //! The texts of conditions and of changes.
 #![tactic(auto)]
 
+mod build;
 mod faults;
 pub mod laws;
 mod parts;

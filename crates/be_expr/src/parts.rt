@@ -1,11 +1,12 @@
 //! The parts of a condition's text: each function reads one from the front of a text.
 
-ghost use Rattle.std.specs.Prelude.{◌≡◌, ◌<◌, length, Some, None, option_and_then, IfSome, if◌then◌else◌};
+ghost use Rattle.std.specs.Prelude.{◌≡◌, ◌<◌, length, false, Some, None, option_and_then, IfSome, if◌then◌else◌};
 ghost use Rattle.be_base.specs.Text.{same_text};
+ghost use Rattle.std.specs.Option.{option_map_or};
 ghost use Rattle.be_base.specs.Tokens.{tokens};
 ghost use Rattle.be_base.specs.Scans.{lexeme};
 ghost use Rattle.be_expr.specs.Written.{is_attr, is_operator};
-ghost use Rattle.be_expr.specs.Parts.{read_word, after_word, after_brace, read_high, read_ends, read_opening, read_worded_opening, read_head, read_value, read_end, following, now_of, plain_opening, plain_head, plain_value, end_of};
+ghost use Rattle.be_expr.specs.Parts.{is_all, is_empty, read_word, after_word, after_brace, read_high, read_ends, read_opening, read_worded_opening, read_head, read_value, read_end, following, now_of, plain_opening, plain_head, plain_value, end_of};
 
 use be_base::{Name, Scan, Token, next_token};
 use be_model::is_reserved;
@@ -31,6 +32,22 @@ pub struct Head<'a> {
 pub struct Value<'a> {
     pub word: &'a [u8],
     pub is_last: bool,
+}
+
+/// Whether the text is `all` alone.
+pub fn is_all(text: &[u8]) -> bool
+    ensures { result ≡ option_map_or is_all (tokens text.now) false }
+{
+    match read_word(text) {
+        Some((word, rest)) => word == b"all".as_slice() && is_end(rest),
+        None => false,
+    }
+}
+
+fn is_end(text: &[u8]) -> bool
+    ensures { result ≡ option_map_or is_empty (tokens text.now) false }
+{
+    matches!(next_token(text), Scan::End)
 }
 
 /// Reads a predicate, and in a set only what stands before its first value.

@@ -13,8 +13,8 @@ ghost use Rattle.be_expr.specs.Parts.{following, plain_opening, with_values};
 ghost use Rattle.be_expr.specs.Faults.{faults_of, some_outside, met_with, met_of_op, judged_pred, faults_with, preds_in};
 
 use crate::faults::{ExprFault, Faults};
-use crate::parts::{Head, Opening, read_end, read_head, read_value};
-use be_base::{AttrNo, Name, SET_VALUES, Scan, Token, next_token};
+use crate::parts::{Opening, is_all, read_end, read_head, read_value};
+use be_base::{AttrNo, Name, SET_VALUES};
 use be_model::Schema;
 
 /// The values of a predicate: how many, and whether one is outside the attribute's domain.
@@ -22,6 +22,32 @@ use be_model::Schema;
 pub struct Met {
     pub count: u64,
     pub is_outside: bool,
+}
+
+/// What is wrong with a condition's text. There is nothing where the text has no reading.
+pub fn scan(schema: &Schema, text: &[u8]) -> Option<Faults>
+    ensures { result ≡ option_map (faults_of schema.now) (option_and_then written (tokens text.now)) }
+{
+    if is_all(text) {
+        Some(Faults::NONE)
+    } else {
+        scan_preds(schema, text)
+    }
+}
+
+fn scan_preds(schema: &Schema, text: &[u8]) -> Option<Faults>
+    ensures { result ≡ option_map (faults_of schema.now) (option_and_then preds_in (tokens text.now)) }
+{
+    let mut faults = Faults::NONE;
+    let mut left = Some(text);
+    while let Some(text) = left {
+        let Some((next, rest)) = scan_pred(schema, text) else {
+            return None;
+        };
+        faults = faults.then(next);
+        left = read_end(rest)?;
+    }
+    Some(faults)
 }
 
 // Whether a word has no value in the domain of the attribute. Where there is no attribute, that isn't asked.
