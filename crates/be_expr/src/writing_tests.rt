@@ -1,5 +1,8 @@
 //! What no clause says of writing: that the texts are those of the grammar.
 
+ghost use Rattle.std.specs.Prelude.{◌≡◌, true, IfOk};
+ghost use Rattle.be_model.specs.Lies.{conj_lies};
+
 use super::*;
 use be_base::{AttrNo, Id, Name, SessionNo};
 use be_model::{Change, Conj, Domain, Names, Op, Pred, Row, Schema, Values};
@@ -37,12 +40,23 @@ fn set(alloc: Global, low: i64, high: i64) -> Result<Values, Fail> {
     Ok(values)
 }
 
-fn conj_of(
-    rt: &impl Abort,
-    alloc: Global,
-    schema: &Schema,
-    preds: Vec<Pred>,
-) -> Result<Conj, Fail> {
+fn op_of(alloc: Global, form: &str, low: i64, high: i64) -> Result<Op, Fail> {
+    Ok(match form {
+        "<" => Op::Lt(low),
+        "<=" => Op::Le(low),
+        "!=" => Op::Ne(low),
+        ">=" => Op::Ge(low),
+        ">" => Op::Gt(low),
+        "between" => Op::Between(low, high),
+        "in" => Op::OneOf(set(alloc, low, high)?),
+        "not in" => Op::NoneOf(set(alloc, low, high)?),
+        _ => Op::Eq(low),
+    })
+}
+
+fn conj_of(rt: &impl Abort, alloc: Global, schema: &Schema, preds: Vec<Pred>) -> Result<Conj, Fail>
+    ensures { IfOk result (λ conj. conj_lies schema.now conj ≡ true) }
+{
     let mut conj = Conj::make(alloc);
     for pred in preds {
         assert!(rt; !conj.is_full() && pred.lies(schema));
@@ -52,39 +66,51 @@ fn conj_of(
     Ok(conj)
 }
 
+fn check_written(
+    rt: &impl Abort,
+    alloc: Global,
+    schema: &Schema,
+    preds: Vec<Pred>,
+    want: &str,
+) -> Result<(), Fail> {
+    let conj = conj_of(rt, alloc, schema, preds)?;
+    assert_eq!(rt;
+        write_expr(alloc, schema, &conj)?.as_slice(),
+        want.as_bytes()
+    );
+    Ok(())
+}
+
 #[test]
 fn conditions_are_written(rt: HostRuntime) -> Result<(), Fail> {
     let alloc = rt.alloc();
     let schema = schema_of(&rt, alloc)?;
-    for (attr, op, want) in [
-        (0, Op::Lt(5), "price < 5"),
-        (0, Op::Le(-7), "price <= -7"),
-        (0, Op::Eq(0), "price = 0"),
-        (0, Op::Ne(10), "price != 10"),
-        (0, Op::Ge(-1000), "price >= -1000"),
-        (0, Op::Gt(999), "price > 999"),
-        (0, Op::Between(3, 9), "price between 3 and 9"),
-        (0, Op::OneOf(set(alloc, 9, -3)?), "price in {-3,9}"),
-        (0, Op::NoneOf(set(alloc, 4, 4)?), "price not in {4}"),
-        (1, Op::Lt(1), "side < sell"),
-        (1, Op::Le(0), "side <= buy"),
-        (1, Op::Eq(2), "side = hold"),
-        (1, Op::Ne(1), "side != sell"),
-        (1, Op::Ge(0), "side >= buy"),
-        (1, Op::Gt(1), "side > sell"),
-        (1, Op::Between(0, 2), "side between buy and hold"),
-        (1, Op::OneOf(set(alloc, 1, 0)?), "side in {buy,sell}"),
-        (1, Op::NoneOf(set(alloc, 0, 0)?), "side not in {buy}"),
+    for (attr, form, low, high, want) in [
+        (0, "<", 5, 0, "price < 5"),
+        (0, "<=", -7, 0, "price <= -7"),
+        (0, "=", 0, 0, "price = 0"),
+        (0, "!=", 10, 0, "price != 10"),
+        (0, ">=", -1000, 0, "price >= -1000"),
+        (0, ">", 999, 0, "price > 999"),
+        (0, "between", 3, 9, "price between 3 and 9"),
+        (0, "in", 9, -3, "price in {-3,9}"),
+        (0, "not in", 4, 4, "price not in {4}"),
+        (1, "<", 1, 0, "side < sell"),
+        (1, "<=", 0, 0, "side <= buy"),
+        (1, "=", 2, 0, "side = hold"),
+        (1, "!=", 1, 0, "side != sell"),
+        (1, ">=", 0, 0, "side >= buy"),
+        (1, ">", 1, 0, "side > sell"),
+        (1, "between", 0, 2, "side between buy and hold"),
+        (1, "in", 1, 0, "side in {buy,sell}"),
+        (1, "not in", 0, 0, "side not in {buy}"),
     ] {
+        let op = op_of(alloc, form, low, high)?;
         let pred = Pred {
             attr: AttrNo(attr),
             op,
         };
-        let conj = conj_of(&rt, alloc, &schema, vec![in alloc; pred]?)?;
-        assert_eq!(rt;
-            write_expr(alloc, &schema, &conj)?.as_slice(),
-            want.as_bytes()
-        );
+        check_written(&rt, alloc, &schema, vec![in alloc; pred]?, want)?;
     }
     Ok(())
 }
@@ -93,30 +119,17 @@ fn conditions_are_written(rt: HostRuntime) -> Result<(), Fail> {
 fn predicates_are_joined(rt: HostRuntime) -> Result<(), Fail> {
     let alloc = rt.alloc();
     let schema = schema_of(&rt, alloc)?;
-    let cheap = Pred {
-        attr: AttrNo(0),
-        op: Op::Lt(5),
-    };
-    let sides = Pred {
-        attr: AttrNo(1),
-        op: Op::OneOf(set(alloc, 1, 0)?),
-    };
-    let inner = Pred {
-        attr: AttrNo(0),
-        op: Op::Between(-9, 3),
-    };
-    let none = conj_of(&rt, alloc, &schema, Vec::new(alloc))?;
-    assert_eq!(rt;
-        write_expr(alloc, &schema, &none)?.as_slice(),
-        b"all".as_slice()
-    );
-    let three = conj_of(&rt, alloc, &schema, vec![in alloc; cheap, sides, inner]?)?;
+    check_written(&rt, alloc, &schema, Vec::new(alloc), "all")?;
+    let mut preds = Vec::new(alloc);
+    for (attr, form, low, high) in [(0, "<", 5, 0), (1, "in", 1, 0), (0, "between", -9, 3)] {
+        let op = op_of(alloc, form, low, high)?;
+        preds.push(Pred {
+            attr: AttrNo(attr),
+            op,
+        })?;
+    }
     let want = "price < 5 and side in {buy,sell} and price between -9 and 3";
-    assert_eq!(rt;
-        write_expr(alloc, &schema, &three)?.as_slice(),
-        want.as_bytes()
-    );
-    Ok(())
+    check_written(&rt, alloc, &schema, preds, want)
 }
 
 #[test]
