@@ -1,16 +1,16 @@
 -- The canonical text of a condition means the condition.
-use Rattle.std.proofs.Common.{◌≡◌, ℕ, ℤ, pos, suc, ◌<◌, ◌≤◌, Bool, true, false, ltb, not, cond, ◌&&◌, ◌||◌, List, [], ◌∷◌, ◌++◌, length, get_or, map, All, Option, Some, None, Ok, option_map, option_and_then, codes, refl, sym, ap, ◌∙◌, subst, arith}
+use Rattle.std.proofs.Common.{◌≡◌, ℕ, ℤ, pos, ◌<◌, ◌≤◌, Bool, true, false, ltb, not, cond, ◌||◌, List, [], ◌∷◌, length, map, All, Some, None, Ok, option_and_then, refl, sym, ap, ◌∙◌, subst, arith}
 use Rattle.std.specs.List.{list_all, list_any, find}
 use Rattle.std.specs.Option.{is_none, option_map_or}
 use Rattle.std.specs.Int.Signed.{lt_z}
 use Rattle.std.proofs.lemmas.Bool.{and_from, and_parts}
 use Rattle.std.proofs.lemmas.Bool.Decides.{nat_tests}
+use Rattle.std.proofs.lemmas.List.{length-map}
 use Rattle.std.proofs.lemmas.List.Elements.{All-head, All-tail, All-cons, All-nil, All-weaker}
 use Rattle.std.proofs.lemmas.List.Sums.{AllPass-from_list_all}
 use Rattle.std.proofs.lemmas.List.Folds.{list_all-map}
 use Rattle.std.proofs.lemmas.Option.{get_or_from_slice_get, slice_get_within}
-use Rattle.be_base.specs.Text.{Text, IsWord, IsName, name_of}
-use Rattle.be_base.specs.Tokens.{Lexeme, word, tokens}
+use Rattle.be_base.specs.Text.{Text, IsWord, IsName}
 use Rattle.be_base.specs.declared.names.AttrNo.{AttrNo}
 use Rattle.be_base.proofs.NameForms.{name_of-Ok}
 use Rattle.be_model.specs.declared.conditions.Op.{Op}
@@ -18,17 +18,17 @@ use Rattle.be_model.specs.declared.conditions.Op.TheVariants.{Lt, Le, Eq, Ne, Ge
 use Rattle.be_model.specs.declared.conditions.Pred.{Pred}
 use Rattle.be_model.specs.declared.schemas.Attribute.{Attribute}
 use Rattle.be_model.specs.Domains.{bounds_of, is_within, value_of_word}
-use Rattle.be_model.specs.Schemas.{Attributes, IsSchema, attribute_at, attribute_named, names_of_attributes, is_among_texts, reserved_words, is_domain, range_of}
-use Rattle.be_model.specs.Forms.{AreValues, OpForm, IsConj, rises}
-use Rattle.be_model.specs.Lies.{values_in, lies_within, pred_lies, conj_lies}
+use Rattle.be_model.specs.Schemas.{Attributes, IsSchema, attribute_at, attribute_named, is_among_texts, reserved_words, is_domain}
+use Rattle.be_model.specs.Forms.{AreValues, OpForm, IsConj, rises, put_value}
+use Rattle.be_model.specs.Lies.{values_in, pred_lies, conj_lies}
 use Rattle.be_model.specs.Assigned.{value_at}
 use Rattle.be_model.specs.Texts.{value_text, value_text_at, name_at, WordsAreNames, NamesAreNames}
 use Rattle.be_model.proofs.Attributes.{all_at}
 use Rattle.be_model.proofs.InSchema.{range_of_pred, range_below, attribute_of_range}
 use Rattle.be_model.proofs.ReadBack.{names_are_found, values_are_read, values_are_words}
-use Rattle.be_expr.specs.Written.{WrittenOp, WrittenPred, condition_tokens, is_name, is_attr, op_is_written, are_written}
+use Rattle.be_expr.specs.Written.{is_name, is_attr, op_is_written, are_written}
 use Rattle.be_expr.specs.Readings.{written}
-use Rattle.be_expr.specs.Expressions.{words_of, is_unknown, is_outside, has_many_values, unknown_attr, outside_domain, too_many, or_else, fault_in, put_value, rising, meant_op, pred_on, meant_pred, judged, meaning, expression}
+use Rattle.be_expr.specs.Expressions.{words_of, is_unknown, is_outside, has_many_values, fault_in, rising, meant_op, pred_on, meant_pred, judged, meaning, expression}
 use Rattle.be_expr.specs.Canonical.{expr_text, IsSpelled, TextsAreRead}
 use Rattle.be_expr.proofs.Grammar.{tokens_are_read}
 use Rattle.be_expr.proofs.CanonicalTokens.{written_op, written_pred, expr_lexed}
@@ -121,10 +121,6 @@ none_any test f [] h = refl
 none_any test f (x ∷ xs) h =
     or_both (test (f x)) (list_any test (map f xs)) (All-head (λ y. test (f y) ≡ false) x xs h) (none_any test f xs (All-tail (λ y. test (f y) ≡ false) x xs h))
 
-length-map : {X Y : Type 0} (f : X → Y) (xs : List X) → length (map f xs) ≡ length xs
-length-map f [] = refl
-length-map f (x ∷ xs) = ap (λ n. suc n) (length-map f xs)
-
 known : (s : Attributes) (p : Pred) → IsSettled s p → is_unknown s (written_pred s p) ≡ false
 known s p k = ap is_none k.found
 
@@ -155,7 +151,7 @@ few_words : (s : Attributes) (p : Pred) → IsSettled s p → has_many_values (w
 few_words s p k =
     let value = value_text_at s p.attr in
     at_most 64 (length (words_of (written_op value p.op))) (length (values_in p.op))
-    (ap length (words_are value p.op) ∙ length-map value (values_in p.op)) (few_values p.op k.form)
+    (ap length (words_are value p.op) ∙ length-map (values_in p.op) value) (few_values p.op k.form)
 
 no_fault : (s : Attributes) (ps : List Pred) → length ps ≤ 32 → All (IsSettled s) ps → fault_in s (map (written_pred s) ps) ≡ None
 no_fault s ps few k =
@@ -163,7 +159,7 @@ no_fault s ps few k =
     let unknown = none_found (is_unknown s) (written_pred s) ps (All-weaker (IsSettled s) (λ p. is_unknown s (written_pred s p) ≡ false) (known s) ps k) in
     let outside = none_found (is_outside s) (written_pred s) ps (All-weaker (IsSettled s) (λ p. is_outside s (written_pred s p) ≡ false) (inside s) ps k) in
     let many = none_found has_many_values (written_pred s) ps (All-weaker (IsSettled s) (λ p. has_many_values (written_pred s p) ≡ false) (few_words s) ps k) in
-    rw (unknown, outside, at_most 32 (length ws) (length ps) (length-map (written_pred s) ps) few, many) refl
+    rw (unknown, outside, at_most 32 (length ws) (length ps) (length-map ps (written_pred s)) few, many) refl
 
 is_written : (op : Op) (value : ℤ → Text) → OpForm op → op_is_written (written_op value op) ≡ true
 is_written (Lt v) value form = refl

@@ -1,8 +1,8 @@
 -- The tokens of canonical texts.
-use Rattle.std.proofs.Common.{◌≡◌, ℕ, ℤ, ◌<◌, Bool, true, false, List, [], ◌∷◌, ◌++◌, length, map, All, Option, Some, codes, append_assoc, append-nil, refl, sym, ap, ◌∙◌, arith}
-use Rattle.std.specs.List.{list_all, flat_map, join_by}
+use Rattle.std.proofs.Common.{◌≡◌, ℤ, false, List, [], ◌∷◌, ◌++◌, map, All, Some, codes, append_assoc, append-nil, refl, sym, ap, ◌∙◌, arith}
+use Rattle.std.specs.List.{join_by}
 use Rattle.std.proofs.lemmas.List.Elements.{All-head, All-tail}
-use Rattle.be_base.specs.Text.{Text, IsWord, IsName, is_word_byte}
+use Rattle.be_base.specs.Text.{Text, IsWord, is_word_byte}
 use Rattle.be_base.specs.Fronts.{starts_with}
 use Rattle.be_base.specs.Tokens.{Lexeme, word, less, less_or_equal, equal, not_equal, greater_or_equal, greater, open_brace, close_brace, comma, tokens}
 use Rattle.be_base.proofs.Joined.{IsWord-from_name, word_then, word_alone, word_space, space_then, comma_then, open_then, close_then, less_space, less_or_equal_space, equal_space, not_equal_space, greater_or_equal_space, greater_space}

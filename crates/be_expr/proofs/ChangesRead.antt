@@ -1,21 +1,19 @@
 -- The texts of changes are read back.
-use Rattle.std.proofs.Common.{◌≡◌, ℕ, ◌<◌, ◌^◌, Bool, true, false, List, [], ◌∷◌, ◌++◌, Option, Some, None, Result, Ok, Err, codes, append_assoc, append-nil, refl, sym, ap, ◌∙◌, arith}
+use Rattle.std.proofs.Common.{◌≡◌, ℕ, ◌<◌, ◌^◌, List, [], ◌∷◌, ◌++◌, Option, Some, None, Ok, codes, append_assoc, refl, sym, ap, ◌∙◌, arith}
 use Rattle.std.specs.Prelude.{decimal}
-use Rattle.be_base.specs.Text.{Text, IsName, IsWord, is_word_byte, name_of}
+use Rattle.be_base.specs.Text.{Text, IsName, IsWord, is_word_byte}
 use Rattle.be_base.specs.Numbers.{count_of}
 use Rattle.be_base.specs.Tokens.{Lexeme, word, tokens, put_token}
-use Rattle.be_base.proofs.Joined.{IsWord-from_name, tokens_word_then, word_alone, word_space}
+use Rattle.be_base.proofs.Joined.{IsWord-from_name, tokens_word_then, word_alone}
 use Rattle.be_base.proofs.Lexing.{tokens_blank}
 use Rattle.be_base.proofs.Decimals.{count_of-decimal, IsWord-decimal}
 use Rattle.be_base.proofs.NameForms.{name_of-Ok}
-use Rattle.be_model.specs.declared.conditions.Pred.{Pred}
 use Rattle.be_model.specs.declared.changes.Row.{Row}
-use Rattle.be_model.specs.Entries.{Entry, subscribed, unsubscribed, left}
+use Rattle.be_model.specs.Entries.{subscribed, unsubscribed, left}
 use Rattle.be_model.specs.Schemas.{Attributes}
-use Rattle.be_expr.specs.declared.faults.ExprFault.{ExprFault}
 use Rattle.be_expr.specs.Expressions.{condition, expression}
 use Rattle.be_expr.specs.Canonical.{expr_text}
-use Rattle.be_expr.specs.Changes.{head_text, change_text, change_by, change_of, change, subscription, subscribing, removal, unsubscribing, leave, IsNumbered, IsReadBack, IsFormed, ChangesAreRead}
+use Rattle.be_expr.specs.Changes.{head_text, change_text, change_by, change_of, change, subscribing, unsubscribing, IsReadBack, ChangesAreRead}
 use Rattle.be_expr.proofs.CanonicalMeaning.{texts_are_read}
 
 -- a word, a space and other tokens

@@ -12,3 +12,6 @@ mod writing;
 pub use faults::ExprFault;
 pub use read::read_expr;
 pub use writing::{write_change, write_expr};
+
+#[cfg(test)]
+mod writing_tests;

@@ -1,6 +1,5 @@
 use Rattle.std.proofs.Common.{sym, subst}
 use Rattle.std.proofs.lemmas.Result.{on_ok_weaker}
-use Rattle.be_model.specs.declared.changes.Change.{Change}
 use Rattle.be_model.specs.Entries.{entry_of}
 use Rattle.be_expr.specs.Changes.{change_text, IsReadBack}
 use Rattle.be_expr.proofs.ChangesRead.{unsub_is_read, bye_is_read}

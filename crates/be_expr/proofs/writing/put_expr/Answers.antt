@@ -1,4 +1,4 @@
-use Rattle.std.proofs.Common.{sym, subst}
+use Rattle.std.proofs.Common.{sym}
 use Rattle.std.proofs.lemmas.Result.{on_ok_weaker}
 use Rattle.std.proofs.lemmas.List.Elements.{All-same}
 use Rattle.be_expr.specs.Canonical.{IsSpelled}
