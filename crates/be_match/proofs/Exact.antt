@@ -3,7 +3,6 @@ use Rattle.std.proofs.Common.{◌≡◌, ℤ, Bool, true, false, cond, leb, ltb,
 use Rattle.std.specs.Option.{is_some}
 use Rattle.std.specs.Int.Signed.{le_z}
 use Rattle.std.proofs.lemmas.List.{append_assoc}
-use Rattle.be_shape.proofs.Bounds.{both}
 use Rattle.be_shape.proofs.Placed.{levels, placed_here}
 use Rattle.std.specs.List.{list_any, list_all}
 use Rattle.std.proofs.lemmas.Bool.{eqb-true}
@@ -22,7 +21,7 @@ use Rattle.be_model.specs.Matching.{Assignments, value_of, meets, satisfies, is_
 use Rattle.be_model.specs.Lies.{event_lies, conj_lies, row_lies}
 use Rattle.be_model.specs.Rows.{id_of, has}
 use Rattle.be_model.specs.Hulls.{is_on, span, span_in}
-use Rattle.be_model.proofs.Attributes.{and_left, and_right}
+use Rattle.be_model.proofs.Attributes.{and_left, and_right, and_both}
 use Rattle.be_model.proofs.Ranges.{within_parts, within_from, spans_hold, spans_are}
 use Rattle.be_model.proofs.InSchema.{all_hold, value_within}
 use Rattle.be_shape.specs.Plain.{Plain, node, Parts, no_part, part, Half, no_half, half, rows_below, rows_in_parts, rows_in_half}
@@ -151,7 +150,7 @@ none_in_range s e r (row ∷ rows) el ms si h =
 all_append : (p : Row → Bool) (xs ys : List Row) → list_all p (xs ++ ys) ≡ true → (list_all p xs ≡ true) × (list_all p ys ≡ true)
 all_append p [] ys h = (refl, h)
 all_append p (x ∷ xs) ys h =
-    let k = all_append p xs ys (and_right (p x) (list_all p (xs ++ ys)) h) in (both (p x) (list_all p xs) (and_left (p x) (list_all p (xs ++ ys)) h) k.0, k.1)
+    let k = all_append p xs ys (and_right (p x) (list_all p (xs ++ ys)) h) in (and_both (p x) (list_all p xs) (and_left (p x) (list_all p (xs ++ ys)) h) k.0, k.1)
 
 glue : (e : Assignments) (x : List Row) (vp vl vh : List (List Row)) (p l h : List Row) → satisfied e (all_of vp) ≡ satisfied e p → satisfied e (all_of vl) ≡ satisfied e l → satisfied e (all_of vh) ≡ satisfied e h
     → satisfied e (all_of (x ∷ vp ++ vl ++ vh)) ≡ satisfied e (x ++ p ++ l ++ h)

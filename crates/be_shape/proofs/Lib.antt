@@ -1,6 +1,6 @@
 pub mod LeafRows
 pub mod Plains
-pub mod Bounds
+pub mod WholeRanges
 pub mod RootPut
 pub mod RowCounts
 pub mod Placed

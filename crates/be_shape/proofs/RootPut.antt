@@ -14,10 +14,9 @@ use Rattle.be_model.specs.Lies.{row_lies}
 use Rattle.be_model.specs.Rows.{id_of}
 use Rattle.be_model.specs.ByIds.{put_by_id, by_ids, has_id, ids_differ}
 use Rattle.be_model.proofs.RowsByIds.{put_last, has_by_ids}
-use Rattle.be_model.proofs.Attributes.{and_left, and_right}
+use Rattle.be_model.proofs.Attributes.{and_left, and_right, and_both}
 use Rattle.be_shape.specs.Plain.{Plain, node, no_part, part, no_half, half, rows_below, leaf_of, parts_under, with_row, contents}
 use Rattle.be_shape.specs.Shape.{nothing, everywhere, in_a_half, in_low, in_high, is_placed_at, is_stuck, spans_inside, is_placed, is_drawn, is_pruned, is_settled, has_form, op_has_form, set_has_form, may_stand, rows_lie}
-use Rattle.be_shape.proofs.Bounds.{both}
 
 -- the form of a condition, as a test
 is_at_most : (n m : ℕ) → n ≤ m → leb n m ≡ true
@@ -28,7 +27,7 @@ is_less n m h = grind (arith, nat_tests)
 
 set_form : (xs : List ℤ) → AreValues xs → set_has_form xs ≡ true
 set_form xs h =
-    both (ltb 0 (length xs)) (leb (length xs) 64 && rises xs) (is_less 0 (length xs) h.some) (both (leb (length xs) 64) (rises xs) (is_at_most (length xs) 64 h.few) h.rising)
+    and_both (ltb 0 (length xs)) (leb (length xs) 64 && rises xs) (is_less 0 (length xs) h.some) (and_both (leb (length xs) 64) (rises xs) (is_at_most (length xs) 64 h.few) h.rising)
 
 op_form : (op : Op) → OpForm op → op_has_form op ≡ true
 op_form (OneOf xs) h = set_form xs h
@@ -44,17 +43,17 @@ op_form (Between x y) h = refl
 forms : (conj : List Pred) → All (λ (p : Pred). OpForm p.op) conj → list_all (λ (p : Pred). op_has_form p.op) conj ≡ true
 forms [] h = refl
 forms (p ∷ ps) h =
-    both (op_has_form p.op) (list_all (λ (q : Pred). op_has_form q.op) ps) (op_form p.op (All-head (λ (q : Pred). OpForm q.op) p ps h)) (forms ps (All-tail (λ (q : Pred). OpForm q.op) p ps h))
+    and_both (op_has_form p.op) (list_all (λ (q : Pred). op_has_form q.op) ps) (op_form p.op (All-head (λ (q : Pred). OpForm q.op) p ps h)) (forms ps (All-tail (λ (q : Pred). OpForm q.op) p ps h))
 
 pub conj_has_form : (conj : List Pred) → IsConj conj → has_form conj ≡ true
 conj_has_form conj h =
-    both (leb (length conj) 32) (list_all (λ (p : Pred). op_has_form p.op) conj) (is_at_most (length conj) 32 h.few) (forms conj h.forms)
+    and_both (leb (length conj) 32) (list_all (λ (p : Pred). op_has_form p.op) conj) (is_at_most (length conj) 32 h.few) (forms conj h.forms)
 
 -- a test of a list with one more row
 all_put : (p : Row → Bool) (rows : List Row) (x : Row) → list_all p rows ≡ true → p x ≡ true → list_all p (rows ++ x ∷ []) ≡ true
-all_put p [] x h k = both (p x) true k refl
+all_put p [] x h k = and_both (p x) true k refl
 all_put p (row ∷ rows) x h k =
-    both (p row) (list_all p (rows ++ x ∷ [])) (and_left (p row) (list_all p rows) h) (all_put p rows x (and_right (p row) (list_all p rows) h) k)
+    and_both (p row) (list_all p (rows ++ x ∷ [])) (and_left (p row) (list_all p rows) h) (all_put p rows x (and_right (p row) (list_all p rows) h) k)
 
 all_true : (rows : List Row) → list_all (λ _. true) rows ≡ true
 all_true [] = refl
@@ -81,7 +80,7 @@ differ_put [] x h k = refl
 differ_put (row ∷ rows) x h k =
     let z = or_false (eqb (id_of row) (id_of x)) (list_any (λ other. eqb (id_of other) (id_of x)) rows) k in
     let f = not_true (list_any (λ other. eqb (id_of other) (id_of row)) rows) (and_left (not (list_any (λ other. eqb (id_of other) (id_of row)) rows)) (ids_differ rows) h) in
-    both (not (list_any (λ other. eqb (id_of other) (id_of row)) (rows ++ x ∷ []))) (ids_differ (rows ++ x ∷ []))
+    and_both (not (list_any (λ other. eqb (id_of other) (id_of row)) (rows ++ x ∷ []))) (ids_differ (rows ++ x ∷ []))
     (ap not (any_put (λ other. eqb (id_of other) (id_of row)) rows x f (eqb_turned (id_of row) (id_of x) z.0)))
     (differ_put rows x (and_right (not (list_any (λ other. eqb (id_of other) (id_of row)) rows)) (ids_differ rows) h) z.1)
 
@@ -114,7 +113,7 @@ one_leaf s rows few may differ =
     let e = sym (alone rows) in
     record {
       lie = subst (λ r. list_all (may_stand s) r ≡ true) e may;
-      placed = both (everywhere (is_placed_at s) s nothing (node rows no_part no_half no_half)) (ids_differ (rows_below (node rows no_part no_half no_half))) (four_true (list_all (spans_inside s None) (rows_below (node rows no_part no_half no_half))) (all_true (rows_below (node rows no_part no_half no_half)))) (subst (λ r. ids_differ r ≡ true) e differ);
+      placed = and_both (everywhere (is_placed_at s) s nothing (node rows no_part no_half no_half)) (ids_differ (rows_below (node rows no_part no_half no_half))) (four_true (list_all (spans_inside s None) (rows_below (node rows no_part no_half no_half))) (all_true (rows_below (node rows no_part no_half no_half)))) (subst (λ r. ids_differ r ≡ true) e differ);
       drawn = three_true (list_all (λ _. true) rows) (all_true rows);
       pruned = refl;
       settled = three_true (leb (length rows) 16 || list_all (is_stuck s nothing) rows) (first_true (leb (length rows) 16) (list_all (is_stuck s nothing) rows) (is_at_most (length rows) 16 few));
@@ -141,7 +140,7 @@ put_fits s (node rows no_part no_half no_half) x lie placed np few new may =
 
 pub may_stand_from : (s : Attributes) (x : Row) → IsConj x.conj → row_lies s x ≡ true → id_of x < 281474976710656 → may_stand s x ≡ true
 may_stand_from s x f l h =
-    both (has_form x.conj) (row_lies s x && ltb (id_of x) 281474976710656) (conj_has_form x.conj f) (both (row_lies s x) (ltb (id_of x) 281474976710656) l (is_less (id_of x) 281474976710656 h))
+    and_both (has_form x.conj) (row_lies s x && ltb (id_of x) 281474976710656) (conj_has_form x.conj f) (and_both (row_lies s x) (ltb (id_of x) 281474976710656) l (is_less (id_of x) 281474976710656 h))
 
 -- the same of a node that is seen so
 pub root_facts : (s : Attributes) (n : Plain) (x : Row) (m : Plain) → m ≡ with_row x n → IsRoot s (with_row x n) → IsRoot s m

@@ -14,7 +14,7 @@ use be_model::{Event, Schema};
 pub type NodeRange = Option<(AttrNo, (i64, i64))>;
 
 /// The range of the root of a part.
-#[tactic(auto, using(crate::proofs::Bounds::whole_bounded, crate::proofs::Bounds::whole_rising))]
+#[tactic(auto, using(crate::proofs::WholeRanges::whole_bounded, crate::proofs::WholeRanges::whole_rising))]
 pub fn whole_range(s: &Schema, a: AttrNo) -> NodeRange
     ensures range { result ≡ whole s.now a }
     ensures bounded { is_bounded result ≡ true }

@@ -1,10 +1,11 @@
 -- Ranges of attributes, and values inside ranges.
-use Rattle.std.proofs.Common.{◌≡◌, ℤ, pos, negsuc, ◌≤ℤ◌, ◌&&◌, Bool, true, false, Some, refl, arith}
+use Rattle.std.proofs.Common.{◌≡◌, ℤ, pos, negsuc, ◌≤ℤ◌, Bool, true, false, Some, refl, arith}
 use Rattle.std.specs.Int.Signed.{le_z}
 use Rattle.std.proofs.lemmas.Int.{ints}
 use Rattle.be_base.specs.declared.names.AttrNo.{AttrNo}
 use Rattle.be_model.specs.Domains.{Range}
 use Rattle.be_model.specs.Schemas.{Attributes, IsSchema, range_of}
+use Rattle.be_model.proofs.Attributes.{and_both}
 use Rattle.be_model.proofs.InSchema.{range_sound}
 use Rattle.be_shape.specs.Ranges.{is_bounded, is_rising}
 
@@ -15,14 +16,10 @@ le_test x y h = by_test (le_z x y) refl
     by_test true e = refl
     by_test false e = absurd (omega (arith, ints))
 
-pub both : (a b : Bool) → a ≡ true → b ≡ true → (a && b) ≡ true
-both true b h k = k
-both false b h k = h
-
 -- the range of an attribute can be halved
 pub whole_bounded : (s : Attributes) (a : AttrNo) (r : Range) → IsSchema s → range_of s a ≡ Some r → is_bounded (Some (a, r)) ≡ true
 whole_bounded s a r f h =
-    let k = range_sound s a r f h in both (le_z (negsuc 2147483647) r.0) (le_z r.1 (pos 2147483647)) (le_test (negsuc 2147483647) r.0 k.low) (le_test r.1 (pos 2147483647) k.high)
+    let k = range_sound s a r f h in and_both (le_z (negsuc 2147483647) r.0) (le_z r.1 (pos 2147483647)) (le_test (negsuc 2147483647) r.0 k.low) (le_test r.1 (pos 2147483647) k.high)
 
 pub whole_rising : (s : Attributes) (a : AttrNo) (r : Range) → IsSchema s → range_of s a ≡ Some r → is_rising (Some (a, r)) ≡ true
 whole_rising s a r f h = le_test r.0 r.1 (range_sound s a r f h).rising
