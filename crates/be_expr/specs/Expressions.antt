@@ -1,5 +1,5 @@
 -- What the text of a condition means in a schema, or its first fault.
-use Rattle.std.specs.Prelude.{◌≡◌, ℤ, pos, Bool, false, List, [], ◌∷◌, length, map, find, nat_lt, Option, Some, None, option_map, option_and_then, Result, Ok, Err, if◌then◌else◌}
+use Rattle.std.specs.Prelude.{◌≡◌, ℤ, ◌<◌, pos, Bool, false, List, [], ◌∷◌, length, map, find, nat_lt, Option, Some, None, option_map, option_and_then, Result, Ok, Err, if◌then◌else◌}
 use Rattle.std.specs.List.{list_any}
 use Rattle.std.specs.Option.{is_none, option_map_or}
 use Rattle.be_base.specs.Text.{Text}
@@ -106,3 +106,8 @@ abbrev pub Reads : Result (List Pred) ExprFault → Result (List Pred) ExprFault
 Reads (Ok conj) read = read ≡ Ok conj
 Reads (Err NoMemory) read = (conj : List Pred) × (read ≡ Ok conj)
 Reads (Err fault) read = read ≡ Err fault
+
+-- a fault that names an attribute by its number names one of the schema
+abbrev pub IsKnown : Attributes → ExprFault → Type 0
+IsKnown s (Dom a) = a.0 < length s
+IsKnown s _ = Unit {0}

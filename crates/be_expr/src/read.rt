@@ -1,8 +1,8 @@
 //! Conditions, read.
 
-ghost use Rattle.std.specs.Prelude.{◌≡◌, true, IfOk};
+ghost use Rattle.std.specs.Prelude.{◌≡◌, true, IfOk, IfErr};
 ghost use Rattle.be_model.specs.Lies.{conj_lies};
-ghost use Rattle.be_expr.specs.Expressions.{expression, Reads};
+ghost use Rattle.be_expr.specs.Expressions.{expression, Reads, IsKnown};
 
 use crate::build::build;
 use crate::faults::ExprFault;
@@ -14,6 +14,7 @@ use std::alloc::Global;
 pub fn read_expr(alloc: Global, schema: &Schema, text: &[u8]) -> Result<Conj, ExprFault>
     ensures exact { Reads result (expression schema.now text.now) }
     ensures lies { IfOk result (λ conj. conj_lies schema.now conj ≡ true) }
+    ensures known { IfErr result (IsKnown schema.now) }
 {
     match scan(schema, text) {
         Some(faults) => match faults.first() {

@@ -15,3 +15,4 @@ pub mod FewItems
 pub mod ReadBack
 pub mod NamePlaces
 pub mod Putting
+pub mod NamedBelow

@@ -5,8 +5,8 @@ use Rattle.be_base.specs.Tokens.{Lexeme, word, put_token}
 use Rattle.be_model.specs.declared.conditions.Pred.{Pred}
 use Rattle.be_model.specs.Schemas.{Attributes}
 use Rattle.be_model.specs.Matching.{Assignments}
-use Rattle.be_expr.specs.declared.ExprFault.{ExprFault}
-use Rattle.be_expr.specs.declared.ExprFault.TheVariants as expr
+use Rattle.be_expr.specs.declared.faults.ExprFault.{ExprFault}
+use Rattle.be_expr.specs.declared.faults.ExprFault.TheVariants as expr
 use Rattle.be_expr.specs.Expressions as conditions
 use Rattle.be_event.specs.declared.events.EventFault.{EventFault}
 use Rattle.be_event.specs.declared.events.EventFault.TheVariants as event

@@ -9,8 +9,8 @@ use Rattle.be_model.specs.Matching.{Assignments}
 use Rattle.be_model.specs.Schemas.{Attributes}
 use Rattle.be_model.specs.Texts.{name_at}
 use Rattle.be_change.specs.Requests.{Refusal, bad, long, unknown_attribute, outside_domain, given_twice, too_many, Request, refused, subscribe, unsubscribe, publish, listing, quit}
-use Rattle.be_expr.specs.declared.ExprFault.{ExprFault}
-use Rattle.be_expr.specs.declared.ExprFault.TheVariants as expr
+use Rattle.be_expr.specs.declared.faults.ExprFault.{ExprFault}
+use Rattle.be_expr.specs.declared.faults.ExprFault.TheVariants as expr
 use Rattle.be_expr.specs.Expressions.{condition}
 use Rattle.be_event.specs.declared.events.EventFault.{EventFault}
 use Rattle.be_event.specs.declared.events.EventFault.TheVariants as event
