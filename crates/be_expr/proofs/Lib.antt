@@ -6,3 +6,4 @@ pub mod Built
 pub mod BuiltPreds
 pub mod Meanings
 pub mod Lying
+pub mod Entering

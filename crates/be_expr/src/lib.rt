@@ -2,11 +2,13 @@
 #![tactic(auto)]
 
 mod build;
+mod changes;
 mod faults;
 pub mod laws;
 mod parts;
 mod read;
 mod scan;
 
+pub use changes::read_change;
 pub use faults::ExprFault;
 pub use read::read_expr;
