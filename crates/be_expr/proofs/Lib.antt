@@ -11,3 +11,4 @@ pub mod BuiltPreds
 pub mod Meanings
 pub mod Lying
 pub mod Known
+pub mod Entering

@@ -2,6 +2,7 @@
 #![tactic(auto)]
 
 mod build;
+mod changes;
 mod faults;
 pub mod laws;
 mod parts;
@@ -9,6 +10,7 @@ mod read;
 mod scan;
 mod writing;
 
+pub use changes::read_change;
 pub use faults::ExprFault;
 pub use read::read_expr;
 pub use writing::{write_change, write_expr};
