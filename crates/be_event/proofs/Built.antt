@@ -1,17 +1,16 @@
 -- Events that are built place by place.
-use Rattle.std.proofs.Common.{◌≡◌, ℕ, ℤ, zero, suc, ◌+◌, ◌-◌, ◌<◌, ◌≤◌, ◌==◌, ltb, ◌&&◌, Bool, true, false, cond, List, [], ◌∷◌, ◌++◌, length, get_or, Option, Some, None, option_map, option_and_then, add-one, refl, sym, ap, ◌∙◌, arith}
+use Rattle.std.proofs.Common.{◌≡◌, ℕ, ℤ, zero, suc, ◌+◌, ◌<◌, ltb, ◌&&◌, Bool, true, [], ◌∷◌, ◌++◌, Option, Some, None, add-one, refl, sym, ap, ◌∙◌, arith}
 use Rattle.std.specs.List.{list_all}
 use Rattle.std.specs.Option.{option_map_or}
 use Rattle.std.proofs.lemmas.Bool.Decides.{nat_tests}
 use Rattle.std.proofs.lemmas.List.Folds.{list_all-append}
-use Rattle.be_base.specs.Text.{Text}
 use Rattle.be_base.specs.declared.names.AttrNo.{AttrNo}
-use Rattle.be_model.specs.Matching.{Assignments, value_of}
-use Rattle.be_model.specs.Schemas.{Attributes, numbered, attribute_named}
+use Rattle.be_model.specs.Matching.{Assignments}
+use Rattle.be_model.specs.Schemas.{Attributes, numbered}
 use Rattle.be_model.specs.Forms.{attrs_rise}
 use Rattle.be_model.specs.Lies.{item_lies, event_lies}
 use Rattle.be_model.proofs.Attributes.{and_left, and_right, and_both}
-use Rattle.be_event.specs.Events.{by_place, by_attribute}
+use Rattle.be_event.specs.Events.{by_place}
 
 -- each attribute is below n
 abbrev all_below : ℕ → Assignments → Bool

@@ -1,7 +1,6 @@
 -- What one more item adds, and events by rising attribute.
-use Rattle.std.proofs.Common.{◌≡◌, ◌≢◌, ℕ, ℤ, zero, suc, ◌+◌, ◌<◌, ◌≤◌, ◌==◌, ◌&&◌, Bool, true, false, cond, List, [], ◌∷◌, ◌++◌, length, get_or, Option, Some, None, option_map, option_and_then, is_some, is_none, find, refl, sym, ap, subst, ◌∙◌, arith, append_assoc}
+use Rattle.std.proofs.Common.{◌≡◌, ◌≢◌, ℕ, ℤ, ◌<◌, ◌==◌, Bool, true, false, cond, List, [], ◌∷◌, ◌++◌, length, get_or, Option, Some, None, option_map, option_and_then, is_some, is_none, find, refl, sym, ap, ◌∙◌, arith, append_assoc}
 use Rattle.std.proofs.Math.ListN.{set, replicate}
-use Rattle.std.specs.List.{filter_map}
 use Rattle.std.specs.Option.{option_map_or, option_or}
 use Rattle.std.proofs.lemmas.Bool.Decides.{nat_tests}
 use Rattle.std.proofs.lemmas.List.Folds.{find-append}
@@ -13,7 +12,7 @@ use Rattle.be_model.specs.Matching.{Assignments, value_of}
 use Rattle.be_model.specs.Schemas.{Attributes, numbered, attribute_named}
 use Rattle.be_model.specs.Assigned.{value_at}
 use Rattle.be_event.specs.Written.{WrittenItem, item_of}
-use Rattle.be_event.specs.Events.{is_unknown, unknown_attr, is_outside, outside_domain, assignment, assignments, again_after, stands_twice, by_place}
+use Rattle.be_event.specs.Events.{is_unknown, unknown_attr, is_outside, outside_domain, assignment, assignments, again_after, stands_twice}
 use Rattle.be_event.specs.ItemScans.{Holds, Finds}
 use Rattle.be_event.specs.declared.events.Found.{Found}
 
@@ -38,6 +37,7 @@ then_or {X = X} {Y = Y} f p (x ∷ xs) q h = at (p x) refl (then_or f p xs q h)
     said : (o : Option Y) (r : Option Y) → is_some o ≡ true → o ≡ option_or o r
     said (Some y) r k = refl
     said None r k = absurd (cc)
+
     at : (b : Bool) → p x ≡ b → option_and_then f (option_or (find p xs) q) ≡ option_or (option_and_then f (find p xs)) (option_and_then f q)
         → option_and_then f (option_or (cond b (Some x) (find p xs)) q) ≡ option_or (option_and_then f (cond b (Some x) (find p xs))) (option_and_then f q)
     at true e rest = said (f x) (option_and_then f q) (h x e)
@@ -152,12 +152,14 @@ AssignsAt None found found' a v = (found'.twice ≡ found.twice) × (found'.valu
 
 by_old : (o : Option ℤ) (items : Assignments) (a : AttrNo) (v : ℤ) (found found' : Found) → a.0 < 256 → o ≡ value_of items a → AssignsAt o found found' a v → found.twice ≡ stands_twice items → Holds found.values items
     → (found'.twice ≡ stands_twice (items ++ (a, v) ∷ [])) × Holds found'.values (items ++ (a, v) ∷ [])
-by_old (Some old) items a v found found' few is new t h =
-    ( new.0 ∙ ap (λ x. option_or x (Some a)) t ∙ sym (again-push [] items (a, v) ∙ rw (← is) refl)
-    , (ap length new.1 ∙ h.0, λ place k. ap (λ x. get_or x place None) new.1 ∙ h.1 place k ∙ sym (had_value items (a, v) old place is)))
-by_old None items a v found found' few is new t h =
-    ( new.0 ∙ t ∙ sym (again-push [] items (a, v) ∙ rw (← is) (or_none (again_after [] items)))
-    , (ap length new.1 ∙ length-set found.values a.0 (Some v) ∙ h.0, λ place k. ap (λ x. get_or x place None) new.1 ∙ new_value found.values items (a, v) place h.0 k few is (h.1 place k)))
+by_old (Some old) items a v found found' few is new t h = (
+  new.0 ∙ ap (λ x. option_or x (Some a)) t ∙ sym (again-push [] items (a, v) ∙ rw (← is) refl),
+  (ap length new.1 ∙ h.0, λ place k. ap (λ x. get_or x place None) new.1 ∙ h.1 place k ∙ sym (had_value items (a, v) old place is)),
+)
+by_old None items a v found found' few is new t h = (
+  new.0 ∙ t ∙ sym (again-push [] items (a, v) ∙ rw (← is) (or_none (again_after [] items))),
+  (ap length new.1 ∙ length-set found.values a.0 (Some v) ∙ h.0, λ place k. ap (λ x. get_or x place None) new.1 ∙ new_value found.values items (a, v) place h.0 k few is (h.1 place k)),
+)
 
 -- an item with a value of its attribute
 pub finds_value : (s : Attributes) (items : List WrittenItem) (name value : Text) (a : AttrNo) (v : ℤ) (found found' : Found) (o : Option ℤ) → a.0 < 256 → attribute_named s name ≡ Some a → value_at s a value ≡ Some v

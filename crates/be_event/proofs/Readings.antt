@@ -1,9 +1,9 @@
 -- What a scan of a text says of the event that it is.
-use Rattle.std.proofs.Common.{◌≡◌, ℕ, ℤ, zero, suc, ◌<◌, ◌≤◌, ◌==◌, ◌&&◌, Bool, true, false, cond, List, [], ◌∷◌, ◌++◌, length, get_or, Option, Some, None, option_map, option_and_then, Result, Ok, Err, codes, refl, sym, ap, ◌∙◌, arith}
-use Rattle.std.specs.List.{filter_map, cons_option}
+use Rattle.std.proofs.Common.{◌≡◌, ℕ, ℤ, zero, suc, ◌≤◌, ◌==◌, Bool, true, false, cond, List, [], ◌∷◌, length, get_or, Option, Some, None, option_and_then, Ok, Err, codes, refl, sym, ap, ◌∙◌, arith}
+use Rattle.std.specs.List.{cons_option}
 use Rattle.std.proofs.lemmas.Bool.{eqb-true}
 use Rattle.be_base.specs.Text.{Text, same_text}
-use Rattle.be_base.specs.Tokens.{Lexeme, word, equal, tokens}
+use Rattle.be_base.specs.Tokens.{Lexeme, word, tokens}
 use Rattle.be_base.specs.declared.names.AttrNo.{AttrNo}
 use Rattle.be_base.proofs.SameText.{equal_from_same_text}
 use Rattle.be_model.specs.Matching.{Assignments, value_of}
@@ -11,8 +11,8 @@ use Rattle.be_model.specs.Schemas.{Attributes, numbered, attribute_named}
 use Rattle.be_model.specs.Lies.{item_lies, event_lies}
 use Rattle.be_model.proofs.AssignedValues.{with_attribute}
 use Rattle.be_event.specs.Written.{WrittenItem, read_items, written}
-use Rattle.be_event.specs.Events.{assignment, assignments, by_place, by_attribute, fault_in, judged, meaning, event}
-use Rattle.be_event.specs.ItemScans.{items_in, Holds, Finds, Scanned, Judges}
+use Rattle.be_event.specs.Events.{assignment, assignments, by_place, by_attribute, judged, meaning, event}
+use Rattle.be_event.specs.ItemScans.{items_in, Holds, Scanned, Judges}
 use Rattle.be_event.specs.declared.events.EventFault.{EventFault}
 use Rattle.be_event.specs.declared.events.EventFault.TheVariants.{Bad}
 use Rattle.be_event.specs.declared.events.Found.{Found}
@@ -84,9 +84,10 @@ built s items values few h = by_place-same (length s) _ _ (λ place k. h.1 place
 pub read_ok : (s : Attributes) (text : Text) (found : Found) (e : Assignments) → IsItems text → length s ≤ 256 → Scanned s text (Some found) → Judges s found (Ok tt)
     → e ≡ by_place (length s) (λ place. get_or found.values place None) → (event s text ≡ Ok e) × (event_lies s e ≡ true)
 read_ok s text found e h few k j is =
-    let same = is ∙ built s k.0 found.values few k.2.values in
-    ( event_is s text h ∙ ap (meaning s) k.1 ∙ ap (judged (by_attribute (length s) (assignments s k.0))) (j k.0 k.2) ∙ ap (λ x. Ok x) (sym same)
-    , ap (event_lies s) same ∙ by_place-lies s (length s) (λ place. value_of (assignments s k.0) (numbered place)) (λ place v. value_lies s k.0 (numbered place) v))
+    let same = is ∙ built s k.0 found.values few k.2.values in (
+      event_is s text h ∙ ap (meaning s) k.1 ∙ ap (judged (by_attribute (length s) (assignments s k.0))) (j k.0 k.2) ∙ ap (λ x. Ok x) (sym same),
+      ap (event_lies s) same ∙ by_place-lies s (length s) (λ place. value_of (assignments s k.0) (numbered place)) (λ place v. value_lies s k.0 (numbered place) v),
+    )
 
 pub read_short : (s : Attributes) (text : Text) (found : Found) → IsItems text → length s ≤ 256 → Scanned s text (Some found) → Judges s found (Ok tt)
     → (e : Assignments) × (event s text ≡ Ok e)

@@ -1,18 +1,16 @@
 -- Reading the canonical text of an event gives it back.
-use Rattle.std.proofs.Common.{◌≡◌, ◌⊎◌, inl, inr, ℕ, ℤ, zero, suc, ◌+◌, ◌<◌, ◌≤◌, ◌==◌, ltb, ◌&&◌, ◌||◌, not, Bool, true, false, cond, List, [], ◌∷◌, ◌++◌, length, map, take, get_or, All, Option, Some, None, option_map, option_and_then, is_some, is_none, find, Ok, codes, refl, sym, ap, subst, ◌∙◌, arith, append_assoc}
-use Rattle.std.specs.List.{list_all, filter_map, flat_map}
-use Rattle.std.specs.Option.{option_map_or, option_or}
-use Rattle.std.proofs.lemmas.Bool.{eqb-true}
+use Rattle.std.proofs.Common.{◌≡◌, ◌⊎◌, inl, inr, ℕ, ℤ, zero, suc, ◌+◌, ◌<◌, ◌≤◌, ◌==◌, ltb, not, true, false, cond, List, [], ◌∷◌, ◌++◌, length, map, take, get_or, All, Option, Some, None, option_map, option_and_then, Ok, codes, refl, sym, ap, subst, ◌∙◌, arith, append_assoc}
+use Rattle.std.specs.List.{list_all, flat_map}
+use Rattle.std.specs.Option.{option_map_or}
 use Rattle.std.proofs.lemmas.Bool.Decides.{nat_tests}
-use Rattle.std.proofs.lemmas.List.{append-nil, take_more, flat_map_more}
+use Rattle.std.proofs.lemmas.List.{take_more, flat_map_more}
 use Rattle.std.proofs.lemmas.List.Elements.{All-head, All-tail, All-nil, All-cons}
-use Rattle.be_base.specs.Text.{Text, IsName, IsWord, is_word_byte, name_of}
+use Rattle.be_base.specs.Text.{Text, IsName, IsWord, is_word_byte}
 use Rattle.be_base.specs.Fronts.{starts_with}
 use Rattle.be_base.specs.Tokens.{Lexeme, word, equal, tokens}
 use Rattle.be_base.specs.declared.names.AttrNo.{AttrNo}
 use Rattle.be_base.proofs.NameForms.{name_of-Ok}
 use Rattle.be_base.proofs.Joined.{IsWord-from_name, word_then, word_alone, space_then, equal_then}
-use Rattle.be_model.specs.Assigned.{value_at}
 use Rattle.be_model.specs.Forms.{attrs_rise}
 use Rattle.be_model.specs.Lies.{lies_in, item_lies, event_lies}
 use Rattle.be_model.specs.Matching.{Assignments, value_of}
@@ -29,8 +27,8 @@ use Rattle.std.proofs.lemmas.Option.{slice_get_within}
 use Rattle.std.proofs.lemmas.Option.{get_or_from_slice_get}
 use Rattle.be_model.specs.Texts.{value_text, value_text_at, name_at, WordsAreNames, NamesAreNames}
 use Rattle.be_model.proofs.Attributes.{and_left, and_right, and_both, all_at}
-use Rattle.be_event.specs.Written.{WrittenItem, item_of, item_tokens, event_tokens, is_attr, are_written, written}
-use Rattle.be_event.specs.Events.{is_unknown, unknown_attr, is_outside, outside_domain, assignment, assignments, again_after, stands_twice, by_place, by_attribute, fault_in, judged, meaning, event}
+use Rattle.be_event.specs.Written.{WrittenItem, item_of, item_tokens, event_tokens, are_written, written}
+use Rattle.be_event.specs.Events.{unknown_attr, outside_domain, assignment, assignments, again_after, by_attribute, fault_in, judged, meaning, event}
 use Rattle.be_event.specs.Canonical.{item_text, event_text, IsSpelled, TextsAreRead}
 use Rattle.be_event.proofs.Grammar.{written-event_tokens}
 
@@ -212,7 +210,7 @@ spelled_is_read s e f rises lies ps =
     let back = assignments_back s e ps in
     let fault : fault_in s items ≡ None = rw (all_known s e ps, none_outside s e ps, back, never_again [] e rises) refl in
     let same : by_attribute (length s) (assignments s items) ≡ e =
-        ap (by_attribute (length s)) back ∙ by_attribute-front (length s) e rises ∙ front_all (length s) e (all_inside s e lies) in
+    ap (by_attribute (length s)) back ∙ by_attribute-front (length s) e rises ∙ front_all (length s) e (all_inside s e lies) in
     ap (λ o. meaning s (option_and_then written o)) (event_lexed s e ps)
     ∙ ap (meaning s) (written-event_tokens items (all_written s e f ps))
     ∙ ap (judged (by_attribute (length s) (assignments s items))) fault
@@ -231,7 +229,7 @@ spelled_at s i f names h =
     let r = range_of_item s i h in
     let x = attribute_of_range s i.0 r.0 r.1 in
     let inside : is_within (bounds_of x.0.domain) i.1 ≡ true =
-        ap (λ (y : Range). is_within y i.1) x.2 ∙ and_left (is_within r.0 i.1) true (ap (λ o. lies_in o (i.1 ∷ [])) (sym r.1) ∙ h) in
+    ap (λ (y : Range). is_within y i.1) x.2 ∙ and_left (is_within r.0 i.1) true (ap (λ o. lies_in o (i.1 ∷ [])) (sym r.1) ∙ h) in
     let valid : is_domain x.0.domain ≡ true = all_at (λ (y : Attribute). is_domain y.domain) s i.0.0 x.0 f.domains x.1 in
     let named = subst (λ (y : Attribute). IsName y.name × WordsAreNames y.domain) (get_or_from_slice_get s i.0.0 x.0 x.0 x.1) (names i.0.0 x.0 (slice_get_within s i.0.0 x.0 x.1)) in
     let back = values_are_read x.0.domain i.1 valid inside in

@@ -1,10 +1,10 @@
 -- The items of a text, as far as they were scanned.
-use Rattle.std.proofs.Common.{◌≡◌, ◌&&◌, Bool, true, false, cond, List, [], ◌∷◌, ◌++◌, Option, Some, None, option_map, option_and_then, refl, sym, ap, ◌∙◌, append_assoc}
+use Rattle.std.proofs.Common.{◌≡◌, true, List, [], ◌∷◌, ◌++◌, Option, Some, None, option_map, refl, sym, ap, ◌∙◌, append_assoc}
 use Rattle.std.proofs.lemmas.List.{append-nil}
 use Rattle.be_base.specs.Text.{Text}
 use Rattle.be_base.specs.Tokens.{Lexeme, word, equal, tokens, put_token}
 use Rattle.be_model.specs.Schemas.{Attributes}
-use Rattle.be_event.specs.Written.{WrittenItem, item_of, is_attr, read_items}
+use Rattle.be_event.specs.Written.{WrittenItem, item_of, is_attr}
 use Rattle.be_event.specs.ItemScans.{items_in, Finds, Scanned}
 use Rattle.be_event.specs.declared.events.Found.{Found}
 

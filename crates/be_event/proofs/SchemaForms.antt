@@ -1,5 +1,5 @@
 -- What the lines of a schema's text declare.
-use Rattle.std.proofs.Common.{◌≡◌, ◌⊎◌, inl, inr, ℕ, ℤ, zero, suc, ◌+◌, ◌<◌, ◌≤◌, leb, ltb, Bool, true, false, cond, not, ◌&&◌, ◌||◌, List, [], ◌∷◌, ◌++◌, length, map, is_some, Option, Some, None, option_map, option_and_then, Result, Ok, Err, codes, refl, sym, ap, subst, ◌∙◌, arith}
+use Rattle.std.proofs.Common.{◌≡◌, ◌⊎◌, inl, inr, ℕ, ℤ, ◌+◌, ◌<◌, ◌≤◌, leb, ltb, Bool, true, false, cond, not, ◌&&◌, ◌||◌, List, [], ◌∷◌, ◌++◌, length, is_some, Option, Some, None, option_map, option_and_then, Ok, Err, codes, refl, sym, ap, subst, ◌∙◌, arith}
 use Rattle.std.specs.List.{list_all, list_any}
 use Rattle.std.proofs.lemmas.Bool.Decides.{nat_tests}
 use Rattle.std.proofs.lemmas.List.{map-append, length-map}
@@ -9,18 +9,17 @@ use Rattle.be_base.proofs.NameForms.{IsName-from_name_of}
 use Rattle.be_model.specs.declared.schemas.Attribute.{Attribute}
 use Rattle.be_model.specs.declared.schemas.Domain.{Domain}
 use Rattle.be_model.specs.declared.schemas.Domain.TheVariants.{Int, Sym}
-use Rattle.be_model.specs.Schemas.{Attributes, IsSchema, attribute_of, names_of_attributes, reserved_words, is_among_texts, all_differ, is_domain, takes}
+use Rattle.be_model.specs.Schemas.{Attributes, IsSchema, attribute_of, names_of_attributes, is_among_texts, all_differ, is_domain}
 use Rattle.be_model.proofs.Attributes.{and_both, IsSchema-push}
 use Rattle.be_event.specs.Written.{is_name}
-use Rattle.be_event.specs.SchemaTexts.{words, is_remark, means_nothing, int_domain, sym_domain, domain_of, declared, repeats, is_out_of_range, has_many, first_kind, kind_of, judged, judge, declaration, after_line, schema_from, text_lines, schema_of}
+use Rattle.be_event.specs.SchemaTexts.{words, is_remark, means_nothing, int_domain, sym_domain, domain_of, declared, repeats, is_out_of_range, has_many, first_kind, kind_of, judged, judge, declaration, schema_from, text_lines, schema_of}
 use Rattle.be_event.specs.Declarations.{names_declared, declared_on, flaws_of, flawed, JudgesWords}
 use Rattle.be_event.specs.declared.schema_texts.Declared.{Declared}
 use Rattle.be_event.specs.declared.schema_texts.Flaws.{Flaws}
 use Rattle.be_event.specs.declared.schema_texts.Judged.TheVariants.{Nothing, Fault, Declares}
-use Rattle.be_event.specs.declared.schema_texts.SchemaFault.{SchemaFault}
 use Rattle.be_event.specs.declared.schema_texts.SchemaFault.TheVariants.{Line}
 use Rattle.be_event.specs.declared.schema_texts.SchemaKind.{SchemaKind}
-use Rattle.be_event.specs.declared.schema_texts.SchemaKind.TheVariants.{Form, Reserved, Twice, Range, Many}
+use Rattle.be_event.specs.declared.schema_texts.SchemaKind.TheVariants.{Form}
 
 pub count_declared : (ds : List Declared) → length (names_declared ds) ≡ length ds
 count_declared ds = length-map ds (λ (d : Declared). d.0)
@@ -86,11 +85,12 @@ judged_is : (names ws ws' rest : List Text) (kind text name : Text) (f : Flaws) 
 judged_is names ws ws' rest kind text name f o a b r n h k =
     let l = line_is ws ws' rest kind text name a b r n in
     let d = flawed_domain (domain_of kind rest) f h in
-    let same = (IsName-from_name_of text name (sym n)).0 in
-    ( means_something ws rest kind text l
-    , attribute_of text d.0
-    , ap (judge names) (declared_as ws rest kind text d.0 l d.1) ∙ ap (judged (attribute_of text d.0)) (flawed_is names text name d.0 f o same d.2 k)
-    , sym same )
+    let same = (IsName-from_name_of text name (sym n)).0 in (
+      means_something ws rest kind text l,
+      attribute_of text d.0,
+      ap (judge names) (declared_as ws rest kind text d.0 l d.1) ∙ ap (judged (attribute_of text d.0)) (flawed_is names text name d.0 f o same d.2 k),
+      sym same,
+    )
 
 -- a line that declares an attribute with a fault
 pub says_fault : (names ws ws' rest : List Text) (kind text name : Text) (f : Flaws) (fault : SchemaKind) → ws ≡ kind ∷ ws' → ws' ≡ text ∷ rest → is_remark kind ≡ false → Ok name ≡ name_of text
@@ -291,10 +291,10 @@ form_fault n s whole line lines false e d h = let k = schema_from-fault n s line
 pub put_none : (text rest line after : Text) (s whole : Attributes) → text_lines rest ≡ line ∷ text_lines after → schema_of text ≡ Ok whole → None ≡ declared_on (words line) → Put text rest s → Put text after s
 put_none text rest line after s whole lines ok d p =
     let nothing : means_nothing (words line) ≡ true =
-        elim (off_by (means_nothing (words line)) (declared (words line)) d) [
-          inl e ↦ e
-          | inr e ↦ form_fault p.number s whole line (text_lines after) (means_nothing (words line)) refl e (next_is text rest line after s whole p lines ok)
-        ] in
+    elim (off_by (means_nothing (words line)) (declared (words line)) d) [
+      | inl e ↦ e
+      | inr e ↦ form_fault p.number s whole line (text_lines after) (means_nothing (words line)) refl e (next_is text rest line after s whole p lines ok)
+    ] in
     record { number = p.number + 1; form = p.form; same = sym (schema_from-nothing p.number s line (text_lines after) nothing) ∙ ap (λ ls. schema_from p.number s ls) (sym lines) ∙ p.same }
 
 unflawed : (n : ℕ) (s whole : Attributes) (line : Text) (lines : List Text) (a : Attribute) (o : Option SchemaKind) → means_nothing (words line) ≡ false → declared (words line) ≡ Some a

@@ -1,12 +1,12 @@
 -- The words of a line, by its first bytes.
-use Rattle.std.proofs.Common.{◌≡◌, ◌≢◌, ℕ, zero, suc, ◌+◌, ◌-◌, ◌<◌, ◌≤◌, ◌==◌, ◌||◌, ◌&&◌, not, Bool, true, false, cond, List, [], ◌∷◌, ◌++◌, length, take, drop, get_or, refl, sym, ap, ◌∙◌, arith, length-drop}
+use Rattle.std.proofs.Common.{◌≡◌, ◌≢◌, ℕ, zero, suc, ◌+◌, ◌-◌, ◌<◌, ◌≤◌, not, Bool, true, false, [], ◌∷◌, length, take, drop, get_or, refl, sym, ap, ◌∙◌, arith, length-drop}
 use Rattle.std.specs.List.{list_all}
 use Rattle.std.proofs.lemmas.List.{at_drop_more}
 use Rattle.be_base.specs.Text.{Text}
 use Rattle.be_base.specs.Tokens.{is_blank}
 use Rattle.be_base.specs.Fronts.{starts_with}
 use Rattle.be_model.proofs.Attributes.{and_left, and_right}
-use Rattle.be_event.specs.SchemaTexts.{words, put_byte, begins_word}
+use Rattle.be_event.specs.SchemaTexts.{words, begins_word}
 
 -- a blank in front changes nothing
 words_blank : (b : ℕ) (text : Text) → is_blank b ≡ true → words (b ∷ text) ≡ words text
@@ -48,6 +48,7 @@ pub word_found : (n : ℕ) (whole text w r : Text) → words text ≡ words whol
     → n ≤ length text → list_all (λ b. not (is_blank b)) (take n text) ≡ true → begins_word (drop n text) ≡ false → w ≡ take n text → r ≡ drop n text
     → (words whole ≡ w ∷ words r) × (length r < length whole)
 word_found n whole text w r same shorter first some within all rest we re =
-    let found = not_none n text some first rest in
-    ( sym same ∙ words_first n text found within all rest ∙ ap (λ x. x ∷ words (drop n text)) (sym we) ∙ ap (λ x. w ∷ words x) (sym re)
-    , let e : length r ≡ length text - n = ap length re ∙ length-drop n text in omega arith )
+    let found = not_none n text some first rest in (
+      sym same ∙ words_first n text found within all rest ∙ ap (λ x. x ∷ words (drop n text)) (sym we) ∙ ap (λ x. w ∷ words x) (sym re),
+      let e : length r ≡ length text - n = ap length re ∙ length-drop n text in omega arith,
+    )

@@ -1,5 +1,5 @@
 -- What a scan of a schema's text keeps of its lines.
-use Rattle.std.specs.Prelude.{◌≡◌, ◌||◌, true, false, List, [], ◌∷◌, length, map, codes, Option, Some, None, nat_le, Result, Ok, Err, if◌then◌else◌}
+use Rattle.std.specs.Prelude.{◌≡◌, ◌||◌, true, false, List, length, map, codes, Option, None, nat_le, Result, Ok, Err, if◌then◌else◌}
 use Rattle.be_base.specs.Text.{Text}
 use Rattle.be_model.specs.declared.schemas.Attribute.{Attribute}
 use Rattle.be_model.specs.declared.schemas.Domain.{Domain}
@@ -13,7 +13,7 @@ use Rattle.be_event.specs.declared.schema_texts.Declared.{Declared}
 use Rattle.be_event.specs.declared.schema_texts.Flaws.{Flaws}
 use Rattle.be_event.specs.declared.schema_texts.Judged.{Judged}
 use Rattle.be_event.specs.declared.schema_texts.Judged.TheVariants.{Nothing, Fault, Declares}
-use Rattle.be_event.specs.SchemaTexts.{words, means_nothing, declared, repeats, is_out_of_range, has_many, first_kind, declaration}
+use Rattle.be_event.specs.SchemaTexts.{means_nothing, declared, repeats, is_out_of_range, has_many, first_kind, declaration}
 
 -- as it is printed
 abbrev pub kind_name : SchemaKind → Text

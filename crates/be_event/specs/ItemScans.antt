@@ -1,8 +1,7 @@
 -- What a scan of an event's text finds.
-use Rattle.std.specs.Prelude.{◌≡◌, ℕ, ℤ, ◌<◌, true, List, [], ◌++◌, length, get_or, Option, Some, None, option_map, option_and_then, Result, Ok, Err}
+use Rattle.std.specs.Prelude.{◌≡◌, ℕ, ℤ, ◌<◌, true, List, [], length, get_or, Option, Some, None, option_and_then, Result, Ok, Err}
 use Rattle.be_base.specs.Text.{Text}
 use Rattle.be_base.specs.Tokens.{Lexeme, word, equal, tokens, put_token}
-use Rattle.be_base.specs.declared.names.AttrNo.{AttrNo}
 use Rattle.be_model.specs.Matching.{Assignments, value_of}
 use Rattle.be_model.specs.Schemas.{Attributes, numbered}
 use Rattle.be_event.specs.Written.{WrittenItem, is_attr, read_items}

@@ -1,5 +1,5 @@
 -- What a scan of a line finds.
-use Rattle.std.specs.Prelude.{◌≡◌, ◌<◌, List, [], ◌∷◌, length, Option, Some, None}
+use Rattle.std.specs.Prelude.{◌≡◌, ◌<◌, [], ◌∷◌, length, Option, Some, None}
 use Rattle.be_base.specs.Text.{Text}
 use Rattle.be_event.specs.SchemaTexts.{words}
 

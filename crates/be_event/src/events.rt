@@ -58,9 +58,7 @@ fn is_dash(text: &[u8]) -> bool
     ensures { result ≡ true ↔ (tokens text.now ≡ Some (word (codes "-") ∷ [])) }
 {
     match next_token(text) {
-        Scan::Found(Token::Word(dash), rest) => {
-            dash == b"-".as_slice() && is_blank(rest)
-        }
+        Scan::Found(Token::Word(dash), rest) => { dash == b"-".as_slice() && is_blank(rest) }
         _ => false,
     }
 }
@@ -181,7 +179,11 @@ fn scan(schema: &Schema, text: &[u8]) -> Option<Found>
 }
 
 // The event of these values, each at its attribute's place.
-fn event_with(alloc: Global, schema: &Schema, values: &[Option<i64>; 256]) -> Result<Event, NoMemory>
+fn event_with(
+    alloc: Global,
+    schema: &Schema,
+    values: &[Option<i64>; 256],
+) -> Result<Event, NoMemory>
     ensures built { IfOk result (λ e. e ≡ by_place (length schema.now) (λ place. get_or values.now place None)) }
     ensures few { length schema.now ≤ 256 }
 {

@@ -1,16 +1,16 @@
 //! The texts of schemas.
 
-ghost use Rattle.std.specs.Prelude.{◌≡◌, ◌<◌, ◌∷◌, Ok, true, length, option_map, is_some, IfOk};
+ghost use Rattle.std.specs.Prelude.{◌≡◌, ◌<◌, ◌∷◌, Some, Ok, true, length, option_map, is_some, IfOk};
 ghost use Rattle.std.specs.List.{list_any};
 ghost use Rattle.be_base.specs.Text.{same_text};
 ghost use Rattle.std.specs.Str.Lines.{strip_carriage_return};
 ghost use Rattle.be_model.specs.declared.schemas.Domain.TheVariants.{Int};
-ghost use Rattle.be_model.specs.Schemas.{Attributes, attribute_of, is_among_texts};
+ghost use Rattle.be_model.specs.Schemas.{Attributes, attribute_of, is_among_texts, all_differ};
 ghost use Rattle.be_event.specs.SchemaTexts.{words, is_remark, int_domain, sym_domain, domain_of, text_lines, schema_of, ReadsSchema};
 ghost use Rattle.be_event.specs.Declarations.{kind_name, names_declared, JudgesWords, Checks, flaws_of, flawed, declared_on};
 
-use arrayvec::ArrayVec;
 use crate::words::{are_different, are_names, count_words, next_word};
+use arrayvec::ArrayVec;
 use be_base::{ATTRIBUTES, Name, NoMemory, SYMBOLS, read_int};
 use be_model::{Domain, Names, Schema, is_reserved};
 use std::alloc::Global;
@@ -64,11 +64,11 @@ pub enum SchemaFault {
     NoMemory,
 }
 
-/// Reads a whole text as a schema. Only a text without a fault takes memory.
+/// Reads a whole text as a schema. Want of memory is answered only where the text has no fault.
 pub fn read_schema(alloc: Global, text: &[u8]) -> Result<Schema, SchemaFault>
     ensures { ReadsSchema result (schema_of text.now) }
 {
-    if let Err(fault) = check(text) {
+    if let Err(fault) = check(alloc, text) {
         return Err(SchemaFault::Line {
             line: fault.line,
             kind: fault.kind,
@@ -88,7 +88,7 @@ struct LineFault {
 }
 
 // Finds the first fault of a text.
-fn check(text: &[u8]) -> Result<(), LineFault>
+fn check(alloc: Global, text: &[u8]) -> Result<(), LineFault>
     ensures { Checks result (schema_of text.now) }
 {
     let mut names = ArrayVec::<Declared, 256>::new();
@@ -97,7 +97,7 @@ fn check(text: &[u8]) -> Result<(), LineFault>
     while !rest.is_empty() {
         let (line, after) = first_line(rest);
         number += 1;
-        match judge(names.as_slice(), line) {
+        match judge(alloc, names.as_slice(), line) {
             Judged::Nothing => {}
             Judged::Fault(kind) => return Err(LineFault { line: number, kind }),
             Judged::Declares(name) => names.push(Declared(name)),
@@ -168,7 +168,7 @@ enum Judged {
     Declares(Name),
 }
 
-fn judge(names: &[Declared], line: &[u8]) -> Judged
+fn judge(alloc: Global, names: &[Declared], line: &[u8]) -> Judged
     ensures { JudgesWords (names_declared names.now) (words line.now) result }
 {
     let Some((kind, rest)) = next_word(line) else {
@@ -183,7 +183,7 @@ fn judge(names: &[Declared], line: &[u8]) -> Judged
     let Ok(name) = Name::read(name) else {
         return Judged::Fault(SchemaKind::Form);
     };
-    let Some(flaws) = domain_flaws(kind, rest) else {
+    let Some(flaws) = domain_flaws(alloc, kind, rest) else {
         return Judged::Fault(SchemaKind::Form);
     };
     match kind_of(names, &name, flaws) {
@@ -224,20 +224,41 @@ struct Flaws {
 }
 
 // The flaws of the domain that the text says, if it says one.
-fn domain_flaws(kind: &[u8], text: &[u8]) -> Option<Flaws>
+fn domain_flaws(alloc: Global, kind: &[u8], text: &[u8]) -> Option<Flaws>
     ensures { result ≡ option_map flaws_of (domain_of kind.now (words text.now)) }
 {
     if kind == b"int".as_slice() {
         let (lo, hi) = bounds(text)?;
         let range = !(Domain::Int { lo, hi }).is_valid();
-        return Some(Flaws { repeats: false, range, many: false });
+        return Some(Flaws {
+            repeats: false,
+            range,
+            many: false,
+        });
     }
     if kind == b"sym".as_slice() && are_symbols(text) {
-        let repeats = !are_different(text);
+        let repeats = !symbols_differ(alloc, text);
         let many = SYMBOLS < count_words(text);
-        return Some(Flaws { repeats, range: false, many });
+        return Some(Flaws {
+            repeats,
+            range: false,
+            many,
+        });
     }
     None
+}
+
+// Whether no two symbols are the same. Memory makes it quick: where there is none, each is compared with each.
+fn symbols_differ(alloc: Global, text: &[u8]) -> bool
+    requires { is_some (sym_domain (words text.now)) ≡ true }
+    ensures { result ≡ all_differ (words text.now) }
+{
+    if count_words(text) <= SYMBOLS {
+        if let Ok(names) = names_in(alloc, text) {
+            return names.are_different();
+        }
+    }
+    are_different(text)
 }
 
 // Whether there is a word, and each is a name.

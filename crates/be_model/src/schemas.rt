@@ -97,8 +97,8 @@ impl Names {
         }
     }
 
-    // Whether no two names are the same.
-    fn are_different(&self) -> bool
+    /// Whether no two names are the same.
+    pub fn are_different(&self) -> bool
         ensures { result ≡ all_differ self.now }
     {
         self.differ

@@ -1,4 +1,4 @@
-use Rattle.std.proofs.Common.{◌≡◌, sym, ap, subst, ◌∙◌, All, rules}
+use Rattle.std.proofs.Common.{◌≡◌, ap, subst, ◌∙◌, All, rules}
 use Rattle.be_model.specs.Matching.{Assignments}
 use Rattle.be_event.specs.Events.{event}
 use Rattle.be_event.specs.Canonical.{event_text, IsSpelled}

@@ -1,4 +1,4 @@
-use Rattle.std.proofs.Common.{◌≡◌, Some, None, get_or, refl, sym, ap, ◌∙◌}
+use Rattle.std.proofs.Common.{◌≡◌, Some, None, get_or, refl, sym, ◌∙◌}
 use Rattle.std.proofs.Math.ListN.{set}
 use Rattle.be_event.proofs.Items.{finds_unknown, finds_outside, finds_value, then_from_map}
 use Rattle.be_event.proofs.events.Found.note.Goals as goal
