@@ -7,3 +7,4 @@ pub mod WordLemmas
 pub mod Scans
 pub mod Built
 pub mod Readings
+pub mod Known

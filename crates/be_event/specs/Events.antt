@@ -1,5 +1,5 @@
 -- What the text of an event means in a schema, or its first fault.
-use Rattle.std.specs.Prelude.{◌≡◌, ℕ, ℤ, zero, suc, Bool, false, List, [], ◌∷◌, ◌++◌, length, find, Option, Some, None, option_map, option_and_then, is_some, is_none, Result, Ok, Err, if◌then◌else◌}
+use Rattle.std.specs.Prelude.{◌≡◌, ◌<◌, ℕ, ℤ, zero, suc, Bool, false, List, [], ◌∷◌, ◌++◌, length, find, Option, Some, None, option_map, option_and_then, is_some, is_none, Result, Ok, Err, if◌then◌else◌}
 use Rattle.std.specs.List.{filter_map}
 use Rattle.std.specs.Option.{option_map_or, option_or}
 use Rattle.be_base.specs.Text.{Text}
@@ -81,3 +81,9 @@ abbrev pub Reads : Result Assignments EventFault → Result Assignments EventFau
 Reads (Ok e) read = read ≡ Ok e
 Reads (Err NoMemory) read = (e : Assignments) × (read ≡ Ok e)
 Reads (Err fault) read = read ≡ Err fault
+
+-- a fault that names an attribute by its number names one of the schema
+abbrev pub IsKnown : Attributes → EventFault → Type 0
+IsKnown s (Dom a) = a.0 < length s
+IsKnown s (Twice a) = a.0 < length s
+IsKnown s _ = Unit {0}

@@ -1,10 +1,9 @@
 -- Events as they are written: the grammar over tokens.
-use Rattle.std.specs.Prelude.{◌≡◌, ◌↔◌, ◌&&◌, not, Bool, true, false, List, [], ◌∷◌, Option, Some, None, option_map, Result, Ok, Err, codes, if◌then◌else◌}
+use Rattle.std.specs.Prelude.{◌≡◌, ◌↔◌, Bool, true, List, [], ◌∷◌, Option, Some, None, option_map, codes, if◌then◌else◌}
 use Rattle.std.specs.List.{list_all}
-use Rattle.be_base.specs.Text.{Text, same_text, name_of}
+use Rattle.be_base.specs.Text.{Text, same_text}
 use Rattle.be_base.specs.Tokens.{Lexeme, word, equal}
-use Rattle.be_base.specs.declared.names.NameFault.{NameFault}
-use Rattle.be_model.specs.Schemas.{reserved_words, is_among_texts}
+pub use Rattle.be_model.specs.Schemas.{is_name, is_attr}
 
 -- an attribute and a value, as words
 pub record WrittenItem : Type 0 where
@@ -23,14 +22,6 @@ item_tokens (item ∷ items) = word item.attr ∷ equal ∷ word item.value ∷ 
 abbrev pub event_tokens : List WrittenItem → List Lexeme
 event_tokens [] = word (codes "-") ∷ []
 event_tokens (item ∷ items) = item_tokens (item ∷ items)
-
-abbrev pub is_name : Result Text NameFault → Bool
-is_name (Ok name) = true
-is_name (Err fault) = false
-
--- a name that isn't reserved
-abbrev pub is_attr : Text → Bool
-is_attr text = is_name (name_of text) && not (is_among_texts text reserved_words)
 
 -- the attributes have the form of attributes
 abbrev pub are_written : List WrittenItem → Bool

@@ -1,11 +1,11 @@
 //! The texts of events.
 
-ghost use Rattle.std.specs.Prelude.{◌≡◌, ◌↔◌, ◌≤◌, ◌∷◌, ◌++◌, [], List, Some, None, true, length, get_or, codes, IfOk};
+ghost use Rattle.std.specs.Prelude.{◌≡◌, ◌↔◌, ◌≤◌, ◌∷◌, ◌++◌, [], List, Some, None, true, length, get_or, codes, IfOk, IfErr};
 ghost use Rattle.be_base.specs.Tokens.{word, tokens};
 ghost use Rattle.be_model.specs.Lies.{event_lies};
 ghost use Rattle.be_model.specs.Schemas.{Attributes};
 ghost use Rattle.be_event.specs.Written.{WrittenItem, item_of};
-ghost use Rattle.be_event.specs.Events.{event, by_place, Reads};
+ghost use Rattle.be_event.specs.Events.{event, by_place, Reads, IsKnown};
 ghost use Rattle.be_event.specs.ItemScans.{Begins, Finds, Scanned, Judges};
 
 use be_base::{ATTRIBUTES, AttrNo, Name, NoMemory, Scan, Token, next_token};
@@ -36,6 +36,7 @@ pub enum EventFault {
 pub fn read_event(alloc: Global, schema: &Schema, text: &[u8]) -> Result<Event, EventFault>
     ensures exact { Reads result (event schema.now text.now) }
     ensures lies { IfOk result (λ e. event_lies schema.now e ≡ true) }
+    ensures known { IfErr result (IsKnown schema.now) }
 {
     if is_dash(text) {
         return Ok(Event::make(alloc));

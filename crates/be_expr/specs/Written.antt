@@ -1,10 +1,9 @@
 -- Conditions as they are written: the grammar over tokens.
-use Rattle.std.specs.Prelude.{◌&&◌, not, Bool, true, false, List, [], ◌∷◌, ◌++◌, Result, Ok, Err, codes}
+use Rattle.std.specs.Prelude.{◌&&◌, Bool, true, false, List, [], ◌∷◌, ◌++◌, codes}
 use Rattle.std.specs.List.{list_all}
-use Rattle.be_base.specs.Text.{Text, name_of}
+use Rattle.be_base.specs.Text.{Text}
 use Rattle.be_base.specs.Tokens.{Lexeme, word, less, less_or_equal, equal, not_equal, greater_or_equal, greater, open_brace, close_brace, comma}
-use Rattle.be_base.specs.declared.names.NameFault.{NameFault}
-use Rattle.be_model.specs.Schemas.{reserved_words, is_among_texts}
+pub use Rattle.be_model.specs.Schemas.{is_name, is_attr}
 
 -- a comparison with the words of its values
 pub data WrittenOp : Type 0 where
@@ -49,14 +48,6 @@ is_operator not_equal = true
 is_operator greater_or_equal = true
 is_operator greater = true
 is_operator _ = false
-
-abbrev pub is_name : Result Text NameFault → Bool
-is_name (Ok name) = true
-is_name (Err fault) = false
-
--- a name that isn't reserved
-abbrev pub is_attr : Text → Bool
-is_attr text = is_name (name_of text) && not (is_among_texts text reserved_words)
 
 abbrev pub is_filled : List Text → Bool
 is_filled [] = false

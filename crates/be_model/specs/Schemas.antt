@@ -1,8 +1,9 @@
 -- Schemas: which attributes there are.
 pub use Rattle.be_model.specs.TextLists.{is_among_texts, all_differ}
-use Rattle.std.specs.Prelude.{◌≡◌, ℕ, pos, negsuc, ◌≤◌, ◌&&◌, not, Bool, true, List, [], ◌∷◌, length, map, nat_le, int_le, Option, option_map, slice_get, codes}
+use Rattle.std.specs.Prelude.{◌≡◌, ℕ, pos, negsuc, ◌≤◌, ◌&&◌, not, Bool, true, false, List, [], ◌∷◌, length, map, nat_le, int_le, Option, option_map, Result, Ok, Err, slice_get, codes}
 use Rattle.std.specs.List.{list_all}
-use Rattle.be_base.specs.Text.{Text}
+use Rattle.be_base.specs.Text.{Text, name_of}
+use Rattle.be_base.specs.declared.names.NameFault.{NameFault}
 use Rattle.be_base.specs.declared.names.AttrNo.{AttrNo}
 use Rattle.be_model.specs.declared.schemas.Domain.{Domain}
 use Rattle.be_model.specs.declared.schemas.Domain.TheVariants.{Int, Sym}
@@ -52,3 +53,12 @@ attribute_at s a = slice_get s a.0
 -- the range of an attribute that the schema has
 abbrev pub range_of : Attributes → AttrNo → Option Range
 range_of s a = option_map (λ (x : Attribute). bounds_of x.domain) (attribute_at s a)
+
+-- the text was read as a name
+abbrev pub is_name : Result Text NameFault → Bool
+is_name (Ok name) = true
+is_name (Err fault) = false
+
+-- a name that isn't reserved
+abbrev pub is_attr : Text → Bool
+is_attr text = is_name (name_of text) && not (is_among_texts text reserved_words)
