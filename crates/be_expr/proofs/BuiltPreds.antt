@@ -128,8 +128,8 @@ pub one_more_built : (s : Attributes) (conj more : List Pred) (x : Pred) (o left
 one_more_built s conj more x o left after is p q =
     appended s conj (option_and_then preds_in o)
     ∙ ap (option_map (λ ps. conj ++ ps))
-        (preds_step (meant_pred s) (map (meant_pred s)) (λ y ys. y ∷ ys) o x left (end_of (Some after)) (λ r rs. refl) p q
-        ∙ ap (λ ps. option_map (λ ys. x ∷ ys) (option_map (map (meant_pred s)) ps)) (left_by_end after))
+    (preds_step (meant_pred s) (map (meant_pred s)) (λ y ys. y ∷ ys) o x left (end_of (Some after)) (λ r rs. refl) p q
+    ∙ ap (λ ps. option_map (λ ys. x ∷ ys) (option_map (map (meant_pred s)) ps)) (left_by_end after))
     ∙ moved conj x (option_map (map (meant_pred s)) (preds_left after))
     ∙ ap (λ (front : List Pred). option_map (λ ps. front ++ ps) (option_map (map (meant_pred s)) (preds_left after))) (sym is)
     ∙ sym (appended s more (preds_left after))

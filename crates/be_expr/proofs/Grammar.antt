@@ -129,13 +129,13 @@ after_word w want false x y P e met other = other
 not_is_written : (ts : List Lexeme) → OpRead (word (codes "not") ∷ ts) (read_not ts)
 not_is_written (word w ∷ ts) =
     after_word w (codes "in") (same_text w (codes "in")) (read_set not_among ts) None (λ (text : Text) (o : Read WrittenOp). OpRead (word (codes "not") ∷ word text ∷ ts) o)
-        refl (not_in_is_written ts) tt
+    refl (not_in_is_written ts) tt
 not_is_written _ = tt
 
 between_is_written : (ts : List Lexeme) → OpRead (word (codes "between") ∷ ts) (read_between ts)
 between_is_written (word v ∷ word joiner ∷ word w ∷ ts) =
     after_word joiner (codes "and") (same_text joiner (codes "and")) (Some (between v w, ts)) None
-        (λ (text : Text) (o : Read WrittenOp). OpRead (word (codes "between") ∷ word v ∷ word text ∷ word w ∷ ts) o) refl (refl, refl) tt
+    (λ (text : Text) (o : Read WrittenOp). OpRead (word (codes "between") ∷ word v ∷ word text ∷ word w ∷ ts) o) refl (refl, refl) tt
 between_is_written _ = tt
 
 worded_is_written : (w : Text) (ts : List Lexeme) → OpRead (word w ∷ ts) (read_worded w ts)
@@ -191,7 +191,7 @@ joined_are_written : (rest : List Lexeme → Option (List WrittenPred)) (p : Wri
 joined_are_written rest p [] each h = (both (is_attr p.attr && op_is_written p.op) true h refl, sym (append-nil (pred_tokens p)))
 joined_are_written rest p (word w ∷ ts) each h =
     after_word w (codes "and") (same_text w (codes "and")) _ _ (λ (text : Text) (o : Option (List WrittenPred)). AreRead (pred_tokens p ++ word text ∷ ts) o) refl
-        (pred_before_preds p (rest ts) ts h (each ts)) tt
+    (pred_before_preds p (rest ts) ts h (each ts)) tt
 joined_are_written rest p _ each h = tt
 
 first_then_rest : (rest : List Lexeme → Option (List WrittenPred)) (ts : List Lexeme) (o : Read WrittenPred) → ((after : List Lexeme) → AreRead after (rest after)) → PredRead ts o
@@ -225,6 +225,7 @@ written_is_read (word w ∷ u ∷ ts) = several_are_read (word w ∷ u ∷ ts)
 written_is_read (t ∷ u ∷ ts) = several_are_read (t ∷ u ∷ ts)
 
 pub reads_are_written : ReadsAreWritten
-reads_are_written ts ps =
-    (λ h. subst (λ (o : Option (List WrittenPred)). IsRead ts o) h (written_is_read ts),
-     λ h. subst (λ (tokens : List Lexeme). written tokens ≡ Some ps) h.1 (tokens_are_read ps h.0))
+reads_are_written ts ps = (
+  λ h. subst (λ (o : Option (List WrittenPred)). IsRead ts o) h (written_is_read ts),
+  λ h. subst (λ (tokens : List Lexeme). written tokens ≡ Some ps) h.1 (tokens_are_read ps h.0),
+)

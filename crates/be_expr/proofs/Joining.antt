@@ -39,16 +39,16 @@ fuel_is_enough (suc fuel) zero [] p q = refl
 fuel_is_enough (suc fuel) zero (t ∷ ts) p q = absurd (omega arith)
 fuel_is_enough (suc fuel) (suc more) ts p q =
     first_alike (read_preds fuel) (read_preds more) (read_pred ts) (length ts - 1)
-        (λ after few. fuel_is_enough fuel more after (omega (arith, few)) (omega (arith, few)))
-        (λ r e. let less_left : length r.1 < length ts = pred_shortens ts (read_pred ts) r refl e in omega arith)
+    (λ after few. fuel_is_enough fuel more after (omega (arith, few)) (omega (arith, few)))
+    (λ r e. let less_left : length r.1 < length ts = pred_shortens ts (read_pred ts) r refl e in omega arith)
 
 pred_is_some : (ts : List Lexeme) (n : ℕ) → length ts ≡ n → read_preds n ts ≡ option_and_then (λ (r : WrittenPred × List Lexeme). read_joined preds_in r.0 r.1) (read_pred ts)
 pred_is_some [] zero e = refl
 pred_is_some (t ∷ ts) zero e = absurd (omega arith)
 pred_is_some ts (suc n) e =
     first_alike (read_preds n) preds_in (read_pred ts) n
-        (λ after few. fuel_is_enough n (length after) after few (omega arith))
-        (λ r h. let less_left : length r.1 < length ts = pred_shortens ts (read_pred ts) r refl h in omega arith)
+    (λ after few. fuel_is_enough n (length after) after few (omega arith))
+    (λ r h. let less_left : length r.1 < length ts = pred_shortens ts (read_pred ts) r refl h in omega arith)
 
 -- the first predicate, and those behind it
 first_pred : (ts : List Lexeme) → preds_in ts ≡ option_and_then (λ (r : WrittenPred × List Lexeme). read_joined preds_in r.0 r.1) (read_pred ts)

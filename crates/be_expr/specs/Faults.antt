@@ -64,7 +64,7 @@ judged_pred name o m = record {
   preds = 1;
   unknown = if is_none o then Some (Attr name) else None;
   outside = option_and_then (λ a. if m.is_outside then Some (Dom a) else None) o;
-  large_set = if nat_lt 64 m.count then Some (Many m.count) else None
+  large_set = if nat_lt 64 m.count then Some (Many m.count) else None;
 }
 
 abbrev pub faults_with : Attributes → WrittenPred × List Lexeme → Faults × List Lexeme

@@ -49,7 +49,11 @@ fn build_preds(alloc: Global, schema: &Schema, text: &[u8]) -> Result<Conj, Expr
     Ok(conj)
 }
 
-fn build_pred<'a>(alloc: Global, schema: &Schema, text: &'a [u8]) -> Result<(Pred, &'a [u8]), ExprFault>
+fn build_pred<'a>(
+    alloc: Global,
+    schema: &Schema,
+    text: &'a [u8],
+) -> Result<(Pred, &'a [u8]), ExprFault>
     requires { FinePred schema.now (option_and_then read_pred (tokens text.now)) }
     ensures pred { IfOk result (λ r. option_map (λ ts. (r.0, ts)) (tokens r.1.now) ≡ option_map (pred_with schema.now) (option_and_then read_pred (tokens text.now))) }
     ensures shorter { IfOk result (λ r. length r.1.now < length text.now) }
@@ -62,7 +66,13 @@ fn build_pred<'a>(alloc: Global, schema: &Schema, text: &'a [u8]) -> Result<(Pre
 }
 
 // A predicate, from the values that its head leaves.
-fn build_behind<'a>(alloc: Global, schema: &Schema, name: Name, opening: Opening<'_>, text: &'a [u8]) -> Result<(Pred, &'a [u8]), ExprFault>
+fn build_behind<'a>(
+    alloc: Global,
+    schema: &Schema,
+    name: Name,
+    opening: Opening<'_>,
+    text: &'a [u8],
+) -> Result<(Pred, &'a [u8]), ExprFault>
     requires { FinePred schema.now (option_map (with_attr name) (with_values (plain_opening opening) (tokens text.now))) }
     ensures pred { IfOk result (λ r. option_map (λ ts. (r.0, ts)) (tokens r.1.now) ≡ option_map (pred_with schema.now) (option_map (with_attr name) (with_values (plain_opening opening.entry) (tokens text.now)))) }
     ensures within { IfOk result (λ r. length r.1.now ≤ length text.now) }
@@ -77,7 +87,13 @@ fn build_behind<'a>(alloc: Global, schema: &Schema, name: Name, opening: Opening
     }
 }
 
-fn build_op<'a>(alloc: Global, schema: &Schema, attr: AttrNo, opening: Opening<'_>, text: &'a [u8]) -> Result<(Op, &'a [u8]), ExprFault>
+fn build_op<'a>(
+    alloc: Global,
+    schema: &Schema,
+    attr: AttrNo,
+    opening: Opening<'_>,
+    text: &'a [u8],
+) -> Result<(Op, &'a [u8]), ExprFault>
     requires there { attr.0 < length schema.now }
     requires fine { FineOp schema.now attr (with_values (plain_opening opening) (tokens text.now)) }
     ensures op { IfOk result (λ r. option_map (λ ts. (r.0, ts)) (tokens r.1.now) ≡ option_map (op_with schema.now attr) (with_values (plain_opening opening.entry) (tokens text.now))) }
@@ -106,7 +122,12 @@ fn build_op<'a>(alloc: Global, schema: &Schema, attr: AttrNo, opening: Opening<'
 }
 
 // The values of a set up to the closing brace, rising and each once.
-fn build_values<'a>(alloc: Global, schema: &Schema, attr: AttrNo, text: &'a [u8]) -> Result<(Values, &'a [u8]), ExprFault>
+fn build_values<'a>(
+    alloc: Global,
+    schema: &Schema,
+    attr: AttrNo,
+    text: &'a [u8],
+) -> Result<(Values, &'a [u8]), ExprFault>
     requires there { attr.0 < length schema.now }
     requires fine { FineValues schema.now attr 0 (option_and_then read_values (tokens text.now)) }
     ensures values { IfOk result (λ r. option_map (λ ts. (r.0, ts)) (tokens r.1.now) ≡ option_map (rising_with schema.now attr) (option_and_then read_values (tokens text.now))) }

@@ -12,3 +12,6 @@ mod scan;
 pub use changes::read_change;
 pub use faults::ExprFault;
 pub use read::read_expr;
+
+#[cfg(test)]
+mod reading_tests;

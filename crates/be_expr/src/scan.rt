@@ -84,7 +84,12 @@ fn scan_values<'a>(schema: &Schema, attr: Option<AttrNo>, text: &'a [u8]) -> Opt
 }
 
 // The values behind an attribute, some of which may be read already.
-fn scan_op<'a>(schema: &Schema, attr: Option<AttrNo>, opening: Opening<'_>, text: &'a [u8]) -> Option<(Met, &'a [u8])>
+fn scan_op<'a>(
+    schema: &Schema,
+    attr: Option<AttrNo>,
+    opening: Opening<'_>,
+    text: &'a [u8],
+) -> Option<(Met, &'a [u8])>
     requires { IfSome attr (λ a. a.0 < length schema.now) }
     ensures met { following (λ met. met) result ≡ option_map (met_of_op schema.now attr) (with_values (plain_opening opening.entry) (tokens text.now)) }
     ensures within { IfSome result (λ r. length r.1.now ≤ length text.now) }

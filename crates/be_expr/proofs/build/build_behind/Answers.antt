@@ -10,4 +10,4 @@ build_op-requires-clause-fine c =
 pub returns-in-Ok-clause-pred : goal.returns-in-Ok-clause-pred
 returns-in-Ok-clause-pred c =
     pred_is_built c.args.schema.now c.args.name c.in-Some.attr c.in-Ok.op (with_values (plain_opening c.args.opening) (tokens c.args.text.now)) (tokens c.in-Ok.rest.now)
-        c.in-Some.ensures.exact c.in-Ok.ensures.op
+    c.in-Some.ensures.exact c.in-Ok.ensures.op

@@ -15,4 +15,4 @@ returns-in_err-high-in-Between-clause-memory c =
     let left = tokens c.args.text.now in
     let fine = subst (λ (opening : Opening). FineOp s c.args.attr (with_values (plain_opening opening) left)) c.in-Between.is c.requires.fine in
     absurd (no_value (value_at s c.args.attr c.in-Between.high.now) (Dom c.args.attr) c.in_err-high-in-Between.field-0.0
-        (ends_have_values s c.args.attr c.in-Between.low.now c.in-Between.high.now left fine).1 c.in_err-high-in-Between.ensures)
+    (ends_have_values s c.args.attr c.in-Between.low.now c.in-Between.high.now left fine).1 c.in_err-high-in-Between.ensures)

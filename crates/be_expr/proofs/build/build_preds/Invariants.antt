@@ -10,7 +10,7 @@ use Rattle.be_expr.proofs.build.build_preds.Given as goal
 abbrev pub invariant-loop-left : goal.invariant-loop-left
 invariant-loop-left l = record {
   whole : option_map (map (meant_pred l.schema)) (option_and_then preds_in (tokens l.text)) ≡ option_map (meant_behind l.schema l.conj) (preds_left l.left);
-  fine : FinePreds l.schema (length l.conj) (preds_left l.left)
+  fine : FinePreds l.schema (length l.conj) (preds_left l.left);
 }
 
 abbrev pub decreases-loop-left : goal.decreases-loop-left

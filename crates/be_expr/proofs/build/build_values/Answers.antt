@@ -16,7 +16,7 @@ returns-in_err-number-clause-memory c =
     let value = c.in_ok-value.value in
     let read = sym (ap (following plain_value) c.in_ok-value.ensures.ok_part) ∙ c.read_value.ensures.value in
     absurd (no_value (value_at s a value.word.now) (Dom a) c.in_err-number.field-0.0
-        (next_is_fine s a 0 value.word.now value.is_last (tokens c.args.text.now) (tokens c.in_ok-value.rest.now) c.requires.fine read).0 c.in_err-number.ensures)
+    (next_is_fine s a 0 value.word.now value.is_last (tokens c.args.text.now) (tokens c.in_ok-value.rest.now) c.requires.fine read).0 c.in_err-number.ensures)
 
 pub loop-is_last-init : goal.loop-is_last-init
 loop-is_last-init c =
@@ -43,7 +43,7 @@ returns-in_err-number-2-clause-memory c =
     let read = sym (ap (following plain_value) c.in_ok-value-2.ensures.ok_part) ∙ c.read_value-in-loop-is_last.ensures.value in
     let fine = subst (λ b. FineValues s a (length c.loop-is_last.values) (values_after b (tokens c.loop-is_last.rest.now))) c.loop-is_last-test.true c.loop-is_last.invariant.fine in
     absurd (no_value (value_at s a value.word.now) (Dom a) c.in_err-number-2.field-0.0
-        (next_is_fine s a (length c.loop-is_last.values) value.word.now value.is_last (tokens c.loop-is_last.rest.now) (tokens c.in_ok-value-2.after.now) fine read).0 c.in_err-number-2.ensures)
+    (next_is_fine s a (length c.loop-is_last.values) value.word.now value.is_last (tokens c.loop-is_last.rest.now) (tokens c.in_ok-value-2.after.now) fine read).0 c.in_err-number-2.ensures)
 
 pub insert-requires : goal.insert-requires
 insert-requires c =
@@ -67,7 +67,7 @@ loop-is_last-preserved c =
     let read = sym (ap (following plain_value) c.in_ok-value-2.ensures.ok_part) ∙ c.read_value-in-loop-is_last.ensures.value in
     let fine = subst (λ b. FineValues s a (length values) (values_after b rest)) c.loop-is_last-test.true c.loop-is_last.invariant.fine in
     let put : c.insert.new.self ≡ put_value n values =
-        on_ok c.insert.result (c.insert.new.self ≡ put_value (to_z w64 (of_z w64 n)) values) (sym c.if-is_err.ensures.value) c.insert.ensures.put ∙ ap (λ (m : ℤ). put_value m values) kept in
+    on_ok c.insert.result (c.insert.new.self ≡ put_value (to_z w64 (of_z w64 n)) values) (sym c.if-is_err.ensures.value) c.insert.ensures.put ∙ ap (λ (m : ℤ). put_value m values) kept in
     let shorter = subst (λ r. IfSome r (λ x. length x.1.now < length c.loop-is_last.rest.now)) c.in_ok-value-2.ensures.ok_part c.read_value-in-loop-is_last.ensures.shorter in
     record {
       whole = c.loop-is_last.invariant.whole ∙ ap (λ b. option_map (put_with s a values) (values_after b rest)) c.loop-is_last-test.true

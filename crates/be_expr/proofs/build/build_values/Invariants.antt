@@ -11,7 +11,7 @@ invariant-loop-is_last l = record {
   whole : option_map (rising_with l.schema l.attr) (option_and_then read_values (tokens l.text))
       ≡ option_map (put_with l.schema l.attr l.values) (values_after l.is_last (tokens l.rest));
   fine : FineValues l.schema l.attr (length l.values) (values_after l.is_last (tokens l.rest));
-  begun : length l.rest < length l.text
+  begun : length l.rest < length l.text;
 }
 
 abbrev pub decreases-loop-is_last : goal.decreases-loop-is_last

@@ -14,14 +14,14 @@ returns-in_err-met-in-Some-clause-faults c =
     let left = tokens c.in-Some.rest.now in
     ap (following (λ (faults : Faults). faults)) c.from_residual.ensures
     ∙ sym (ap (option_map (faults_with s)) (pred_first (plain_head c.in-Some.head) (tokens c.args.text.now) left c.in-Some.ensures.head
-        ∙ ap (option_map (with_attr c.in-Some.head.attr)) (map_is_none (met_of_op s c.find-attr.result) (with_values (plain_opening c.in-Some.head.opening) left) c.in_err-met-in-Some.ensures.met)))
+    ∙ ap (option_map (with_attr c.in-Some.head.attr)) (map_is_none (met_of_op s c.find-attr.result) (with_values (plain_opening c.in-Some.head.opening) left) c.in_err-met-in-Some.ensures.met)))
 
 pub returns-in_ok-met-in-Some-clause-faults : goal.returns-in_ok-met-in-Some-clause-faults
 returns-in_ok-met-in-Some-clause-faults c =
     let s = c.args.schema.now in
     let left = tokens c.in-Some.rest.now in
     judged_with s c.in-Some.head.attr c.find-attr.result c.in_ok-met-in-Some.met c.judged.result (with_values (plain_opening c.in-Some.head.opening) left)
-        (tokens c.in_ok-met-in-Some.rest.now) c.find-attr.ensures.exact c.judged.ensures c.in_ok-met-in-Some.ensures.met
+    (tokens c.in_ok-met-in-Some.rest.now) c.find-attr.ensures.exact c.judged.ensures c.in_ok-met-in-Some.ensures.met
     ∙ sym (ap (option_map (faults_with s)) (pred_first (plain_head c.in-Some.head) (tokens c.args.text.now) left c.in-Some.ensures.head))
 
 pub returns-in-None-clause-faults : goal.returns-in-None-clause-faults

@@ -13,7 +13,13 @@ loop-left-preserved c =
     record {
       whole = c.loop-left.invariant.whole ∙ ap (λ left. option_map (faults_behind s faults) (preds_left left)) c.in-Some.is
           ∙ one_more_pred s faults c.then-faults.result c.in-Some-scan_pred.next (tokens c.in-Some.text.now) (tokens c.in-Some-scan_pred.rest.now) c.in_ok-left.left
-              c.then-faults.ensures c.in-Some-scan_pred.ensures.faults c.in_ok-left.ensures.end;
-      counted = omega (arith, ap left_size c.in-Some.is, ap (λ (f : Faults). f.preds) c.then-faults.ensures, c.in-Some-scan_pred.ensures.one,
-          c.in-Some-scan_pred.ensures.shorter, left_size_within c.in_ok-left.left (length c.in-Some-scan_pred.rest.now) c.in_ok-left.ensures.shorter);
+          c.then-faults.ensures c.in-Some-scan_pred.ensures.faults c.in_ok-left.ensures.end;
+      counted = omega (
+        arith,
+        ap left_size c.in-Some.is,
+        ap (λ (f : Faults). f.preds) c.then-faults.ensures,
+        c.in-Some-scan_pred.ensures.one,
+        c.in-Some-scan_pred.ensures.shorter,
+        left_size_within c.in_ok-left.left (length c.in-Some-scan_pred.rest.now) c.in_ok-left.ensures.shorter,
+      );
     }

@@ -7,7 +7,7 @@ use Rattle.be_expr.proofs.scan.scan_preds.Given as goal
 abbrev pub invariant-loop-left : goal.invariant-loop-left
 invariant-loop-left l = record {
   whole : option_map (faults_of l.schema) (option_and_then preds_in (tokens l.text)) ≡ option_map (faults_behind l.schema l.faults) (preds_left l.left);
-  counted : l.faults.preds + left_size l.left ≤ length l.text + 1
+  counted : l.faults.preds + left_size l.left ≤ length l.text + 1;
 }
 
 abbrev pub decreases-loop-left : goal.decreases-loop-left

@@ -10,7 +10,7 @@ invariant-loop-is_last l = record {
   whole : option_map (met_with l.schema l.attr) (option_and_then read_values (tokens l.text))
       ≡ option_map (met_behind l.schema l.attr l.met) (values_after l.is_last (tokens l.rest));
   counted : l.met.count + length l.rest ≤ length l.text;
-  begun : l.is_last ≡ true → length l.rest < length l.text
+  begun : l.is_last ≡ true → length l.rest < length l.text;
 }
 
 abbrev pub decreases-loop-is_last : goal.decreases-loop-is_last
