@@ -72,105 +72,125 @@ fn read(alloc: Global, schema: &Schema, text: &[u8]) -> Result<String, Fail> {
     }
 }
 
+fn check(
+    rt: &impl Abort,
+    alloc: Global,
+    schema: &Schema,
+    text: &str,
+    want: &str,
+) -> Result<(), Fail> {
+    let found = read(alloc, schema, text.as_bytes())?;
+    assert_eq!(rt; found.as_str(), want, "{text}");
+    Ok(())
+}
+
+const CONDITIONS: [(&str, &str); 15] = [
+    ("all", ""),
+    ("\t all ", ""),
+    ("price < 10", "0 < 10."),
+    ("price<=10", "0 <= 10."),
+    ("qty = -0", "1 = 0."),
+    ("price != 007", "0 != 7."),
+    ("qty>=-5", "1 >= -5."),
+    ("\tprice>1000 ", "0 > 1000."),
+    ("qty between 3 and -3", "1 3 to -3."),
+    ("side in {sell, hold,buy,sell}", "2 in [0, 1, 2]."),
+    ("qty not in { 4,-5 ,4 }", "1 not in [-5, 4]."),
+    (
+        "price > 5 and side = buy and qty != 0",
+        "0 > 5.2 = 0.1 != 0.",
+    ),
+    ("joint between and and in", "3 0 to 1."),
+    (
+        "joint between and and and and joint = in",
+        "3 0 to 0.3 = 1.",
+    ),
+    ("joint in {and}", "3 in [0]."),
+];
+
 #[test]
 fn conditions_are_read(rt: HostRuntime) -> Result<(), Fail> {
     let alloc = rt.alloc();
     let schema = schema_of(&rt, alloc)?;
-    for (text, want) in [
-        ("all", ""),
-        ("\t all ", ""),
-        ("price < 10", "0 < 10."),
-        ("price<=10", "0 <= 10."),
-        ("qty = -0", "1 = 0."),
-        ("price != 007", "0 != 7."),
-        ("qty>=-5", "1 >= -5."),
-        ("\tprice>1000 ", "0 > 1000."),
-        ("qty between 3 and -3", "1 3 to -3."),
-        ("side in {sell, hold,buy,sell}", "2 in [0, 1, 2]."),
-        ("qty not in { 4,-5 ,4 }", "1 not in [-5, 4]."),
-        (
-            "price > 5 and side = buy and qty != 0",
-            "0 > 5.2 = 0.1 != 0.",
-        ),
-        ("joint between and and in", "3 0 to 1."),
-        (
-            "joint between and and and and joint = in",
-            "3 0 to 0.3 = 1.",
-        ),
-        ("joint in {and}", "3 in [0]."),
-    ] {
-        let found = read(alloc, &schema, text.as_bytes())?;
-        assert_eq!(rt; found.as_str(), want, "{text}");
+    for (text, want) in CONDITIONS {
+        check(&rt, alloc, &schema, text, want)?;
     }
     Ok(())
 }
+
+const UNREADABLE: [&str; 25] = [
+    "",
+    "all all",
+    "all and price = 1",
+    "price = 1 and all",
+    "price = 1 and",
+    "and price = 1",
+    "price = 1 qty = 1",
+    "price = 1, qty = 1",
+    "price < = 5",
+    "price == 5",
+    "price ! 5",
+    "price",
+    "price between 1 2",
+    "price between 1 and",
+    "side in {}",
+    "side in {buy,}",
+    "side in {,buy}",
+    "side in {buy sell}",
+    "side in {buy",
+    "side in buy",
+    "side not {buy}",
+    "not = 5",
+    "volume = 1 and",
+    "price = 5\u{0}",
+    "price = 5\u{e9}",
+];
 
 #[test]
 fn other_texts_have_no_reading(rt: HostRuntime) -> Result<(), Fail> {
     let alloc = rt.alloc();
     let schema = schema_of(&rt, alloc)?;
-    for text in [
-        "",
-        "all all",
-        "all and price = 1",
-        "price = 1 and all",
-        "price = 1 and",
-        "and price = 1",
-        "price = 1 qty = 1",
-        "price = 1, qty = 1",
-        "price < = 5",
-        "price == 5",
-        "price ! 5",
-        "price",
-        "price between 1 2",
-        "price between 1 and",
-        "side in {}",
-        "side in {buy,}",
-        "side in {,buy}",
-        "side in {buy sell}",
-        "side in {buy",
-        "side in buy",
-        "side not {buy}",
-        "not = 5",
-        "volume = 1 and",
-        "price = 5\u{0}",
-        "price = 5\u{e9}",
-    ] {
-        let found = read(alloc, &schema, text.as_bytes())?;
-        assert_eq!(rt; found.as_str(), "no reading", "{text}");
+    for text in UNREADABLE {
+        check(&rt, alloc, &schema, text, "no reading")?;
     }
     Ok(())
 }
+
+const FAULTS: [(&str, &str); 10] = [
+    ("volume = 1", "unknown attribute volume"),
+    ("10 <= price", "unknown attribute 10"),
+    ("price = 1001 and volume = 1", "unknown attribute volume"),
+    ("volume = 1 and price = 1001", "unknown attribute volume"),
+    ("other in {x} and volume = 1", "unknown attribute other"),
+    ("price = 1001", "a value outside the domain of attribute 0"),
+    ("side = 3", "a value outside the domain of attribute 2"),
+    (
+        "qty between 0 and 6",
+        "a value outside the domain of attribute 1",
+    ),
+    (
+        "qty in {0,6} and price = 1001",
+        "a value outside the domain of attribute 1",
+    ),
+    ("joint = not", "a value outside the domain of attribute 3"),
+];
 
 #[test]
 fn faults_are_told_in_their_order(rt: HostRuntime) -> Result<(), Fail> {
     let alloc = rt.alloc();
     let schema = schema_of(&rt, alloc)?;
-    for (text, want) in [
-        ("volume = 1", "unknown attribute volume"),
-        ("10 <= price", "unknown attribute 10"),
-        ("price = 1001 and volume = 1", "unknown attribute volume"),
-        ("volume = 1 and price = 1001", "unknown attribute volume"),
-        ("other in {x} and volume = 1", "unknown attribute other"),
-        ("price = 1001", "a value outside the domain of attribute 0"),
-        ("side = 3", "a value outside the domain of attribute 2"),
-        (
-            "qty between 0 and 6",
-            "a value outside the domain of attribute 1",
-        ),
-        (
-            "qty in {0,6} and price = 1001",
-            "a value outside the domain of attribute 1",
-        ),
-        ("joint = not", "a value outside the domain of attribute 3"),
-    ] {
-        let found = read(alloc, &schema, text.as_bytes())?;
-        assert_eq!(rt; found.as_str(), want, "{text}");
+    for (text, want) in FAULTS {
+        check(&rt, alloc, &schema, text, want)?;
     }
     for sign in ["", "-"] {
         let text = format!(in alloc; "price = {sign}{DIGITS}")?;
-        let found = read(alloc, &schema, text.as_bytes())?;
-        assert_eq!(rt; found.as_str(), "a value outside the domain of attribute 0");
+        check(
+            &rt,
+            alloc,
+            &schema,
+            text.as_str(),
+            "a value outside the domain of attribute 0",
+        )?;
     }
     Ok(())
 }
@@ -194,44 +214,53 @@ fn repeated(
 }
 
 #[test]
-fn limits_are_kept(rt: HostRuntime) -> Result<(), Fail> {
+fn predicates_are_counted(rt: HostRuntime) -> Result<(), Fail> {
     let alloc = rt.alloc();
     let schema = schema_of(&rt, alloc)?;
     let most = repeated(alloc, "", "price >= 0", " and ", 32)?;
-    let found = read(alloc, &schema, most.as_bytes())?;
-    assert_eq!(rt;
-        found.as_str(),
-        repeated(alloc, "", "0 >= 0.", "", 32)?.as_str()
-    );
-    let more = format!(in alloc; "{most} and price = 1")?;
-    let large = repeated(alloc, "price in {", "1", ",", 65)?;
-    let full = repeated(alloc, "price in {", "1", ",", 64)?;
-    for (text, want) in [
-        (format!(in alloc; "{full}}}")?, "0 in [1]."),
-        (format!(in alloc; "{large}}}")?, "too many: 65"),
-        (format!(in alloc; "{large},1}} and {more}")?, "too many: 34"),
-        (
-            format!(in alloc; "{large},1}} and {large}}}")?,
-            "too many: 66",
-        ),
-        (
-            format!(in alloc; "{more} and side = 3")?,
-            "a value outside the domain of attribute 2",
-        ),
-        (more, "too many: 33"),
-        (format!(in alloc; "{LONGEST}a = 1")?, "no reading"),
+    let want = repeated(alloc, "", "0 >= 0.", "", 32)?;
+    check(&rt, alloc, &schema, most.as_str(), want.as_str())?;
+    for (last, want) in [
+        ("price = 1", "too many: 33"),
+        ("price in {1} and price = 1", "too many: 34"),
+        ("side = 3", "a value outside the domain of attribute 2"),
+        ("volume = 3", "unknown attribute volume"),
     ] {
-        let found = read(alloc, &schema, text.as_bytes())?;
-        assert_eq!(rt; found.as_str(), want);
+        let text = format!(in alloc; "{most} and {last}")?;
+        check(&rt, alloc, &schema, text.as_str(), want)?;
     }
-    let found = read(
-        alloc,
-        &schema,
-        format!(in alloc; "{LONGEST} = 1")?.as_bytes(),
-    )?;
-    let want = format!(in alloc; "unknown attribute {LONGEST}")?;
-    assert_eq!(rt; found.as_str(), want.as_str());
     Ok(())
+}
+
+#[test]
+fn values_are_counted(rt: HostRuntime) -> Result<(), Fail> {
+    let alloc = rt.alloc();
+    let schema = schema_of(&rt, alloc)?;
+    let most = repeated(alloc, "price in {", "1", ",", 64)?;
+    for (last, want) in [
+        ("}", "0 in [1]."),
+        (",1}", "too many: 65"),
+        (",1,1} and qty in {0,0}", "too many: 66"),
+        (
+            ",1} and qty = 6",
+            "a value outside the domain of attribute 1",
+        ),
+    ] {
+        let text = format!(in alloc; "{most}{last}")?;
+        check(&rt, alloc, &schema, text.as_str(), want)?;
+    }
+    Ok(())
+}
+
+#[test]
+fn names_have_at_most_64_bytes(rt: HostRuntime) -> Result<(), Fail> {
+    let alloc = rt.alloc();
+    let schema = schema_of(&rt, alloc)?;
+    let text = format!(in alloc; "{LONGEST} = 1")?;
+    let want = format!(in alloc; "unknown attribute {LONGEST}")?;
+    check(&rt, alloc, &schema, text.as_str(), want.as_str())?;
+    let text = format!(in alloc; "{LONGEST}a = 1")?;
+    check(&rt, alloc, &schema, text.as_str(), "no reading")
 }
 
 fn change_text(alloc: Global, change: &Change) -> Result<String, Fail> {
@@ -261,34 +290,36 @@ fn change_text(alloc: Global, change: &Change) -> Result<String, Fail> {
     })
 }
 
+const CHANGES: [(&str, &str); 16] = [
+    ("UNSUB 1 1 a", "unsub 1 1 a"),
+    (" BYE\t3 007", "bye 3 7"),
+    (
+        "SUB 2 0 a price<5 and side in {sell,buy}",
+        "sub 2 0 9 2 a 0 < 5.2 in [0, 1].",
+    ),
+    ("SUB 2 0 SUB all", "sub 2 0 9 2 SUB "),
+    (
+        "UNSUB 9223372036854775807 0 a",
+        "unsub 9223372036854775807 0 a",
+    ),
+    ("UNSUB 9223372036854775808 0 a", "no reading"),
+    ("UNSUB 1 -1 a", "no reading"),
+    ("UNSUB 1 1", "no reading"),
+    ("UNSUB 1 1 a b", "no reading"),
+    ("BYE 1", "no reading"),
+    ("BYE 1 1 a", "no reading"),
+    ("bye 1 1", "no reading"),
+    ("SUB 1 0 a", "no reading"),
+    ("SUB 1 0 a price = 5 ;", "no reading"),
+    ("SUB 1 0 a volume = 5", "unknown attribute volume"),
+    ("", "no reading"),
+];
+
 #[test]
 fn changes_are_read(rt: HostRuntime) -> Result<(), Fail> {
     let alloc = rt.alloc();
     let schema = schema_of(&rt, alloc)?;
-    for (text, want) in [
-        ("UNSUB 1 1 a", "unsub 1 1 a"),
-        (" BYE\t3 007", "bye 3 7"),
-        (
-            "SUB 2 0 a price<5 and side in {sell,buy}",
-            "sub 2 0 9 2 a 0 < 5.2 in [0, 1].",
-        ),
-        ("SUB 2 0 SUB all", "sub 2 0 9 2 SUB "),
-        (
-            "UNSUB 9223372036854775807 0 a",
-            "unsub 9223372036854775807 0 a",
-        ),
-        ("UNSUB 9223372036854775808 0 a", "no reading"),
-        ("UNSUB 1 -1 a", "no reading"),
-        ("UNSUB 1 1", "no reading"),
-        ("UNSUB 1 1 a b", "no reading"),
-        ("BYE 1", "no reading"),
-        ("BYE 1 1 a", "no reading"),
-        ("bye 1 1", "no reading"),
-        ("SUB 1 0 a", "no reading"),
-        ("SUB 1 0 a price = 5 ;", "no reading"),
-        ("SUB 1 0 a volume = 5", "unknown attribute volume"),
-        ("", "no reading"),
-    ] {
+    for (text, want) in CHANGES {
         let found = match read_change(alloc, &schema, text.as_bytes(), Id(9)) {
             Ok(change) => change_text(alloc, &change)?,
             Err(fault) => format!(in alloc; "{fault}")?,
