@@ -20,7 +20,7 @@ front_then s id r = change_in s id r.0 (Some r.1)
 numbers_by : (s : Attributes) (id : ℕ) (kind serial : Text) (k n : Option ℕ) (ts : List Lexeme) → count_of serial ≡ n
     → change_by s id kind k n ts
     ≡ option_map_or (front_then s id) (option_map (front_of kind)
-        (option_and_then (λ (first : ℕ × List Lexeme). option_map (λ (second : ℕ × List Lexeme). ((first.0, second.0), second.1)) (read_number first.1)) (option_map (λ m. (m, word serial ∷ ts)) k))) (Err Bad)
+    (option_and_then (λ (first : ℕ × List Lexeme). option_map (λ (second : ℕ × List Lexeme). ((first.0, second.0), second.1)) (read_number first.1)) (option_map (λ m. (m, word serial ∷ ts)) k))) (Err Bad)
 numbers_by s id kind serial None n ts e = refl
 numbers_by s id kind serial (Some k) None ts e =
     sym (ap (λ (m : Option ℕ). option_map_or (front_then s id) (option_map (front_of kind) (option_map (λ (second : ℕ × List Lexeme). ((k, second.0), second.1)) (option_map (λ i. (i, ts)) m))) (Err Bad)) e)
@@ -30,7 +30,7 @@ numbers_by s id kind serial (Some k) (Some n) ts e =
 no_serial : (s : Attributes) (id : ℕ) (kind : Text) (k : Option ℕ) (ts : List Lexeme) → read_number ts ≡ None
     → Err Bad
     ≡ option_map_or (front_then s id) (option_map (front_of kind)
-        (option_and_then (λ (first : ℕ × List Lexeme). option_map (λ (second : ℕ × List Lexeme). ((first.0, second.0), second.1)) (read_number first.1)) (option_map (λ m. (m, ts)) k))) (Err Bad)
+    (option_and_then (λ (first : ℕ × List Lexeme). option_map (λ (second : ℕ × List Lexeme). ((first.0, second.0), second.1)) (read_number first.1)) (option_map (λ m. (m, ts)) k))) (Err Bad)
 no_serial s id kind None ts e = refl
 no_serial s id kind (Some k) ts e =
     sym (ap (λ (r : Read ℕ). option_map_or (front_then s id) (option_map (front_of kind) (option_map (λ (second : ℕ × List Lexeme). ((k, second.0), second.1)) r)) (Err Bad)) e)

@@ -40,7 +40,7 @@ known_within : (s : Attributes) (a : AttrNo) (x : Attribute) (v : Text) → attr
 known_within s a x v at h =
     let value : value_at s a v ≡ value_of_word x.domain v = ap (option_and_then (λ (y : Attribute). value_of_word y.domain v)) at in
     subst (λ (o : Option ℤ). is_within (bounds_of x.domain) (option_map_or (λ n. n) o (pos 0)) ≡ true) (sym value)
-        (within_if (bounds_of x.domain) x v (value_of_word x.domain v) refl (subst (λ (o : Option ℤ). is_none o ≡ false) value h))
+    (within_if (bounds_of x.domain) x v (value_of_word x.domain v) refl (subst (λ (o : Option ℤ). is_none o ≡ false) value h))
 
 all_known_within : (s : Attributes) (a : AttrNo) (x : Attribute) (vs : List Text) → attribute_at s a ≡ Some x → has_unknown_value s a vs ≡ false
     → list_all (is_within (bounds_of x.domain)) (map (known s a) vs) ≡ true
@@ -92,7 +92,7 @@ at_place s name a (Some place) e h =
     let found = position-Some (λ other. same_text other name) (names_of_attributes s) place [] e in
     let is : numbered place ≡ a = cc in
     subst (λ (b : AttrNo). (x : Attribute) × (attribute_at s b ≡ Some x)) is
-        (there_or_past s place (subst (λ (n : ℕ). place < n) (length-map s (λ (x : Attribute). x.name)) found.0))
+    (there_or_past s place (subst (λ (n : ℕ). place < n) (length-map s (λ (x : Attribute). x.name)) found.0))
 
 -- the schema has an attribute that a name has
 attribute_is_there : (s : Attributes) (name : Text) (a : AttrNo) → attribute_named s name ≡ Some a → (x : Attribute) × (attribute_at s a ≡ Some x)
@@ -109,7 +109,7 @@ fine_lies_if s p None e h =
 fine_lies_if s p (Some a) e h =
     ap (λ (o : Option AttrNo). pred_lies s (option_map_or (λ b. pred_on s b p.op) o (pred_on s (numbered 0) p.op))) e
     ∙ pred_on_lies s a p.op (attribute_is_there s p.attr a e)
-        (sym (ap (λ (o : Option AttrNo). option_map_or (λ b. has_unknown_value s b (words_of p.op)) o false) e) ∙ (fine_parts s p h).1)
+    (sym (ap (λ (o : Option AttrNo). option_map_or (λ b. has_unknown_value s b (words_of p.op)) o false) e) ∙ (fine_parts s p h).1)
 
 all_fine_lie : (s : Attributes) (ps : List WrittenPred) → list_all (is_fine s) ps ≡ true → conj_lies s (map (meant_pred s) ps) ≡ true
 all_fine_lie s [] h = refl

@@ -59,12 +59,12 @@ all_are_fine s (p ∷ ps) u o l =
     let outside = none_of_both (outside_domain s (p ∷ [])) (outside_domain s ps) (sym (ap (λ (f : Faults). f.outside) split) ∙ o) in
     let large = none_of_both (large_set (p ∷ [])) (large_set ps) (sym (ap (λ (f : Faults). f.large_set) split) ∙ l) in
     both (is_fine s p) (list_all (is_fine s) ps)
-        (both (not (is_unknown s p) && not (is_outside s p)) (not (has_many_values p))
-            (both (not (is_unknown s p)) (not (is_outside s p))
-                (not_false (is_unknown s p) (known_if (λ (q : WrittenPred). Attr q.attr) p (is_unknown s p) unknown.0))
-                (not_false (is_outside s p) (inside_if (λ (q : WrittenPred). attribute_named s q.attr) p (attribute_named s p.attr) (is_outside s p) refl (outside_has_attr s p) outside.0)))
-            (not_false (has_many_values p) (small_if p (has_many_values p) large.0)))
-        (all_are_fine s ps unknown.1 outside.1 large.1)
+    (both (not (is_unknown s p) && not (is_outside s p)) (not (has_many_values p))
+    (both (not (is_unknown s p)) (not (is_outside s p))
+    (not_false (is_unknown s p) (known_if (λ (q : WrittenPred). Attr q.attr) p (is_unknown s p) unknown.0))
+    (not_false (is_outside s p) (inside_if (λ (q : WrittenPred). attribute_named s q.attr) p (attribute_named s p.attr) (is_outside s p) refl (outside_has_attr s p) outside.0)))
+    (not_false (has_many_values p) (small_if p (has_many_values p) large.0)))
+    (all_are_fine s ps unknown.1 outside.1 large.1)
 
 few_of : (n : ℕ) → nat_lt 32 n ≡ false → n ≤ 32
 few_of n h = grind (arith, nat_tests)
@@ -102,7 +102,7 @@ either_no_memory (Some x) y p q h = p h
 fault_is_of_text : (s : Attributes) (ps : List WrittenPred) → fault_in s ps ≡ Some NoMemory → ⊥
 fault_is_of_text s ps =
     either_no_memory (unknown_attr s ps) _ (maybe_attr (find (is_unknown s) ps))
-        (either_no_memory (outside_domain s ps) _ (maybe_dom _) (maybe_many (length ps) (nat_lt 32 (length ps)) (find has_many_values ps)))
+    (either_no_memory (outside_domain s ps) _ (maybe_dom _) (maybe_many (length ps) (nat_lt 32 (length ps)) (find has_many_values ps)))
 
 reads_fault : (fault : ExprFault) (read : Result (List Pred) ExprFault) → read ≡ Err fault → (fault ≡ NoMemory → ⊥) → Reads (Err fault) read
 reads_fault Bad read h other = h

@@ -36,7 +36,13 @@ pub fn read_change(alloc: Global, schema: &Schema, text: &[u8], id: Id) -> Resul
     }
 }
 
-fn read_kind(alloc: Global, schema: &Schema, text: &[u8], id: Id, front: Front<'_>) -> Result<Change, ExprFault>
+fn read_kind(
+    alloc: Global,
+    schema: &Schema,
+    text: &[u8],
+    id: Id,
+    front: Front<'_>,
+) -> Result<Change, ExprFault>
     ensures exact { ReadsChange (entry_read result) (change_in schema.now id.0 (plain_front front.entry) (tokens text.now)) }
     ensures lies { IfOk result (λ change. entry_lies schema.now (entry_of change) ≡ true) }
 {
@@ -52,7 +58,14 @@ fn read_kind(alloc: Global, schema: &Schema, text: &[u8], id: Id, front: Front<'
     }
 }
 
-fn read_sub(alloc: Global, schema: &Schema, text: &[u8], id: Id, session: SessionNo, serial: u64) -> Result<Change, ExprFault>
+fn read_sub(
+    alloc: Global,
+    schema: &Schema,
+    text: &[u8],
+    id: Id,
+    session: SessionNo,
+    serial: u64,
+) -> Result<Change, ExprFault>
     ensures exact { ReadsChange (entry_read result) (option_map_or (subscription schema.now id.0 session.0 serial) (tokens text.now) (Err ExprFault.Bad)) }
     ensures lies { IfOk result (λ change. entry_lies schema.now (entry_of change) ≡ true) }
 {
@@ -71,7 +84,13 @@ fn read_sub(alloc: Global, schema: &Schema, text: &[u8], id: Id, session: Sessio
 }
 
 // The Sub of a name, whose condition the text is.
-fn read_row(alloc: Global, schema: &Schema, text: &[u8], stamp: Stamp, name: Name) -> Result<Change, ExprFault>
+fn read_row(
+    alloc: Global,
+    schema: &Schema,
+    text: &[u8],
+    stamp: Stamp,
+    name: Name,
+) -> Result<Change, ExprFault>
     ensures exact { ReadsChange (entry_read result) (subscribing stamp.id.0 stamp.session.0 stamp.serial (Ok name) (condition schema.now (tokens text.now))) }
     ensures lies { IfOk result (λ change. entry_lies schema.now (entry_of change) ≡ true) }
 {

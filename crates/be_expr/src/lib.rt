@@ -17,3 +17,6 @@ pub use writing::{write_change, write_expr};
 
 #[cfg(test)]
 mod writing_tests;
+
+#[cfg(test)]
+mod reading_tests;

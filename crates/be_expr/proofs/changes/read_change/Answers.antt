@@ -8,8 +8,8 @@ use Rattle.be_expr.proofs.changes.read_change.Goals as goal
 pub returns-in-Some-clause-exact : goal.returns-in-Some-clause-exact
 returns-in-Some-clause-exact c =
     subst (ReadsChange (entry_read c.read_kind.result))
-        (sym (front_first c.args.schema.now c.args.id.0 (plain_front c.in-Some.front) (tokens c.args.text.now) (tokens c.in-Some.rest.now) c.in-Some.ensures))
-        c.read_kind.ensures.exact
+    (sym (front_first c.args.schema.now c.args.id.0 (plain_front c.in-Some.front) (tokens c.args.text.now) (tokens c.in-Some.rest.now) c.in-Some.ensures))
+    c.read_kind.ensures.exact
 
 pub returns-in-None-clause-exact : goal.returns-in-None-clause-exact
 returns-in-None-clause-exact c = no_front_first c.args.schema.now c.args.id.0 (tokens c.args.text.now) c.in-None.ensures

@@ -11,8 +11,8 @@ returns-then-eq-clause-exact c =
     let kind = c.args.front.kind.now in
     let sub : same_text kind (codes "SUB") ≡ true = ap (same_text kind) (sym c.as_slice.ensures) ∙ sym c.eq.ensures ∙ c.if-eq.true in
     subst (ReadsChange (entry_read c.read_sub.result))
-        (sym (sub_kind c.args.schema.now c.args.id.0 (plain_front c.args.front) (tokens c.args.text.now) sub))
-        c.read_sub.ensures.exact
+    (sym (sub_kind c.args.schema.now c.args.id.0 (plain_front c.args.front) (tokens c.args.text.now) sub))
+    c.read_sub.ensures.exact
 
 pub returns-then-eq-2-clause-exact : goal.returns-then-eq-2-clause-exact
 returns-then-eq-2-clause-exact c =
@@ -20,8 +20,8 @@ returns-then-eq-2-clause-exact c =
     let sub : same_text kind (codes "SUB") ≡ false = ap (same_text kind) (sym c.as_slice.ensures) ∙ sym c.eq.ensures ∙ c.if-eq.false in
     let unsub : same_text kind (codes "UNSUB") ≡ true = ap (same_text kind) (sym c.as_slice-else-eq.ensures) ∙ sym c.eq-else-eq.ensures ∙ c.if-eq-2.true in
     subst (ReadsChange (entry_read c.read_unsub.result))
-        (sym (unsub_kind c.args.schema.now c.args.id.0 (plain_front c.args.front) (tokens c.args.text.now) sub unsub))
-        c.read_unsub.ensures.exact
+    (sym (unsub_kind c.args.schema.now c.args.id.0 (plain_front c.args.front) (tokens c.args.text.now) sub unsub))
+    c.read_unsub.ensures.exact
 
 pub returns-then-eq-3-clause-exact : goal.returns-then-eq-3-clause-exact
 returns-then-eq-3-clause-exact c =
@@ -30,8 +30,8 @@ returns-then-eq-3-clause-exact c =
     let unsub : same_text kind (codes "UNSUB") ≡ false = ap (same_text kind) (sym c.as_slice-else-eq.ensures) ∙ sym c.eq-else-eq.ensures ∙ c.if-eq-2.false in
     let bye : same_text kind (codes "BYE") ≡ true = ap (same_text kind) (sym c.as_slice-else-eq-2.ensures) ∙ sym c.eq-else-eq-2.ensures ∙ c.if-eq-3.true in
     subst (ReadsChange (entry_read c.read_bye.result))
-        (sym (bye_kind c.args.schema.now c.args.id.0 (plain_front c.args.front) (tokens c.args.text.now) sub unsub bye))
-        c.read_bye.ensures.exact
+    (sym (bye_kind c.args.schema.now c.args.id.0 (plain_front c.args.front) (tokens c.args.text.now) sub unsub bye))
+    c.read_bye.ensures.exact
 
 pub returns-else-eq-3-clause-exact : goal.returns-else-eq-3-clause-exact
 returns-else-eq-3-clause-exact c =

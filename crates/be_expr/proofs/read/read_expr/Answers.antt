@@ -15,7 +15,7 @@ returns-in-Some-first-clause-exact c =
 pub returns-in-None-first-clause-exact : goal.returns-in-None-first-clause-exact
 returns-in-None-first-clause-exact c =
     reads_result c.args.schema.now (option_and_then written (tokens c.args.text.now)) c.in-Some.faults c.build.result c.in-Some.ensures c.in-None-first.ensures
-        c.build.ensures.conj c.build.ensures.memory
+    c.build.ensures.conj c.build.ensures.memory
 
 pub returns-in-None-first-clause-lies : goal.returns-in-None-first-clause-lies
 returns-in-None-first-clause-lies c =
