@@ -16,7 +16,6 @@ pub use read::read_expr;
 pub use writing::{write_change, write_expr};
 
 #[cfg(test)]
-mod writing_tests;
-
-#[cfg(test)]
 mod reading_tests;
+#[cfg(test)]
+mod writing_tests;
