@@ -39,7 +39,7 @@ ends_have_values s a v w (Some ts) h =
     let parts = neither (is_none (value_at s a v)) (has_unknown_value s a (w ∷ [])) h.0 in
     (parts.0, (neither (is_none (value_at s a w)) false parts.1).0)
 
-fine_parts : (s : Attributes) (p : WrittenPred) → is_fine s p ≡ true → (is_unknown s p ≡ false) × (is_outside s p ≡ false) × (has_many_values p ≡ false)
+pub fine_parts : (s : Attributes) (p : WrittenPred) → is_fine s p ≡ true → (is_unknown s p ≡ false) × (is_outside s p ≡ false) × (has_many_values p ≡ false)
 fine_parts s p h =
     let outer = and_parts (not (is_unknown s p) && not (is_outside s p)) (not (has_many_values p)) h in
     let inner = and_parts (not (is_unknown s p)) (not (is_outside s p)) outer.0 in

@@ -8,3 +8,6 @@ pub mod Gathered
 pub mod Joining
 pub mod Built
 pub mod BuiltPreds
+pub mod Meanings
+pub mod Lying
+pub mod Entering

@@ -1,12 +1,15 @@
 -- The texts of changes.
-use Rattle.std.specs.Prelude.{◌≡◌, ℕ, ◌<◌, ◌^◌, true, List, [], ◌∷◌, ◌++◌, Option, Some, Result, Ok, Err, codes, decimal, if◌then◌else◌}
+use Rattle.std.specs.Prelude.{◌≡◌, ℕ, ◌<◌, ◌^◌, Bool, true, false, List, [], ◌∷◌, ◌++◌, Option, Some, Result, Ok, Err, codes, decimal, if◌then◌else◌}
+use Rattle.std.specs.Option.{option_map_or}
 use Rattle.be_base.specs.Text.{Text, same_text, name_of, IsName}
 use Rattle.be_base.specs.Numbers.{count_of}
 use Rattle.be_base.specs.Tokens.{Lexeme, word, tokens}
 use Rattle.be_base.specs.declared.names.NameFault.{NameFault}
 use Rattle.be_model.specs.declared.conditions.Pred.{Pred}
 use Rattle.be_model.specs.declared.changes.Row.{Row}
-use Rattle.be_model.specs.Entries.{Entry, subscribed, unsubscribed, left}
+use Rattle.be_model.specs.declared.changes.Change.{Change}
+use Rattle.be_expr.specs.Parts.{PlainFront}
+use Rattle.be_model.specs.Entries.{Entry, subscribed, unsubscribed, left, entry_of}
 use Rattle.be_model.specs.Forms.{IsConj}
 use Rattle.be_model.specs.Lies.{entry_lies}
 use Rattle.be_model.specs.Texts.{NamesAreNames}
@@ -65,6 +68,19 @@ change_of s id _ = Err Bad
 -- the change that a text is, where a Sub's row has this id, or the first fault
 abbrev pub change : Attributes → ℕ → Text → Result Entry ExprFault
 change s id text = change_of s id (tokens text)
+
+-- the change behind this front, from the tokens of the text that is left
+abbrev pub change_in : Attributes → ℕ → PlainFront → Option (List Lexeme) → Result Entry ExprFault
+change_in s id front ts = option_map_or (change_by s id front.kind (Some front.session) (Some front.serial)) ts (Err Bad)
+
+abbrev pub entry_read : Result Change ExprFault → Result Entry ExprFault
+entry_read (Ok change) = Ok (entry_of change)
+entry_read (Err fault) = Err fault
+
+abbrev pub is_row_free : Entry → Bool
+is_row_free (subscribed k n row) = false
+is_row_free (unsubscribed k n name) = true
+is_row_free (left k n) = true
 
 -- what a reader answered is what the text is. Memory can run out only where it is a change
 abbrev pub ReadsChange : Result Entry ExprFault → Result Entry ExprFault → Type 0

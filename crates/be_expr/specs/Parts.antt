@@ -1,11 +1,13 @@
 -- A condition read part by part.
-use Rattle.std.specs.Prelude.{◌&&◌, Bool, true, false, List, [], ◌∷◌, Option, Some, None, option_map, option_and_then, codes, if◌then◌else◌}
+use Rattle.std.specs.Prelude.{ℕ, ◌&&◌, Bool, true, false, List, [], ◌∷◌, Option, Some, None, option_map, option_and_then, codes, if◌then◌else◌}
 use Rattle.std.specs.Borrow.{Bor}
 use Rattle.be_base.specs.Text.{Text, same_text}
+use Rattle.be_base.specs.Numbers.{count_of}
 use Rattle.be_base.specs.Tokens.{Lexeme, word, open_brace, close_brace, comma, tokens}
 use Rattle.be_base.specs.Scans.{lexeme}
 use Rattle.be_expr.specs.declared.parts.Opening.{Opening}
 use Rattle.be_expr.specs.declared.parts.Opening.TheVariants.{Compared, Between, Among, NotAmong}
+use Rattle.be_expr.specs.declared.parts.Front.{Front}
 use Rattle.be_expr.specs.declared.parts.Head.{Head}
 use Rattle.be_expr.specs.declared.parts.Value.{Value}
 use Rattle.be_expr.specs.Written.{WrittenOp, compared, between, among, not_among, WrittenPred, is_operator, is_attr}
@@ -86,6 +88,25 @@ with_values (between v w) left = option_map (λ ts. (between v w, ts)) left
 with_values (among vs) left = option_map (λ r. (among r.0, r.1)) (option_and_then read_values left)
 with_values (not_among vs) left = option_map (λ r. (not_among r.0, r.1)) (option_and_then read_values left)
 
+-- the front of a change: its kind, its session and its serial
+pub record PlainFront : Type 0 where
+  pub kind : Text
+  pub session : ℕ
+  pub serial : ℕ
+
+abbrev pub read_number : List Lexeme → Read ℕ
+read_number ts = option_and_then (λ (r : Text × List Lexeme). option_map (λ n. (n, r.1)) (count_of r.0)) (read_word ts)
+
+abbrev pub read_numbers : List Lexeme → Read (ℕ × ℕ)
+read_numbers ts =
+    option_and_then (λ (first : ℕ × List Lexeme). option_map (λ (second : ℕ × List Lexeme). ((first.0, second.0), second.1)) (read_number first.1)) (read_number ts)
+
+abbrev pub front_of : Text → (ℕ × ℕ) × List Lexeme → PlainFront × List Lexeme
+front_of kind r = (record { kind = kind; session = r.0.0; serial = r.0.1 }, r.1)
+
+abbrev pub read_front : List Lexeme → Read PlainFront
+read_front ts = option_and_then (λ (r : Text × List Lexeme). option_map (front_of r.0) (read_numbers r.1)) (read_word ts)
+
 -- what a scan found, and the tokens of the text that it left
 abbrev pub following : {X Y : Type 0} → (X → Y) → Option (X × Bor Text) → Read Y
 following plain None = None
@@ -105,6 +126,9 @@ plain_head head = record { attr = head.attr; op = plain_opening head.opening }
 
 abbrev pub plain_value : Value → Text × Bool
 plain_value value = (value.word.now, value.is_last)
+
+abbrev pub plain_front : Front → PlainFront
+plain_front front = record { kind = front.kind.now; session = front.session; serial = front.serial }
 
 abbrev pub end_of : Option (Option (Bor Text)) → Option (Option (List Lexeme))
 end_of None = None

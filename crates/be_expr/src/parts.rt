@@ -6,9 +6,9 @@ ghost use Rattle.std.specs.Option.{option_map_or};
 ghost use Rattle.be_base.specs.Tokens.{tokens};
 ghost use Rattle.be_base.specs.Scans.{lexeme};
 ghost use Rattle.be_expr.specs.Written.{is_attr, is_operator};
-ghost use Rattle.be_expr.specs.Parts.{is_all, is_empty, read_word, after_word, after_brace, read_high, read_ends, read_opening, read_worded_opening, read_head, read_value, read_end, following, now_of, plain_opening, plain_head, plain_value, end_of};
+ghost use Rattle.be_expr.specs.Parts.{is_all, is_empty, read_word, after_word, after_brace, read_high, read_ends, read_opening, read_worded_opening, read_head, read_value, read_end, read_number, read_numbers, read_front, following, now_of, plain_opening, plain_head, plain_value, plain_front, end_of};
 
-use be_base::{Name, Scan, Token, next_token};
+use be_base::{Name, Scan, Token, next_token, read_count};
 use be_model::is_reserved;
 
 /// What stands after an attribute: an operator with its values, but that those of a set follow.
@@ -34,6 +34,14 @@ pub struct Value<'a> {
     pub is_last: bool,
 }
 
+/// The front of a change: its kind, its session and its serial.
+#[derive(Clone, Copy)]
+pub struct Front<'a> {
+    pub kind: &'a [u8],
+    pub session: u64,
+    pub serial: u64,
+}
+
 /// Whether the text is `all` alone.
 pub fn is_all(text: &[u8]) -> bool
     ensures { result ≡ option_map_or is_all (tokens text.now) false }
@@ -44,7 +52,8 @@ pub fn is_all(text: &[u8]) -> bool
     }
 }
 
-fn is_end(text: &[u8]) -> bool
+/// Whether the text has no token.
+pub fn is_end(text: &[u8]) -> bool
     ensures { result ≡ option_map_or is_empty (tokens text.now) false }
 {
     matches!(next_token(text), Scan::End)
@@ -97,7 +106,8 @@ fn attr_name(word: &[u8]) -> Option<Name>
     }
 }
 
-fn read_word(text: &[u8]) -> Option<(&[u8], &[u8])>
+/// Reads a word.
+pub fn read_word(text: &[u8]) -> Option<(&[u8], &[u8])>
     ensures word { following now_of result ≡ option_and_then read_word (tokens text.now) }
     ensures shorter { IfSome result (λ r. length r.1.now < length text.now) }
 {
@@ -189,5 +199,37 @@ fn read_worded<'a>(word: &[u8], text: &'a [u8]) -> Option<(Opening<'a>, &'a [u8]
         Some((Opening::NotAmong, after_brace(rest)?))
     } else {
         None
+    }
+}
+
+/// Reads the front of a change.
+pub fn read_front(text: &[u8]) -> Option<(Front<'_>, &[u8])>
+    ensures { following plain_front result ≡ option_and_then read_front (tokens text.now) }
+{
+    let (kind, rest) = read_word(text)?;
+    let ((session, serial), rest) = read_numbers(rest)?;
+    let front = Front {
+        kind,
+        session,
+        serial,
+    };
+    Some((front, rest))
+}
+
+fn read_numbers(text: &[u8]) -> Option<((u64, u64), &[u8])>
+    ensures { following (λ numbers. numbers) result ≡ option_and_then read_numbers (tokens text.now) }
+{
+    let (first, rest) = read_number(text)?;
+    let (second, rest) = read_number(rest)?;
+    Some(((first, second), rest))
+}
+
+fn read_number(text: &[u8]) -> Option<(u64, &[u8])>
+    ensures { following (λ number. number) result ≡ option_and_then read_number (tokens text.now) }
+{
+    let (word, rest) = read_word(text)?;
+    match read_count(word) {
+        Some(number) => Some((number, rest)),
+        None => None,
     }
 }
