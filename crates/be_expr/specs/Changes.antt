@@ -77,12 +77,6 @@ abbrev pub entry_read : Result Change ExprFault → Result Entry ExprFault
 entry_read (Ok change) = Ok (entry_of change)
 entry_read (Err fault) = Err fault
 
--- a Sub's row lies in the schema
-abbrev pub entry_lies : Attributes → Entry → Bool
-entry_lies s (subscribed k n row) = row_lies s row
-entry_lies s (unsubscribed k n name) = true
-entry_lies s (left k n) = true
-
 abbrev pub is_row_free : Entry → Bool
 is_row_free (subscribed k n row) = false
 is_row_free (unsubscribed k n name) = true

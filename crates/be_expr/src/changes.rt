@@ -4,9 +4,9 @@ ghost use Rattle.std.specs.Prelude.{◌≡◌, true, Ok, Err, IfOk};
 ghost use Rattle.std.specs.Option.{option_map_or};
 ghost use Rattle.be_base.specs.Tokens.{tokens};
 ghost use Rattle.be_model.specs.Entries.{entry_of, subscribed};
-ghost use Rattle.be_model.specs.Lies.{conj_lies};
+ghost use Rattle.be_model.specs.Lies.{conj_lies, entry_lies};
 ghost use Rattle.be_expr.specs.Expressions.{condition};
-ghost use Rattle.be_expr.specs.Changes.{change, change_in, new_row, subscribing, subscription, removal, leave, ReadsChange, entry_read, entry_lies, is_row_free};
+ghost use Rattle.be_expr.specs.Changes.{change, change_in, new_row, subscribing, subscription, removal, leave, ReadsChange, entry_read, is_row_free};
 ghost use Rattle.be_expr.specs.Parts.{plain_front};
 
 use crate::faults::ExprFault;
