@@ -4,9 +4,9 @@ use Rattle.std.specs.Fmt.{digits}
 use Rattle.be_base.specs.Text.{is_word_byte}
 use Rattle.be_io.specs.Lines.{text, long, lines}
 use Rattle.be_model.specs.declared.schemas.Domain.TheVariants.{Int}
-use Rattle.be_model.specs.declared.conditions.Op.TheVariants.{Ge, Ne}
+use Rattle.be_model.specs.declared.conditions.Op.TheVariants.{Ge, Ne, Between, OneOf}
 use Rattle.be_model.specs.Schemas.{Attributes}
-use Rattle.be_change.specs.Requests.{refused, subscribe, publish, bad, refusal, ok, dup, hit, no_memory}
+use Rattle.be_change.specs.Requests.{refused, subscribe, unsubscribe, publish, listing, quit, bad, given_twice, too_many, refusal, ok, bye, dup, none, hit, listed, no_memory}
 use Rattle.be_change.specs.Requests as asked
 use Rattle.be_transcript.specs.Readings.{reading}
 use Rattle.be_transcript.specs.Replies.{reply_text}
@@ -32,13 +32,50 @@ an_event : reading example (text (codes "PUB price=10")) ≡ publish ((record { 
 unfolding is_word_byte
 an_event = refl
 
-outside_the_domain : reading example (text (codes "PUB price=1001")) ≡ refused bad
+outside_the_domain : reading example (text (codes "PUB price=1001")) ≡ refused (asked.outside_domain (codes "price"))
 unfolding is_word_byte
 outside_the_domain = refl
 
-unknown_attribute : reading example (text (codes "PUB cost=1")) ≡ refused bad
+unknown_attribute : reading example (text (codes "PUB cost=1")) ≡ refused (asked.unknown_attribute (codes "cost"))
 unfolding is_word_byte
 unknown_attribute = refl
+
+unknown_in_a_condition : reading example (text (codes "SUB a price = 1001 and cost = 1")) ≡ refused (asked.unknown_attribute (codes "cost"))
+unfolding is_word_byte
+unknown_in_a_condition = refl
+
+two_values : reading example (text (codes "PUB price=1 price=2")) ≡ refused (given_twice (codes "price"))
+unfolding is_word_byte
+two_values = refl
+
+two_predicates : reading example (text (codes "SUB a qty between -1 and 1 and price in {5,3,5}"))
+    ≡ subscribe (codes "a") (record { attr = record { 0 = 1 }; op = Between (negsuc 0) (pos 1) } ∷ record { attr = record { 0 = 0 }; op = OneOf (pos 3 ∷ pos 5 ∷ []) } ∷ [])
+unfolding is_word_byte
+two_predicates = refl
+
+a_removal : reading example (text (codes "UNSUB a")) ≡ unsubscribe (codes "a")
+unfolding is_word_byte
+a_removal = refl
+
+a_removal_of_two : reading example (text (codes "UNSUB a b")) ≡ refused bad
+unfolding is_word_byte
+a_removal_of_two = refl
+
+a_list : reading example (text (codes " LIST ")) ≡ listing
+unfolding is_word_byte
+a_list = refl
+
+a_quit : reading example (text (codes "QUIT")) ≡ quit
+unfolding is_word_byte
+a_quit = refl
+
+the_empty_event : reading example (text (codes "PUB -")) ≡ publish []
+unfolding is_word_byte
+the_empty_event = refl
+
+a_later_command : reading example (text (codes "COST price=1")) ≡ refused bad
+unfolding is_word_byte
+a_later_command = refl
 
 lower_case : reading example (text (codes "pub price=1")) ≡ refused bad
 unfolding is_word_byte
@@ -66,6 +103,22 @@ named_twice : reply_text (dup 3 2) ≡ codes "DUP 3 2\n"
 unfolding digits
 named_twice = refl
 
+not_live : reply_text (none 7) ≡ codes "NONE 7\n"
+unfolding digits
+not_live = refl
+
+its_names : reply_text (listed 2 (codes "a" ∷ codes "b" ∷ [])) ≡ codes "LIST 2 2 a b\n"
+unfolding digits
+its_names = refl
+
+has_left : reply_text (bye 10) ≡ codes "BYE 10\n"
+unfolding digits
+has_left = refl
+
+many : reply_text (refusal (too_many 33)) ≡ codes "MANY 33\n"
+unfolding digits
+many = refl
+
 without_reading : reply_text (refusal bad) ≡ codes "BAD\n"
 without_reading = refl
 
@@ -74,6 +127,9 @@ without_memory = refl
 
 three_lines : lines 4 true (codes "ab\n\nabcde\nx") ≡ text (codes "ab") ∷ text [] ∷ long 5 ∷ text (codes "x") ∷ []
 three_lines = refl
+
+a_line_with_cr : lines 4 true (codes "ab\r\nx\r\r\nabcd\r\ny\r") ≡ text (codes "ab") ∷ text (codes "x\r") ∷ long 5 ∷ text (codes "y\r") ∷ []
+a_line_with_cr = refl
 
 rest_is_no_line : lines 4 false (codes "ab\nx") ≡ text (codes "ab") ∷ []
 rest_is_no_line = refl
