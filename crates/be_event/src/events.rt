@@ -8,7 +8,7 @@ ghost use Rattle.be_event.specs.Written.{WrittenItem, item_of};
 ghost use Rattle.be_event.specs.Events.{event, by_place, Reads, IsKnown};
 ghost use Rattle.be_event.specs.ItemScans.{Begins, Finds, Scanned, Judges};
 
-use be_base::{ATTRIBUTES, AttrNo, Name, NoMemory, Scan, Token, next_token};
+use be_base::{AttrNo, Name, NoMemory, Scan, Token, next_token};
 use be_model::{Event, Schema, is_reserved};
 use std::alloc::Global;
 use thiserror::Error;
