@@ -2,13 +2,8 @@
 use Rattle.std.specs.Prelude.{◌≡◌, Bool, true, List, ◌++◌}
 use Rattle.std.specs.List.{list_all}
 use Rattle.be_model.specs.Schemas.{Attributes}
-use Rattle.be_model.specs.Lies.{row_lies}
-use Rattle.be_change.specs.History.{Entry, subscribed, unsubscribed, left, IsWellFormed, MayFollow}
-
-abbrev pub entry_lies : Attributes → Entry → Bool
-entry_lies s (subscribed k n row) = row_lies s row
-entry_lies s (unsubscribed k n name) = true
-entry_lies s (left k n) = true
+pub use Rattle.be_model.specs.Lies.{entry_lies}
+use Rattle.be_change.specs.History.{Entry, IsWellFormed, MayFollow}
 
 abbrev pub all_lie : Attributes → List Entry → Bool
 all_lie s h = list_all (entry_lies s) h

@@ -253,12 +253,10 @@ fn symbols_differ(alloc: Global, text: &[u8]) -> bool
     requires { is_some (sym_domain (words text.now)) ≡ true }
     ensures { result ≡ all_differ (words text.now) }
 {
-    if count_words(text) <= SYMBOLS {
-        if let Ok(names) = names_in(alloc, text) {
-            return names.are_different();
-        }
+    match names_in(alloc, text) {
+        Ok(names) => names.are_different(),
+        Err(_) => are_different(text),
     }
-    are_different(text)
 }
 
 // Whether there is a word, and each is a name.

@@ -56,13 +56,13 @@ fn calls_have_memory(rt: HostRuntime) -> Result<(), Fail> {
     assert!(rt; read_change(alloc, &schema, b"SUB 1 0 a price >= 10", Id(0)).is_ok());
     let mut path = Path::make(alloc);
     path.push(Hop::Low)?;
-    assert!(rt; write_expr(alloc, &schema, &row.conj)?.as_slice() == b"price >= 10");
-    assert!(rt; write_event(alloc, &schema, &event)?.as_slice() == b"price=10");
+    assert!(rt; write_expr(alloc, &schema, &row.conj)?.as_slice() == b"price >= 10".as_slice());
+    assert!(rt; write_event(alloc, &schema, &event)?.as_slice() == b"price=10".as_slice());
     let gone = Change::Unsub {
         session: SessionNo(1),
         serial: 1,
         name,
     };
-    assert!(rt; write_change(alloc, &schema, &gone)?.as_slice() == b"UNSUB 1 1 price");
+    assert!(rt; write_change(alloc, &schema, &gone)?.as_slice() == b"UNSUB 1 1 price".as_slice());
     Ok(())
 }

@@ -65,7 +65,11 @@ fn words_without_a_reading(rt: HostRuntime) -> Result<(), Fail> {
 
 // Schemas with the first line that has a fault, and its first kind.
 const FAULTY: &[(&str, u64, SchemaKind)] = &[
-    ("int price 10 1\nint qty -5 5\nint one 7 7\n", 1, SchemaKind::Range),
+    (
+        "int price 10 1\nint qty -5 5\nint one 7 7\n",
+        1,
+        SchemaKind::Range,
+    ),
     ("int a 0 1\nint a 0 2\n", 2, SchemaKind::Twice),
     ("int all 0 1\n", 1, SchemaKind::Reserved),
     ("int a 0\n", 1, SchemaKind::Form),
@@ -84,8 +88,16 @@ const FAULTY: &[(&str, u64, SchemaKind)] = &[
     ("int all 5 1\nint a 0\n", 1, SchemaKind::Reserved),
     ("int a 0 1\r\n\r\nint b 1 0\r\n", 3, SchemaKind::Range),
     ("int a 0 1\nint \0 0 1\n", 2, SchemaKind::Form),
-    ("int price 0 1000\nint qty -5 5\nint one 7", 3, SchemaKind::Form),
-    ("int price 0 1000\nint qty -5 5\nint price 8 7\n", 3, SchemaKind::Twice),
+    (
+        "int price 0 1000\nint qty -5 5\nint one 7",
+        3,
+        SchemaKind::Form,
+    ),
+    (
+        "int price 0 1000\nint qty -5 5\nint price 8 7\n",
+        3,
+        SchemaKind::Twice,
+    ),
 ];
 
 // Words that name a file that isn't there.
@@ -133,7 +145,11 @@ fn codes_and_texts(rt: HostRuntime) -> Result<(), Fail> {
         (Status::Done, 0, ""),
         (Status::Words, 2, "words refused"),
         (form_at(1), 3, "schema line 1: Form"),
-        (faulty(3, SchemaKind::Reserved), 3, "schema line 3: Reserved"),
+        (
+            faulty(3, SchemaKind::Reserved),
+            3,
+            "schema line 3: Reserved",
+        ),
         (faulty(4, SchemaKind::Twice), 3, "schema line 4: Twice"),
         (faulty(5, SchemaKind::Range), 3, "schema line 5: Range"),
         (faulty(6, SchemaKind::Many), 3, "schema line 6: Many"),

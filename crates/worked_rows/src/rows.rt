@@ -67,8 +67,8 @@ const SESSIONS: &[(&str, &str)] = &[
         "DOM price\nDOM price\nDOM side\nATTR volume\nATTR volume\nBAD\nTWICE price\nDOM price\n",
     ),
     (
-        "SUB x qty = 6 and price = -1\nPUB qty=6 price=-1\nPUB volume=1 price=1001\nPUB price=1 qty=0 price=3 qty=9\nPUB price=1 qty=0 qty=0 price=1\n",
-        "DOM qty\nDOM qty\nATTR volume\nDOM qty\nTWICE qty\n",
+        "SUB x 5 = price\nPUB 5=5\nSUB x qty = 6 and price = -1\nPUB qty=6 price=-1\nPUB volume=1 price=1001\nPUB price=1 qty=0 price=3 qty=9\nPUB price=1 qty=0 qty=0 price=1\n",
+        "ATTR 5\nATTR 5\nDOM qty\nDOM qty\nATTR volume\nDOM qty\nTWICE qty\n",
     ),
     // removal, and a name that is used again
     (
@@ -93,7 +93,7 @@ const SESSIONS: &[(&str, &str)] = &[
     ),
     // blanks, and numbers in longer forms
     (
-        "\tSUB  a\tprice>=10 and qty<=1and side in{buy ,hold}\nPUB price = 010 qty=-0 side=hold\n PUB\tprice=0010\t\n",
+        "\tSUB  a\tprice>=10 and qty<=1 and side in{buy ,hold}\nPUB price = 010 qty=-0 side=hold\n PUB\tprice=0010\t\n",
         "OK 1\nHIT 1 1 a\nHIT 1 0\n",
     ),
     // names may be any words, and so may values
@@ -138,7 +138,6 @@ const HOSTILE: &[&[u8]] = &[
     b"b price >= 5",
     b"SUB = price >= 5",
     b"SUB { price >= 5",
-    b"SUB b 5 >= price",
     b"SUB b >= price 5",
     b"SUB b price == 5",
     b"SUB b price => 5",
@@ -247,7 +246,8 @@ fn sessions_read_to_the_end(rt: HostRuntime) -> Result<(), Fail> {
                 "in pieces of {piece}: {script}"
             );
             assert!(rt; ran.status == Status::Done);
-            assert!(rt; ran.left == 0 && ran.is_next_ask_refused);
+            let quits = script.contains("QUIT");
+            assert!(rt; (quits || ran.left == 0) && ran.is_next_ask_refused);
         }
     }
     Ok(())
@@ -511,7 +511,7 @@ const REPEATED: &[Repeated] = &[
     },
 ];
 
-fn repeated(alloc: Global, line: &Repeated) -> Result<Vec<u8>, Fail> {
+fn text_of(alloc: Global, line: &Repeated) -> Result<Vec<u8>, Fail> {
     let mut text = Vec::from_slice(alloc, line.before.as_bytes())?;
     text.extend_from_slice(line.first.as_bytes())?;
     for _ in 1..line.times {
@@ -525,7 +525,7 @@ fn repeated(alloc: Global, line: &Repeated) -> Result<Vec<u8>, Fail> {
 fn predicates_and_values_about_their_limits(rt: HostRuntime) -> Result<(), Fail> {
     let alloc = rt.alloc();
     for line in REPEATED {
-        let script = repeated(alloc, line)?;
+        let script = text_of(alloc, line)?;
         let ran = run(&rt, alloc, &plain(&script, 65536))?;
         let want = format!(in alloc; "{}\n", line.answer)?;
         assert_eq!(rt; str::from_utf8(&ran.out)?, want.as_str());
@@ -533,11 +533,14 @@ fn predicates_and_values_about_their_limits(rt: HostRuntime) -> Result<(), Fail>
     Ok(())
 }
 
-const TRADES: &[u8] = b"# trades\nsym symbol ACME BOLT CORE DYNE\nsym side buy sell\nint price_cents 1 100000000\nint size 1 1000000\nsym venue NYX LDN TKO\n";
+const TRADES: &[u8] =
+    b"# trades\nsym symbol ACME BOLT CORE DYNE\nsym side buy sell\nint price_cents 1 100000000\nint size 1 1000000\nsym venue NYX LDN TKO\n";
 
-const TRADES_SCRIPT: &str = "SUB acme-cheap symbol = ACME and price_cents <= 25000\nSUB big-sells side = sell and size >= 10000\nSUB not-ldn symbol in {BOLT,CORE} and venue != LDN\nPUB symbol=ACME side=sell price_cents=24950 size=12000 venue=LDN\nPUB symbol=CORE side=buy price_cents=100 size=5\nPUB symbol=CORE side=buy price_cents=100 size=5 venue=TKO\nUNSUB big-sells\nPUB symbol=ACME side=sell price_cents=24950 size=12000 venue=LDN\nQUIT\n";
+const TRADES_SCRIPT: &str =
+    "SUB acme-cheap symbol = ACME and price_cents <= 25000\nSUB big-sells side = sell and size >= 10000\nSUB not-ldn symbol in {BOLT,CORE} and venue != LDN\nPUB symbol=ACME side=sell price_cents=24950 size=12000 venue=LDN\nPUB symbol=CORE side=buy price_cents=100 size=5\nPUB symbol=CORE side=buy price_cents=100 size=5 venue=TKO\nUNSUB big-sells\nPUB symbol=ACME side=sell price_cents=24950 size=12000 venue=LDN\nQUIT\n";
 
-const TRADES_REPLIES: &str = "OK 1\nOK 2\nOK 3\nHIT 3 2 acme-cheap big-sells\nHIT 3 0\nHIT 3 1 not-ldn\nOK 4\nHIT 4 1 acme-cheap\nBYE 5\n";
+const TRADES_REPLIES: &str =
+    "OK 1\nOK 2\nOK 3\nHIT 3 2 acme-cheap big-sells\nHIT 3 0\nHIT 3 1 not-ldn\nOK 4\nHIT 4 1 acme-cheap\nBYE 5\n";
 
 #[test]
 fn a_trading_day(rt: HostRuntime) -> Result<(), Fail> {
@@ -546,15 +549,21 @@ fn a_trading_day(rt: HostRuntime) -> Result<(), Fail> {
         let mut setting = plain(TRADES_SCRIPT.as_bytes(), piece);
         setting.schema = TRADES;
         let ran = run(&rt, alloc, &setting)?;
-        assert_eq!(rt; str::from_utf8(&ran.out)?, TRADES_REPLIES, "in pieces of {piece}");
+        assert_eq!(rt;
+            str::from_utf8(&ran.out)?,
+            TRADES_REPLIES,
+            "in pieces of {piece}"
+        );
         assert!(rt; ran.status == Status::Done);
     }
     Ok(())
 }
 
-const MIXED: &str = "SUB a price >= 10 and side in {buy,hold}\r\nSUB a all\n\r\n  SUB b\tprice between 5 and 15 and qty != 0\nSUB x volume = 1\nPUB side=buy price=12 qty=3\r\nPUB price=1001\nLIST\nUNSUB a\r\nUNSUB a\nPUB price=12 price=13\nPUB -\nPUB qty=-5 price=5\nSUB a not in {1}\nSUB c one in {7,7} and side not in {sell}\nPUB one=7 side=hold price=7 qty=-1\nLIST\nCOST -\nQUIT\nLIST\n";
+const MIXED: &str =
+    "SUB a price >= 10 and side in {buy,hold}\r\nSUB a all\n\r\n  SUB b\tprice between 5 and 15 and qty != 0\nSUB x volume = 1\nPUB side=buy price=12 qty=3\r\nPUB price=1001\nLIST\nUNSUB a\r\nUNSUB a\nPUB price=12 price=13\nPUB -\nPUB qty=-5 price=5\nSUB a not in {1}\nSUB c one in {7,7} and side not in {sell}\nPUB one=7 side=hold price=7 qty=-1\nLIST\nCOST -\nQUIT\nLIST\n";
 
-const MIXED_REPLIES: &str = "OK 1\nDUP 1 0\nBAD\nOK 2\nATTR volume\nHIT 2 2 a b\nDOM price\nLIST 2 2 a b\nOK 3\nNONE 3\nTWICE price\nHIT 3 0\nHIT 3 1 b\nBAD\nOK 4\nHIT 4 2 b c\nLIST 4 2 b c\nBAD\nBYE 5\n";
+const MIXED_REPLIES: &str =
+    "OK 1\nDUP 1 0\nBAD\nOK 2\nATTR volume\nHIT 2 2 a b\nDOM price\nLIST 2 2 a b\nOK 3\nNONE 3\nTWICE price\nHIT 3 0\nHIT 3 1 b\nBAD\nOK 4\nHIT 4 2 b c\nLIST 4 2 b c\nBAD\nBYE 5\n";
 
 // A first line as long as the script makes each piece that ends within the script the first of two reads.
 #[test]

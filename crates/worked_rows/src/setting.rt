@@ -9,8 +9,7 @@ use std::sync::Wait;
 use std::test::Fail;
 use std::thread::Threads;
 
-pub const SCHEMA: &[u8] =
-    b"int price 0 1000\nint qty -5 5\nsym side buy sell hold\nint one 7 7\n";
+pub const SCHEMA: &[u8] = b"int price 0 1000\nint qty -5 5\nsym side buy sell hold\nint one 7 7\n";
 
 pub const RUN: &[&str] = &["run", "S"];
 
