@@ -1,5 +1,5 @@
 -- A fault of an event names attributes of the schema.
-use Rattle.std.proofs.Common.{◌≡◌, ℕ, ℤ, ◌<◌, Bool, true, false, cond, List, [], ◌∷◌, ◌++◌, length, find, Option, Some, None, option_map, option_and_then, Result, Ok, Err, IfErr, refl, subst, is_some}
+use Rattle.std.proofs.Common.{◌≡◌, ℤ, ◌<◌, Bool, true, false, cond, List, [], ◌∷◌, ◌++◌, length, find, Option, Some, None, option_map, option_and_then, Result, Ok, Err, IfErr, refl, subst, is_some}
 use Rattle.std.specs.List.{cons_option}
 use Rattle.std.specs.Option.{option_or}
 use Rattle.be_base.specs.Text.{Text}
@@ -10,7 +10,7 @@ use Rattle.be_model.specs.Matching.{Assignments, value_of}
 use Rattle.be_model.specs.Schemas.{Attributes, attribute_named}
 use Rattle.be_model.proofs.NamedBelow.{named_below}
 use Rattle.be_event.specs.Written.{WrittenItem, written}
-use Rattle.be_event.specs.Events.{is_unknown, unknown_attr, is_outside, outside_domain, assignment, assignments, again_after, stands_twice, fault_in, judged, meaning, by_attribute, event, Reads, IsKnown}
+use Rattle.be_event.specs.Events.{unknown_attr, is_outside, outside_domain, assignments, again_after, stands_twice, fault_in, judged, meaning, by_attribute, event, Reads, IsKnown}
 use Rattle.be_event.specs.declared.events.EventFault.{EventFault}
 use Rattle.be_event.specs.declared.events.EventFault.TheVariants.{Bad, Attr, Dom, Twice, NoMemory}
 

@@ -1,9 +1,8 @@
 -- Reading the canonical text of an event gives it back.
-use Rattle.std.proofs.Common.{◌≡◌, ◌⊎◌, inl, inr, ℕ, ℤ, zero, suc, ◌+◌, ◌<◌, ◌≤◌, ◌==◌, ltb, not, true, false, cond, List, [], ◌∷◌, ◌++◌, length, map, take, get_or, All, Option, Some, None, option_map, option_and_then, Ok, codes, refl, sym, ap, subst, ◌∙◌, arith, append_assoc}
+use Rattle.std.proofs.Common.{◌≡◌, ◌⊎◌, inl, inr, ℕ, ℤ, zero, suc, ◌<◌, ◌≤◌, ◌==◌, ltb, not, true, false, cond, List, [], ◌∷◌, ◌++◌, length, map, get_or, All, Option, Some, None, option_map, option_and_then, Ok, codes, refl, sym, ap, subst, ◌∙◌, arith, append_assoc}
 use Rattle.std.specs.List.{list_all, flat_map}
 use Rattle.std.specs.Option.{option_map_or}
 use Rattle.std.proofs.lemmas.Bool.Decides.{nat_tests}
-use Rattle.std.proofs.lemmas.List.{take_more, flat_map_more}
 use Rattle.std.proofs.lemmas.List.Elements.{All-head, All-tail, All-nil, All-cons}
 use Rattle.be_base.specs.Text.{Text, IsName, IsWord, is_word_byte}
 use Rattle.be_base.specs.Fronts.{starts_with}
@@ -215,14 +214,6 @@ spelled_is_read s e f rises lies ps =
     ∙ ap (meaning s) (written-event_tokens items (all_written s e f ps))
     ∙ ap (judged (by_attribute (length s) (assignments s items))) fault
     ∙ ap (λ x. Ok x) same
-
--- one more piece is put last
-pub joined_more : {X : Type 0} (f : X → Text) (xs : List X) (i : ℕ) (d : X) (start before after : Text)
-    → i < length xs → before ≡ start ++ flat_map f (take i xs) → after ≡ before ++ f (get_or xs i d) → after ≡ start ++ flat_map f (take (i + 1) xs)
-joined_more f xs i d start before after h b e =
-    e ∙ ap (λ text. text ++ f (get_or xs i d)) b
-    ∙ flat_map_more f start (take i xs) (get_or xs i d)
-    ∙ ap (λ ys. start ++ flat_map f ys) (sym (take_more xs i d h))
 
 spelled_at : (s : Attributes) (i : AttrNo × ℤ) → IsSchema s → NamesAreNames s → item_lies s i ≡ true → IsSpelled s i
 spelled_at s i f names h =

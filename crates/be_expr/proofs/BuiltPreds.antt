@@ -1,8 +1,9 @@
 -- Predicates of a text without a fault.
-use Rattle.std.proofs.Common.{◌≡◌, ℕ, ◌+◌, ◌≤◌, ◌<◌, ◌&&◌, ◌||◌, not, Bool, true, false, List, [], ◌∷◌, ◌++◌, append_assoc, length, map, nat_lt, Option, Some, None, Bor, option_map, option_and_then, refl, sym, ◌∙◌, ap, subst, arith}
+use Rattle.std.proofs.Common.{◌≡◌, ℕ, ◌+◌, ◌≤◌, ◌<◌, ◌&&◌, not, Bool, true, false, List, [], ◌∷◌, ◌++◌, append_assoc, length, map, nat_lt, Option, Some, None, Bor, option_map, option_and_then, refl, sym, ◌∙◌, ap, subst, arith}
 use Rattle.std.specs.List.{list_all}
 use Rattle.std.specs.Option.{is_none, option_map_or}
 use Rattle.std.proofs.lemmas.Bool.Decides.{nat_tests}
+use Rattle.std.proofs.lemmas.Bool.{or_parts}
 use Rattle.be_base.specs.Text.{Text}
 use Rattle.be_base.specs.Tokens.{Lexeme}
 use Rattle.be_base.specs.declared.names.AttrNo.{AttrNo}
@@ -24,10 +25,6 @@ use Rattle.be_expr.proofs.Joining.{before, preds_behind, preds_then, preds_by_fi
 abbrev pub meant_behind : Attributes → List Pred → List WrittenPred → List Pred
 meant_behind s conj ps = conj ++ map (meant_pred s) ps
 
-neither : (a b : Bool) → (a || b) ≡ false → (a ≡ false) × (b ≡ false)
-neither true b h = absurd (cc)
-neither false b h = (refl, h)
-
 false_if_not : (b : Bool) → not b ≡ true → b ≡ false
 false_if_not true h = absurd (cc)
 false_if_not false h = refl
@@ -36,8 +33,8 @@ pub ends_have_values : (s : Attributes) (a : AttrNo) (v w : Text) (left : Option
     → (is_none (value_at s a v) ≡ false) × (is_none (value_at s a w) ≡ false)
 ends_have_values s a v w None h = absurd h
 ends_have_values s a v w (Some ts) h =
-    let parts = neither (is_none (value_at s a v)) (has_unknown_value s a (w ∷ [])) h.0 in
-    (parts.0, (neither (is_none (value_at s a w)) false parts.1).0)
+    let parts = or_parts (is_none (value_at s a v)) (has_unknown_value s a (w ∷ [])) h.0 in
+    (parts.0, (or_parts (is_none (value_at s a w)) false parts.1).0)
 
 pub fine_parts : (s : Attributes) (p : WrittenPred) → is_fine s p ≡ true → (is_unknown s p ≡ false) × (is_outside s p ≡ false) × (has_many_values p ≡ false)
 fine_parts s p h =

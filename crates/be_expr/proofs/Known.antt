@@ -1,5 +1,5 @@
 -- A fault of a condition names attributes of the schema.
-use Rattle.std.proofs.Common.{◌≡◌, ◌<◌, List, length, map, find, subst, IfErr, Option, Some, None, option_map, option_and_then, Result, Ok, Err, refl, sym, ◌∙◌, if◌then◌else◌, cond, true, false, Bool, nat_lt}
+use Rattle.std.proofs.Common.{◌≡◌, List, length, map, find, subst, IfErr, Option, Some, None, option_map, option_and_then, Result, Ok, Err, refl, cond, true, false, Bool, nat_lt}
 use Rattle.be_base.specs.Text.{Text}
 use Rattle.be_base.specs.Tokens.{tokens}
 use Rattle.be_base.specs.declared.names.AttrNo.{AttrNo}

@@ -1,6 +1,5 @@
 pub mod Grammar
 pub mod InParts
-pub mod Pieces
 pub mod CanonicalTokens
 pub mod CanonicalMeaning
 pub mod ChangesRead

@@ -1,10 +1,11 @@
 -- A condition that was read lies in the schema.
-use Rattle.std.proofs.Common.{◌≡◌, ℕ, ℤ, pos, ◌<◌, ◌&&◌, ◌||◌, Bool, true, false, List, [], ◌∷◌, length, map, int_lt, slice_get, Option, Some, None, option_map, option_and_then, Result, Ok, Err, IfOk, IfErr, inl, inr, refl, sym, ◌∙◌, ap, subst, arith, if◌then◌else◌}
+use Rattle.std.proofs.Common.{◌≡◌, ℕ, ℤ, pos, ◌<◌, ◌&&◌, Bool, true, false, List, [], ◌∷◌, length, map, int_lt, slice_get, Option, Some, None, option_map, option_and_then, Result, Ok, Err, IfOk, IfErr, inl, inr, refl, sym, ◌∙◌, ap, subst, arith, if◌then◌else◌}
 use Rattle.std.specs.List.{list_all}
 use Rattle.std.specs.Option.{is_none, option_map_or}
 use Rattle.std.proofs.lemmas.List.{length-map}
 use Rattle.std.proofs.lemmas.List.Quantifiers.{position-Some}
 use Rattle.std.proofs.lemmas.Option.{slice_get_cases}
+use Rattle.std.proofs.lemmas.Bool.{or_parts}
 use Rattle.be_base.specs.Text.{Text, same_text}
 use Rattle.be_base.specs.Tokens.{Lexeme, less, less_or_equal, not_equal, greater_or_equal, greater}
 use Rattle.be_base.specs.declared.names.AttrNo.{AttrNo}
@@ -27,10 +28,6 @@ use Rattle.be_expr.proofs.Grammar.{and_parts, both}
 use Rattle.be_expr.proofs.BuiltPreds.{fine_parts}
 use Rattle.be_expr.proofs.Meanings.{fine_without_fault, reads_built, reads_without_memory}
 
-neither : (a b : Bool) → (a || b) ≡ false → (a ≡ false) × (b ≡ false)
-neither true b h = absurd (cc)
-neither false b h = (refl, h)
-
 within_if : (r : Range) (d : Attribute) (text : Text) (o : Option ℤ) → value_of_word d.domain text ≡ o → is_none o ≡ false → is_within (bounds_of d.domain) (option_map_or (λ n. n) o (pos 0)) ≡ true
 within_if r d text None e h = absurd (cc)
 within_if r d text (Some n) e h = value_within d.domain text n e
@@ -46,7 +43,7 @@ all_known_within : (s : Attributes) (a : AttrNo) (x : Attribute) (vs : List Text
     → list_all (is_within (bounds_of x.domain)) (map (known s a) vs) ≡ true
 all_known_within s a x [] at h = refl
 all_known_within s a x (v ∷ vs) at h =
-    let parts = neither (is_none (value_at s a v)) (has_unknown_value s a vs) h in
+    let parts = or_parts (is_none (value_at s a v)) (has_unknown_value s a vs) h in
     both (is_within (bounds_of x.domain) (known s a v)) (list_all (is_within (bounds_of x.domain)) (map (known s a) vs)) (known_within s a x v at parts.0) (all_known_within s a x vs at parts.1)
 
 put_if : (test : ℤ → Bool) (v x : ℤ) (xs ys : List ℤ) (a b : Bool) → test v ≡ true → test x ≡ true → list_all test xs ≡ true → list_all test ys ≡ true

@@ -16,3 +16,4 @@ pub mod ReadBack
 pub mod NamePlaces
 pub mod Putting
 pub mod NamedBelow
+pub mod Pieces

@@ -9,7 +9,7 @@ use Rattle.be_model.specs.Matching.{Assignments}
 use Rattle.be_model.specs.Schemas.{numbered}
 use Rattle.be_model.proofs.Attributes.{and_right}
 use Rattle.be_event.specs.Canonical.{item_text, event_text, IsSpelled}
-use Rattle.be_event.proofs.RoundTrip.{joined_more}
+use Rattle.be_model.proofs.Pieces.{joined_more}
 use Rattle.be_event.proofs.writing.put_items.Goals as goal
 
 abbrev no_item : AttrNo × ℤ

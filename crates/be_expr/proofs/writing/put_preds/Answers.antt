@@ -7,7 +7,7 @@ use Rattle.be_model.specs.declared.conditions.Pred.{Pred}
 use Rattle.be_model.specs.Lies.{pred_lies, conj_lies}
 use Rattle.be_model.proofs.Attributes.{and_right}
 use Rattle.be_expr.specs.Canonical.{pred_text, expr_text, IsSpelled}
-use Rattle.be_expr.proofs.Pieces.{joined_more}
+use Rattle.be_model.proofs.Pieces.{joined_more}
 use Rattle.be_expr.proofs.writing.put_preds.Goals as goal
 
 pub put_pred-requires-in-loop-pred : goal.put_pred-requires-in-loop-pred

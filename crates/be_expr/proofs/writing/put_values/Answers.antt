@@ -2,7 +2,7 @@ use Rattle.std.proofs.Common.{ℤ, pos, ◌++◌, ◌∙◌, codes, append_assoc
 use Rattle.std.proofs.lemmas.List.Elements.{All-more}
 use Rattle.be_base.specs.Text.{IsWord}
 use Rattle.be_model.specs.Texts.{value_text_at}
-use Rattle.be_expr.proofs.Pieces.{joined_more}
+use Rattle.be_model.proofs.Pieces.{joined_more}
 use Rattle.be_expr.proofs.writing.put_values.Goals as goal
 
 pub loop-v-preserved : goal.loop-v-preserved
