@@ -1,0 +1,44 @@
+#!/usr/bin/env bash
+# Prints the time of SUBs, of as many UNSUBs in a mixed order, and of LISTs of all names, and how each grows at
+# twice as many. No part of the gate.
+set -u
+here="$(cd "$(dirname "${BASH_SOURCE[0]}")" && pwd)"
+room="$(mktemp -d)"
+trap 'rm -rf "$room"' EXIT
+"$here/../justmeadow" >/dev/null 2>&1
+[ $? -eq 2 ] || { echo "the program can't be run"; exit 1; }
+program="$here/../crates/justmeadow/out/justmeadow"
+printf 'int price 0 1000\nsym side buy sell\n' >"$room/schema.txt"
+
+# script SUBS UNSUBS LISTS
+script() {
+    awk -v subs="$1" -v unsubs="$2" -v lists="$3" 'BEGIN {
+        for (i = 0; i < subs; i++) { print "SUB s" i " price < " i % 1000 " and side = buy"; at[i] = i }
+        seed = 20111
+        for (i = subs - 1; i > 0; i--) {
+            seed = (seed * 16807) % 2147483647
+            j = seed % (i + 1); x = at[i]; at[i] = at[j]; at[j] = x
+        }
+        for (i = 0; i < unsubs; i++) print "UNSUB s" at[i]
+        for (i = 0; i < lists; i++) print "LIST"
+    }'
+}
+
+# measure SUBS UNSUBS LISTS: the least seconds of processor time of five runs
+measure() {
+    script "$@" >"$room/script.txt"
+    local TIMEFORMAT='%3U %3S'
+    for _ in 1 2 3 4 5; do
+        { time "$program" run "$room/schema.txt" <"$room/script.txt" >"$room/out.txt"; } 2>&1
+    done | awk '{ took = $1 + $2; if (NR == 1 || took < least) least = took } END { print least }'
+    [ "$(grep -vc '^OK\|^LIST' "$room/out.txt")" -eq 0 ] || { echo "a line was refused" >&2; exit 1; }
+}
+
+sub="$(measure 100000 0 0)" && subs="$(measure 200000 0 0)" || exit 1
+unsub="$(measure 100000 100000 0)" && unsubs="$(measure 200000 200000 0)" || exit 1
+list="$(measure 100000 0 20)" && lists="$(measure 200000 0 20)" || exit 1
+awk -v a="$sub" -v b="$subs" -v c="$unsub" -v d="$unsubs" -v e="$list" -v f="$lists" 'BEGIN {
+    printf "100,000 SUBs: %.2f s; twice as many: %.2f times\n", a, b / a
+    printf "100,000 UNSUBs in a mixed order: %.2f s; twice as many: %.2f times\n", c - a, (d - b) / (c - a)
+    printf "20 LISTs of 100,000 names: %.2f s; of twice as many: %.2f times\n", e - a, (f - b) / (e - a)
+}'

@@ -1,0 +1,39 @@
+#!/usr/bin/env bash
+# Prints the time of reading the greatest schema, 256 attributes of 4,096 symbols each, of half of it, and of a schema
+# whose one line has more symbols than it may. No part of the gate.
+set -u
+here="$(cd "$(dirname "${BASH_SOURCE[0]}")" && pwd)"
+room="$(mktemp -d)"
+trap 'rm -rf "$room"' EXIT
+"$here/../justmeadow" >/dev/null 2>&1
+[ $? -eq 2 ] || { echo "the program can't be run"; exit 1; }
+program="$here/../crates/justmeadow/out/justmeadow"
+
+# schema ATTRIBUTES SYMBOLS
+schema() {
+    awk -v attributes="$1" -v symbols="$2" 'BEGIN {
+        for (i = 0; i < attributes; i++) {
+            printf "sym a%d", i
+            for (j = 0; j < symbols; j++) printf " w%d", j
+            printf "\n"
+        }
+    }'
+}
+
+# measure STATUS ATTRIBUTES SYMBOLS: the least seconds of processor time of five runs that end so
+measure() {
+    local wanted="$1"
+    shift
+    schema "$@" >"$room/schema.txt"
+    local TIMEFORMAT='%3U %3S'
+    for _ in 1 2 3 4 5; do
+        { time { "$program" run "$room/schema.txt" </dev/null >/dev/null 2>&1; echo $? >"$room/status"; }; } 2>&1
+    done | awk '{ took = $1 + $2; if (NR == 1 || took < least) least = took } END { print least }'
+    [ "$(cat "$room/status")" = "$wanted" ] || { echo "another status than $wanted" >&2; exit 1; }
+}
+
+half="$(measure 0 128 4096)" && whole="$(measure 0 256 4096)" && over="$(measure 3 1 1000000)" || exit 1
+awk -v half="$half" -v whole="$whole" -v over="$over" 'BEGIN {
+    printf "256 attributes of 4,096 symbols: %.3f s; half of them: %.2f times as fast\n", whole, whole / half
+    printf "one attribute of 1,000,000 symbols, refused: %.3f s\n", over
+}'
