@@ -8,7 +8,7 @@ ghost use Rattle.be_shape.specs.Search.{visited, visited_in_parts, visited_in_ha
 ghost use Rattle.be_match.specs.Leaves.{AreCountable, cost_of_leaves, may_enter};
 
 use be_model::{Cost, Event, Schema};
-use be_shape::{Node, NodeRange, Part, holds, lower_range, upper_range, whole_range};
+use be_shape::{Node, NodeRange, Part, holds_value, lower_range, upper_range, whole_range};
 
 // The cost of a search of a node and of all below it.
 #[cycle(costs)]
@@ -64,7 +64,7 @@ fn half_cost(half: &Option<Box<Node>>, s: &Schema, e: &Event, range: NodeRange) 
 {
     match half {
         Some(n) => {
-            if holds(range, e) {
+            if holds_value(range, e) {
                 node_cost(n, s, e, range)
             } else {
                 Cost::none()

@@ -7,6 +7,7 @@ ghost use Rattle.be_model.specs.ByIds.{FindsIn, rows_of};
 ghost use Rattle.be_model.specs.Bounds.{IsWithinBound};
 ghost use Rattle.be_shape.specs.Plain.{plain, contents};
 ghost use Rattle.be_shape.specs.Search.{visits, tested};
+ghost use Rattle.be_match.specs.Leaves.{KeepsRoom};
 
 use crate::counts::node_cost;
 use crate::searches::search_node;
@@ -24,6 +25,8 @@ pub fn find_in(t: &Tree, e: &Event, found: &mut Found) -> Result<Cost, NoMemory>
     ensures bound { IfOk result (λ cost. IsWithinBound (arc_value t.now.schema) e.now (rows_of (contents (plain t.now.root))) cost) }
     ensures refused { OnErr result (found.new.rows ≡ found.old.rows) }
     ensures room { OnErr result (found.old.spare ≤ found.new.spare) }
+    // Each found row takes up no more than its own place.
+    ensures kept { OnOk result (KeepsRoom found.old found.new) }
 {
     let _ = t.schema.count();
     let _ = e.items();

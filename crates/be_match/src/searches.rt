@@ -11,7 +11,7 @@ ghost use Rattle.be_match.specs.Leaves.{AreCountable, BeginsWith, KeepsRoom, cos
 
 use be_base::NoMemory;
 use be_model::{Cost, Event, Found, Row, Schema};
-use be_shape::{Leaf, Node, NodeRange, Part, holds, lower_range, upper_range, whole_range};
+use be_shape::{Leaf, Node, NodeRange, Part, holds_value, lower_range, upper_range, whole_range};
 use std::sync::Arc;
 
 // Appends what the event satisfies in a node and in all below it.
@@ -93,7 +93,7 @@ fn search_half(
 {
     match half {
         Some(n) => {
-            if holds(range, e) {
+            if holds_value(range, e) {
                 search_node(n, s, e, range, found)
             } else {
                 Ok(Cost::none())

@@ -5,3 +5,4 @@ pub mod RootPut
 pub mod RowCounts
 pub mod Placed
 pub mod ExampleTree
+pub mod NewIds

@@ -3,7 +3,7 @@
 ghost use Rattle.std.specs.Prelude.{IsPermutation};
 ghost use Rattle.be_model.specs.ByIds.{Rising, rows_of};
 ghost use Rattle.be_shape.specs.Plain.{plain, rows_below, contents};
-ghost use Rattle.be_shape.specs.Contents.{RowsAreFound};
+ghost use Rattle.be_shape.specs.Contents.{RowsAreFound, NewIdsAreNowhere};
 
 use crate::trees::Tree;
 
@@ -20,4 +20,9 @@ pub fn rows_are_of_leaves(t: &Tree)
 /// The row of an id is the row of a leaf that has this id.
 pub fn rows_are_found(t: &Tree)
     ensures { RowsAreFound (plain t.now.root) }
+{}
+
+/// An id is new exactly where no row has it.
+pub fn new_ids_are_nowhere(t: &Tree)
+    ensures { NewIdsAreNowhere (plain t.now.root) }
 {}

@@ -13,7 +13,7 @@ use be_model::{Event, Schema};
 /// The range of a node, and on which attribute; the root has none.
 pub type NodeRange = Option<(AttrNo, (i64, i64))>;
 
-/// The range of the root of a part.
+/// The range of the root of a part. There is none where the schema doesn't have the attribute.
 #[tactic(auto, using(crate::proofs::WholeRanges::whole_bounded, crate::proofs::WholeRanges::whole_rising))]
 pub fn whole_range(s: &Schema, a: AttrNo) -> NodeRange
     ensures range { result ≡ whole s.now a }
@@ -37,7 +37,7 @@ pub fn lower_range(range: NodeRange) -> NodeRange
     Some((a, (lo, middle(lo, hi))))
 }
 
-/// The range of the high half.
+/// The range of the high half. Of a range of one value it is empty.
 pub fn upper_range(range: NodeRange) -> NodeRange
     requires bounded { is_bounded range ≡ true }
     requires rising { is_rising range ≡ true }
@@ -63,7 +63,7 @@ fn middle(lo: i64, hi: i64) -> i64
 }
 
 /// Whether the range holds the event's value of its attribute.
-pub fn holds(range: NodeRange, e: &Event) -> bool
+pub fn holds_value(range: NodeRange, e: &Event) -> bool
     ensures { result ≡ holds_value e.now range }
 {
     match range {
