@@ -20,7 +20,7 @@ use thiserror::Error;
 /// What is wrong with a line of a schema.
 #[derive(Clone, Copy, Debug, PartialEq, Eq)]
 pub enum SchemaKind {
-    /// It declares nothing.
+    /// It has neither of the two forms, `int` with a name and two bounds or `sym` with a name and its words.
     Form,
     /// Its name is a reserved word.
     Reserved,

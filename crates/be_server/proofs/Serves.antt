@@ -1,7 +1,8 @@
 -- A session's turns, one after another, are a legal transcript of the lines that were read.
-use Rattle.std.proofs.Common.{◌≡◌, ◌⊎◌, inl, inr, ℕ, ◌+◌, ◌<◌, ◌≤◌, Bool, true, false, List, [], ◌∷◌, ◌++◌, length, map, take, drop, Option, Some, None, Err, refl, sym, ap, ◌∙◌, subst, arith, append_assoc, length-drop}
+use Rattle.std.proofs.Common.{◌≡◌, ◌⊎◌, inl, inr, ℕ, ◌+◌, ◌<◌, ◌≤◌, Bool, true, false, not, List, [], ◌∷◌, ◌++◌, length, map, take, drop, Option, Some, None, Err, refl, sym, ap, ◌∙◌, subst, arith, append_assoc, length-drop}
 use Rattle.std.proofs.lemmas.List.{map_push, append-nil, take-append-drop}
 use Rattle.std.proofs.lemmas.List.Concat.{flat_map-append}
+use Rattle.std.proofs.lemmas.List.Folds.{list_all-append}
 use Rattle.be_io.specs.Counts.{HasRisen, HasRisenBy, RisesBy}
 use Rattle.be_io.specs.Told.{WhereTold, HoldsMore}
 use Rattle.be_io.specs.Lines.{TextLine, closed_line, line_of, read_line, lines}
@@ -19,11 +20,11 @@ use Rattle.be_change.specs.Alone.{RanAlone}
 use Rattle.be_change.proofs.Alone.{alone_ran}
 use Rattle.be_transcript.specs.Readings.{reading}
 use Rattle.be_transcript.specs.Replies.{reply_text}
-use Rattle.be_transcript.specs.Transcript.{line_limit, AnswersEach, requests, texts, AreRun, read_ahead, ReadToEnd, ReadInPart, ReadFirstLines}
+use Rattle.be_transcript.specs.Transcript.{line_limit, AnswersEach, requests, texts, TellsCounts, AreRun, is_quit, HasNoQuit, read_ahead, ReadToEnd, ReadInPart, ReadFirstLines}
 use Rattle.be_server.specs.declared.session.SessionEnd.{SessionEnd}
 use Rattle.be_server.specs.declared.session.SessionEnd.TheVariants as ends
 use Rattle.be_server.specs.declared.session.Turn.TheVariants.{Next, Over, AfterQuit}
-use Rattle.be_server.specs.Given.{Replies, is_quit}
+use Rattle.be_server.specs.Given.{Replies}
 use Rattle.be_server.specs.Ties.{Ties}
 use Rattle.be_server.specs.Wrote.{SinkState, TookPart}
 use Rattle.be_server.specs.Turns.{SourceState, TurnState, TakesAlike, IsFirstLine, TookLine, EndsAt, Answered, AnswersLine, Turned}
@@ -76,6 +77,10 @@ requests-push : (s : Attributes) (ps : List Exchange) (done : List TextLine) (li
 requests-push s ps done line reply e =
     map_push (λ (p : Exchange). p.0) ps (reading s line, reply) ∙ ap (λ (rs : List Request). rs ++ reading s line ∷ []) e ∙ sym (map_push (reading s) done line)
 
+no_quit_push : (s : Attributes) (done : List TextLine) (line : TextLine) → HasNoQuit s done → is_quit (reading s line) ≡ false → HasNoQuit s (done ++ line ∷ [])
+no_quit_push s done line all last =
+    list_all-append (λ (l : TextLine). not (is_quit (reading s l))) done (line ∷ []) ∙ rw (all, last) refl
+
 rises-along : (a b c t u v : ℕ) → RisesBy t a b → RisesBy u b c → t + u ≡ v → RisesBy v a c
 rises-along a b c t u v p q e = omega arith
 
@@ -112,6 +117,7 @@ serves_on s source sink before after g l t =
       done = g.done ++ line ∷ [];
       ties = next.1;
       asked = one.asked;
+      no_quit = no_quit_push s g.done line g.no_quit l.2.0;
       written = subst (λ (x : List ℕ). HoldsMore sink.held after.sink.held x) (sym (texts-push g.ps p))
           (HoldsMore-append sink.held before.sink.held after.sink.held (texts g.ps) (reply_text reply) g.written l.2.1.2.0);
       quiet = l.2.1.2.1 ∙ g.quiet;
@@ -148,11 +154,12 @@ each true asked answered e = ([], sym e ∙ sym (append-nil answered))
 each false asked answered e = e
 
 -- what was answered is a run over the list that it made
-are_run : (s : Attributes) (ps : List Exchange) (ls : List TextLine) → RanAlone 1 ps → Plain ps → requests ps ≡ map (reading s) ls → AreRun s ls ps
-are_run s ps ls ran plain e = record {
+are_run : (s : Attributes) (ps : List Exchange) (ls : List TextLine) → RanAlone 1 ps → Plain ps → TellsCounts 0 ps → requests ps ≡ map (reading s) ls → AreRun s ls ps
+are_run s ps ls ran plain counts e = record {
   exchanges = record { session = ran.session; each = each ran.session.end.ended (map (reading s) ls) (requests ps) e };
   formed = ran.formed;
   plain = plain;
+  counts = counts;
 }
 
 left_along : (made_list now after : List Entry) → made_list ≡ now → Leaves false now after → Leaves false made_list after
@@ -166,8 +173,8 @@ whole_transcript s source sink now after h g same l = record {
   held = subst (λ (x : SinkState). HoldsMore sink.held x.held (texts g.ps)) (sym same) g.written;
   is_it = record {
     ps = g.ps;
-    transcript = record { run = are_run s g.ps g.done (alone_ran 1 g.ps g.walk g.ties.alone) g.ties.plain g.asked; is_text = refl };
-    last_line = tt;
+    transcript = record { run = are_run s g.ps g.done (alone_ran 1 g.ps g.walk g.ties.alone) g.ties.plain g.ties.counts g.asked; is_text = refl };
+    last_line = g.no_quit;
     list = left_along (made 1 g.ps) now.list h g.ties.made_is l;
   };
 }
@@ -222,8 +229,8 @@ first_lines (Some s) (Some a) false unread done few g = record {
 }
 
 -- the request of the last line
-quits_at_end : (s : Attributes) (front : List TextLine) (line : TextLine) (quits : Bool) → is_quit (reading s line) ≡ quits → QuitsAtEnd quits s (front ++ line ∷ [])
-quits_at_end s front line true e = (front, line, refl, a_quit (reading s line) e)
+quits_at_end : (s : Attributes) (front : List TextLine) (line : TextLine) (quits : Bool) → HasNoQuit s front → is_quit (reading s line) ≡ quits → QuitsAtEnd quits s (front ++ line ∷ [])
+quits_at_end s front line true none e = (front, line, refl, none, a_quit (reading s line) e)
   where
     a_quit : (r : Request) → is_quit r ≡ true → r ≡ quit
     a_quit quit e = refl
@@ -232,7 +239,7 @@ quits_at_end s front line true e = (front, line, refl, a_quit (reading s line) e
     a_quit (unsubscribe name) e = absurd cc
     a_quit (publish x) e = absurd cc
     a_quit listing e = absurd cc
-quits_at_end s front line false e = tt
+quits_at_end s front line false none e = no_quit_push s front line none e
 
 -- a QUIT, and its reply
 quit_transcript : (s : Attributes) (source : SourceState) (sink : SinkState) (before after : TurnState)
@@ -252,8 +259,8 @@ quit_transcript s source sink before after g l =
             (HoldsMore-append sink.held before.sink.held after.sink.held (texts g.ps) (reply_text reply) g.written l.2.1.2.0);
         is_it = record {
           ps = g.ps ++ p ∷ [];
-          transcript = record { run = are_run s (g.ps ++ p ∷ []) (g.done ++ line ∷ []) one.stepped.ran one.stepped.plain one.asked; is_text = refl };
-          last_line = quits_at_end s g.done line true l.2.0;
+          transcript = record { run = are_run s (g.ps ++ p ∷ []) (g.done ++ line ∷ []) one.stepped.ran one.stepped.plain one.stepped.counts one.asked; is_text = refl };
+          last_line = quits_at_end s g.done line true g.no_quit l.2.0;
           list = sym one.stepped.made_is;
         };
       },
@@ -286,13 +293,13 @@ cut_transcript s source sink before after h quits fault g line took is a part l 
           ps = g.ps;
           last = p;
           transcript = record {
-            run = are_run s (g.ps ++ p ∷ []) done one.stepped.ran one.stepped.plain one.asked;
+            run = are_run s (g.ps ++ p ∷ []) done one.stepped.ran one.stepped.plain one.stepped.counts one.asked;
             missing = drop part.0 text;
             some = missing;
             is_text = split;
             whole = (take part.0 text, refl);
           };
-          last_line = quits_at_end s g.done line quits is;
+          last_line = quits_at_end s g.done line quits g.no_quit is;
           list = leaves_along quits (made 1 (g.ps ++ p ∷ [])) after.list h one.stepped.made_is l;
         };
       },
@@ -395,6 +402,7 @@ serves_first s source sink r h new = record {
   done = [];
   ties = subst (Ties [] beginning) (sym new.none) tie_beginning;
   asked = refl;
+  no_quit = refl;
   written = HoldsMore-nil sink.held;
   quiet = refl;
   sound = refl;

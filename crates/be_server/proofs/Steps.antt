@@ -1,19 +1,20 @@
 -- A reply that fits the list of changes is legal over the list that the session makes.
-use Rattle.std.proofs.Common.{◌≡◌, true, false, List, [], ◌∷◌, ◌++◌, length, refl, sym, ◌∙◌, subst}
+use Rattle.std.proofs.Common.{◌≡◌, ℕ, ◌+◌, true, false, List, [], ◌∷◌, ◌++◌, length, refl, sym, ap, ◌∙◌, subst, arith, length-append}
 use Rattle.std.specs.List.{list_all}
 use Rattle.std.proofs.lemmas.List.Folds.{list_all-append}
 use Rattle.be_change.specs.History.{Entry}
 use Rattle.be_change.specs.Requests.{Refusal, Request, refused, subscribe, unsubscribe, publish, listing, quit, Reply, refusal, ok, bye, dup, none, hit, listed, no_memory, Exchange}
-use Rattle.be_change.specs.Walk.{Walk, beginning, having_seen, having_changed}
+use Rattle.be_change.specs.Walk.{Walk, beginning, having_seen, having_changed, accepted}
 use Rattle.be_change.specs.Made.{made, entry_made}
 use Rattle.be_change.specs.Alone.{RunsAlone, RanAlone}
-use Rattle.be_change.proofs.Alone.{alone_beginning, alone_refused, alone_subscribed, alone_unsubscribed, alone_dup, alone_none, alone_hit, alone_listed, alone_subscribe_no_memory, alone_unsubscribe_no_memory, alone_publish_no_memory, alone_listing_no_memory, alone_ran, alone_bye, alone_quit_no_memory, made-snoc, made_kept}
-use Rattle.be_transcript.specs.Transcript.{comes_in_run}
-use Rattle.be_server.specs.Given.{Replies, is_quit}
+use Rattle.be_change.proofs.Alone.{alone_beginning, alone_refused, alone_subscribed, alone_unsubscribed, alone_dup, alone_none, alone_hit, alone_listed, alone_subscribe_no_memory, alone_unsubscribe_no_memory, alone_publish_no_memory, alone_listing_no_memory, alone_ran, alone_bye, alone_quit_no_memory, made-snoc, made_kept, accepted-append}
+use Rattle.be_change.proofs.Places.{places_count}
+use Rattle.be_transcript.specs.Transcript.{comes_in_run, length_told, IsTold, TellsCounts, is_quit}
+use Rattle.be_server.specs.Given.{Replies}
 use Rattle.be_server.specs.Ties.{Ties}
 
 pub tie_beginning : Ties [] beginning []
-tie_beginning = record { alone = alone_beginning 1; made_is = refl; plain = refl }
+tie_beginning = record { alone = alone_beginning 1; made_is = refl; plain = refl; counts = tt }
 
 abbrev pub Plain : List Exchange → Type 0
 Plain ps = list_all (λ (p : Exchange). comes_in_run p.1) ps ≡ true
@@ -22,78 +23,128 @@ plain_push : (ps : List Exchange) (p : Exchange) → Plain ps → comes_in_run p
 plain_push ps p all last =
     list_all-append (λ (q : Exchange). comes_in_run q.1) ps (p ∷ []) ∙ rw (all, last) refl
 
+accepted_cons : (p : Exchange) (ps : List Exchange) → length (accepted (p ∷ ps)) ≡ length (accepted (p ∷ [])) + length (accepted ps)
+accepted_cons p ps = ap (λ (l : List ℕ). length l) (accepted-append (p ∷ []) ps) ∙ length-append (accepted (p ∷ [])) (accepted ps)
+
+counts_push : (n : ℕ) (ps : List Exchange) (p : Exchange) → TellsCounts n ps → IsTold ((n + length (accepted ps)) + length (accepted (p ∷ []))) (length_told p.1) → TellsCounts n (ps ++ p ∷ [])
+counts_push n [] p counts told = (subst (λ (m : ℕ). IsTold m (length_told p.1)) (none (length (accepted (p ∷ [])))) told, tt)
+  where
+    none : (m : ℕ) → (n + 0) + m ≡ n + m
+    none m = omega arith
+counts_push n (q ∷ ps) p counts told =
+    let one : ℕ = length (accepted (q ∷ [])) in
+    let last : ℕ = length (accepted (p ∷ [])) in
+    let same : (n + length (accepted (q ∷ ps))) + last ≡ ((n + one) + length (accepted ps)) + last = omega (arith, accepted_cons q ps) in
+    (counts.0, counts_push (n + one) ps p counts.1 (subst (λ (m : ℕ). IsTold m (length_told p.1)) same told))
+
+-- as many changes were accepted as stand in the list
+as_many : (ps : List Exchange) (w : Walk) → RunsAlone 1 ps w → length (accepted ps) ≡ length (made 1 ps)
+as_many ps w a =
+    ap (λ (l : List ℕ). length l) (sym a.only) ∙ places_count 1 (made 1 ps) ∙ ap (λ (h : List Entry). length h) a.alone
+
+unchanged : (h : List Entry) (n m : ℕ) → n ≡ length h → m ≡ length h → m ≡ n + 0
+unchanged h n m e f = omega arith
+
+-- a reply that fits the list tells how many they are
+told : (h after : List Entry) (n : ℕ) (r : Request) (q : Reply) → n ≡ length h → Replies h r q after → IsTold (n + length (accepted ((r, q) ∷ []))) (length_told q)
+told h after n (subscribe name conj) (ok m) e f = f.1.0 ∙ ap (λ (l : ℕ). l + 1) (sym e)
+told h after n (unsubscribe name) (ok m) e f = f.1.0 ∙ ap (λ (l : ℕ). l + 1) (sym e)
+told h after n quit (bye m) e f = f.0 ∙ ap (λ (l : ℕ). l + 1) (sym e)
+told h after n (subscribe name conj) (dup m id) e f = unchanged h n m e f.0
+told h after n (unsubscribe name) (none m) e f = unchanged h n m e f.0
+told h after n (publish x) (hit m names) e f = unchanged h n m e f.0
+told h after n listing (listed m names) e f = unchanged h n m e f.0
+told h after n (refused r) (refusal s) e f = tt
+told h after n (subscribe name conj) no_memory e f = tt
+told h after n (unsubscribe name) no_memory e f = tt
+told h after n (publish x) no_memory e f = tt
+told h after n listing no_memory e f = tt
+told h after n quit no_memory e f = tt
+told h after n _ _ e f = absurd f
+
+counts_step : (ps : List Exchange) (w : Walk) (after : List Entry) (r : Request) (q : Reply) → RunsAlone 1 ps w → TellsCounts 0 ps → Replies (made 1 ps) r q after → TellsCounts 0 (ps ++ (r, q) ∷ [])
+counts_step ps w after r q a counts f =
+    let many : 0 + length (accepted ps) ≡ length (made 1 ps) = omega (arith, as_many ps w a) in
+    counts_push 0 ps (r, q) counts (told (made 1 ps) after (0 + length (accepted ps)) r q many f)
+
 -- after one more exchange
 pub record Stepped (ps : List Exchange) (r : Request) (q : Reply) (after : List Entry) : Type 0 where
   pub ran : RanAlone 1 (ps ++ (r, q) ∷ [])
   pub made_is : made 1 (ps ++ (r, q) ∷ []) ≡ after
   pub plain : Plain (ps ++ (r, q) ∷ [])
+  pub counts : TellsCounts 0 (ps ++ (r, q) ∷ [])
   pub going : is_quit r ≡ false → (next : Walk) × RunsAlone 1 (ps ++ (r, q) ∷ []) next
 
 -- the list is as the exchange makes it, and the session goes on
-goes : (ps : List Exchange) (next : Walk) (r : Request) (q : Reply) (after : List Entry) → Plain ps → comes_in_run q ≡ true
+goes : (ps : List Exchange) (next : Walk) (r : Request) (q : Reply) (after : List Entry) → Plain ps → comes_in_run q ≡ true → TellsCounts 0 (ps ++ (r, q) ∷ [])
     → after ≡ made 1 ps ++ entry_made 1 (length (made 1 ps)) (r, q) → RunsAlone 1 (ps ++ (r, q) ∷ []) next → Stepped ps r q after
-goes ps next r q after p plain is a = record {
+goes ps next r q after p plain counts is a = record {
   ran = alone_ran 1 (ps ++ (r, q) ∷ []) next a;
   made_is = made-snoc 1 ps (r, q) ∙ sym is;
   plain = plain_push ps (r, q) p plain;
+  counts = counts;
   going = λ _. (next, a);
 }
 
 -- the list is as before, and the session goes on
-stays : (ps : List Exchange) (next : Walk) (r : Request) (q : Reply) (after : List Entry) → Plain ps → comes_in_run q ≡ true
+stays : (ps : List Exchange) (next : Walk) (r : Request) (q : Reply) (after : List Entry) → Plain ps → comes_in_run q ≡ true → TellsCounts 0 (ps ++ (r, q) ∷ [])
     → entry_made 1 (length (made 1 ps)) (r, q) ≡ [] → after ≡ made 1 ps → RunsAlone 1 (ps ++ (r, q) ∷ []) next → Stepped ps r q after
-stays ps next r q after p plain nothing is a = record {
+stays ps next r q after p plain counts nothing is a = record {
   ran = alone_ran 1 (ps ++ (r, q) ∷ []) next a;
   made_is = made_kept 1 ps (r, q) nothing ∙ sym is;
   plain = plain_push ps (r, q) p plain;
+  counts = counts;
   going = λ _. (next, a);
 }
 
 -- over the list that the exchanges made
-step_alone : (ps : List Exchange) (w : Walk) (after : List Entry) (r : Request) (q : Reply) → RunsAlone 1 ps w → Plain ps → Replies (made 1 ps) r q after → Stepped ps r q after
-step_alone ps w after (refused r) (refusal q) a p f =
+step_alone : (ps : List Exchange) (w : Walk) (after : List Entry) (r : Request) (q : Reply) → RunsAlone 1 ps w → Plain ps → TellsCounts 0 (ps ++ (r, q) ∷ []) → Replies (made 1 ps) r q after → Stepped ps r q after
+step_alone ps w after (refused r) (refusal q) a p c f =
     subst (λ (x : Refusal). Stepped ps (refused r) (refusal x) after) (sym f.0)
-    (stays ps w (refused r) (refusal r) after p refl refl f.1 (alone_refused 1 ps w r a))
-step_alone ps w after (subscribe name conj) (ok n) a p f =
-    goes ps (having_seen n (having_changed n w)) (subscribe name conj) (ok n) after p refl f.1.1 (alone_subscribed 1 ps w name conj n a f.1.0 f.0)
-step_alone ps w after (subscribe name conj) (dup m id) a p f =
-    stays ps (having_seen m w) (subscribe name conj) (dup m id) after p refl refl f.2 (alone_dup 1 ps w name conj m id a f.0 f.1)
-step_alone ps w after (subscribe name conj) no_memory a p f =
-    stays ps w (subscribe name conj) no_memory after p refl refl f (alone_subscribe_no_memory 1 ps w name conj a)
-step_alone ps w after (unsubscribe name) (ok n) a p f =
-    goes ps (having_seen n (having_changed n w)) (unsubscribe name) (ok n) after p refl f.1.1 (alone_unsubscribed 1 ps w name n a f.1.0 f.0)
-step_alone ps w after (unsubscribe name) (none m) a p f =
-    stays ps (having_seen m w) (unsubscribe name) (none m) after p refl refl f.2 (alone_none 1 ps w name m a f.0 f.1)
-step_alone ps w after (unsubscribe name) no_memory a p f =
-    stays ps w (unsubscribe name) no_memory after p refl refl f (alone_unsubscribe_no_memory 1 ps w name a)
-step_alone ps w after (publish e) (hit n names) a p f =
-    stays ps (having_seen n w) (publish e) (hit n names) after p refl refl f.2 (alone_hit 1 ps w e n names a f.0 f.1)
-step_alone ps w after (publish e) no_memory a p f =
-    stays ps w (publish e) no_memory after p refl refl f (alone_publish_no_memory 1 ps w e a)
-step_alone ps w after listing (listed n names) a p f =
-    stays ps (having_seen n w) listing (listed n names) after p refl refl f.2 (alone_listed 1 ps w n names a f.0 f.1)
-step_alone ps w after listing no_memory a p f =
-    stays ps w listing no_memory after p refl refl f (alone_listing_no_memory 1 ps w a)
-step_alone ps w after quit (bye n) a p f = record {
+    (stays ps w (refused r) (refusal r) after p refl (subst (λ (x : Refusal). TellsCounts 0 (ps ++ (refused r, refusal x) ∷ [])) f.0 c) refl f.1 (alone_refused 1 ps w r a))
+step_alone ps w after (subscribe name conj) (ok n) a p c f =
+    goes ps (having_seen n (having_changed n w)) (subscribe name conj) (ok n) after p refl c f.1.1 (alone_subscribed 1 ps w name conj n a f.1.0 f.0)
+step_alone ps w after (subscribe name conj) (dup m id) a p c f =
+    stays ps (having_seen m w) (subscribe name conj) (dup m id) after p refl c refl f.2 (alone_dup 1 ps w name conj m id a f.0 f.1)
+step_alone ps w after (subscribe name conj) no_memory a p c f =
+    stays ps w (subscribe name conj) no_memory after p refl c refl f (alone_subscribe_no_memory 1 ps w name conj a)
+step_alone ps w after (unsubscribe name) (ok n) a p c f =
+    goes ps (having_seen n (having_changed n w)) (unsubscribe name) (ok n) after p refl c f.1.1 (alone_unsubscribed 1 ps w name n a f.1.0 f.0)
+step_alone ps w after (unsubscribe name) (none m) a p c f =
+    stays ps (having_seen m w) (unsubscribe name) (none m) after p refl c refl f.2 (alone_none 1 ps w name m a f.0 f.1)
+step_alone ps w after (unsubscribe name) no_memory a p c f =
+    stays ps w (unsubscribe name) no_memory after p refl c refl f (alone_unsubscribe_no_memory 1 ps w name a)
+step_alone ps w after (publish e) (hit n names) a p c f =
+    stays ps (having_seen n w) (publish e) (hit n names) after p refl c refl f.2 (alone_hit 1 ps w e n names a f.0 f.1)
+step_alone ps w after (publish e) no_memory a p c f =
+    stays ps w (publish e) no_memory after p refl c refl f (alone_publish_no_memory 1 ps w e a)
+step_alone ps w after listing (listed n names) a p c f =
+    stays ps (having_seen n w) listing (listed n names) after p refl c refl f.2 (alone_listed 1 ps w n names a f.0 f.1)
+step_alone ps w after listing no_memory a p c f =
+    stays ps w listing no_memory after p refl c refl f (alone_listing_no_memory 1 ps w a)
+step_alone ps w after quit (bye n) a p c f = record {
   ran = alone_bye 1 ps w n a f.0;
   made_is = made-snoc 1 ps (quit, bye n) ∙ sym f.1;
   plain = plain_push ps (quit, bye n) p refl;
+  counts = c;
   going = λ e. absurd cc;
 }
-step_alone ps w after quit no_memory a p f = record {
+step_alone ps w after quit no_memory a p c f = record {
   ran = alone_quit_no_memory 1 ps w a;
   made_is = made_kept 1 ps (quit, no_memory) refl ∙ sym f;
   plain = plain_push ps (quit, no_memory) p refl;
+  counts = c;
   going = λ e. absurd cc;
 }
-step_alone ps w after _ _ a p f = absurd f
+step_alone ps w after _ _ a p c f = absurd f
 
 -- one more exchange that fits the list
 pub tie_step : (ps : List Exchange) (w : Walk) (h after : List Entry) (r : Request) (q : Reply) → Ties ps w h → Replies h r q after → Stepped ps r q after
 tie_step ps w h after r q t f =
-    step_alone ps w after r q t.alone t.plain (subst (λ (l : List Entry). Replies l r q after) (sym t.made_is) f)
+    let fits : Replies (made 1 ps) r q after = subst (λ (l : List Entry). Replies l r q after) (sym t.made_is) f in
+    step_alone ps w after r q t.alone t.plain (counts_step ps w after r q t.alone t.counts fits) fits
 
 -- the session goes on after it
 pub tie_next : (ps : List Exchange) (r : Request) (q : Reply) (after : List Entry) → is_quit r ≡ false → Stepped ps r q after → (next : Walk) × Ties (ps ++ (r, q) ∷ []) next after
 tie_next ps r q after goes_on s =
-    let on = s.going goes_on in (on.0, record { alone = on.1; made_is = s.made_is; plain = s.plain })
+    let on = s.going goes_on in (on.0, record { alone = on.1; made_is = s.made_is; plain = s.plain; counts = s.counts })

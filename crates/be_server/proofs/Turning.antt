@@ -13,13 +13,13 @@ use Rattle.be_change.specs.Requests.{Request, refused, subscribe, unsubscribe, p
 use Rattle.be_model.specs.Schemas.{Attributes}
 use Rattle.be_transcript.specs.Readings.{reading}
 use Rattle.be_transcript.specs.Replies.{reply_text}
-use Rattle.be_transcript.specs.Transcript.{line_limit}
+use Rattle.be_transcript.specs.Transcript.{line_limit, is_quit}
 use Rattle.be_server.specs.Asked.{TakesMemory}
 use Rattle.be_server.specs.declared.session.SessionEnd.TheVariants as ends
 use Rattle.be_server.specs.declared.session.Turn.{Turn}
 use Rattle.be_server.specs.declared.session.Turn.TheVariants.{Next, Over, AfterQuit}
 use Rattle.be_server.specs.Ends.{turn_after, turn_after_quit}
-use Rattle.be_server.specs.Given.{Replies, is_quit}
+use Rattle.be_server.specs.Given.{Replies}
 use Rattle.be_server.specs.Turns.{TurnState, IsReading, IsFirstLine, TookLine, Answered, TurnsAfter, Turned}
 use Rattle.be_server.specs.Wrote.{SinkState, Wrote}
 

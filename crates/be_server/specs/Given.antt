@@ -24,7 +24,3 @@ Replies h listing no_memory after = after ≡ h
 Replies h quit (bye n) after = Grows h quit n after
 Replies h quit no_memory after = after ≡ h
 Replies h _ _ after = ⊥
-
-abbrev pub is_quit : Request → Bool
-is_quit quit = true
-is_quit _ = false

@@ -10,7 +10,7 @@ use Rattle.be_change.specs.Made.{made}
 use Rattle.be_change.specs.Requests.{Exchange}
 use Rattle.be_change.specs.Walk.{Walk}
 use Rattle.be_transcript.specs.Readings.{reading}
-use Rattle.be_transcript.specs.Transcript.{line_limit, requests, texts, IsRunTranscript, IsCutTranscript, EndsWithQuit, ReadToEnd, ReadInPart, ReadFirstLines}
+use Rattle.be_transcript.specs.Transcript.{line_limit, requests, texts, IsRunTranscript, IsCutTranscript, HasNoQuit, EndsWithQuit, ReadToEnd, ReadInPart, ReadFirstLines}
 use Rattle.be_server.specs.declared.session.SessionEnd.{SessionEnd}
 use Rattle.be_server.specs.declared.session.SessionEnd.TheVariants as ends
 use Rattle.be_server.specs.Ties.{Ties}
@@ -38,6 +38,7 @@ pub record IsServing (s : Attributes) (source : SourceState) (sink : SinkState) 
   pub done : List TextLine
   pub ties : Ties ps walk now.list
   pub asked : requests ps ≡ map (reading s) done
+  pub no_quit : HasNoQuit s done
   pub written : HoldsMore sink.held now.sink.held (texts ps)
   pub quiet : now.sink.faults ≡ sink.faults
   pub sound : now.source.faults ≡ source.faults
@@ -56,9 +57,10 @@ abbrev pub Leaves : Bool → List Entry → List Entry → Type 0
 Leaves true before after = after ≡ before
 Leaves false before after = (after ≡ before) ⊎ (after ≡ before ++ left 1 (length before) ∷ [])
 
+-- the last line alone is a QUIT, or none is
 abbrev pub QuitsAtEnd : Bool → Attributes → List TextLine → Type 0
 QuitsAtEnd true s ls = EndsWithQuit s ls
-QuitsAtEnd false s ls = Unit {0}
+QuitsAtEnd false s ls = HasNoQuit s ls
 
 -- out is the transcript of these lines, and h is the list that they made, after the session has left
 pub record RanWhole (s : Attributes) (ls : List TextLine) (quits : Bool) (h : List Entry) (out : List ℕ) : Type 0 where

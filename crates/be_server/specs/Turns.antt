@@ -11,11 +11,11 @@ use Rattle.be_model.specs.Schemas.{Attributes}
 use Rattle.be_change.specs.Requests.{Request, Reply}
 use Rattle.be_transcript.specs.Readings.{reading}
 use Rattle.be_transcript.specs.Replies.{reply_text}
-use Rattle.be_transcript.specs.Transcript.{line_limit, read_ahead}
+use Rattle.be_transcript.specs.Transcript.{line_limit, is_quit, read_ahead}
 use Rattle.be_server.specs.declared.session.Turn.{Turn}
 use Rattle.be_server.specs.declared.session.Turn.TheVariants as turns
 use Rattle.be_server.specs.declared.session.SessionEnd.TheVariants as ends
-use Rattle.be_server.specs.Given.{Replies, is_quit}
+use Rattle.be_server.specs.Given.{Replies}
 use Rattle.be_server.specs.Wrote.{SinkState, Wrote}
 
 -- a request was given a reply that fits the list of changes, as far as the sink took it

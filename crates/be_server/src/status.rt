@@ -29,7 +29,7 @@ pub struct Shade {
 /// How the program ended.
 #[derive(Clone, Copy, Debug, PartialEq, Eq)]
 pub enum Status {
-    /// Each input was read to its end.
+    /// Each input was read, to its end or to a QUIT.
     Done,
     /// The words have no reading.
     Words,

@@ -138,14 +138,14 @@ impl Subscriptions {
         ensures removed { OnOk result (self.new ≡ self.old ++ change_named 1 (length self.old) (asked.unsubscribe name)) }
         ensures refused { OnErr result (self.new ≡ self.old) }
     {
-        let change = Change::Unsub {
+        let removal = Change::Unsub {
             session: SESSION,
             serial: self.log.len(),
             name,
         };
-        let change = shared(alloc, change)?;
+        let removal = shared(alloc, removal)?;
         self.log.reserve(1)?;
-        append(&mut self.log, change);
+        append(&mut self.log, removal);
         drop_name(&mut self.register, &name);
         drop_row(&mut self.rows, id.0);
         Ok(())
@@ -168,13 +168,13 @@ impl Subscriptions {
         ensures closed { OnOk result (self.new ≡ self.old ++ change_named 1 (length self.old) asked.quit) }
         ensures refused { OnErr result (self.new ≡ self.old) }
     {
-        let change = Change::Bye {
+        let bye = Change::Bye {
             session: SESSION,
             serial: self.log.len(),
         };
-        let change = shared(alloc, change)?;
+        let bye = shared(alloc, bye)?;
         self.log.reserve(1)?;
-        append(&mut self.log, change);
+        append(&mut self.log, bye);
         drop_names(&mut self.register);
         drop_rows(&mut self.rows);
         Ok(())

@@ -1,12 +1,12 @@
 -- Which bytes a session may be given for its lines.
-use Rattle.std.specs.Prelude.{◌≡◌, ℕ, ◌<◌, ◌≤◌, Bool, true, false, List, [], ◌∷◌, ◌++◌, length, map, Option}
+use Rattle.std.specs.Prelude.{◌≡◌, ℕ, ◌+◌, ◌<◌, ◌≤◌, Bool, true, false, not, List, [], ◌∷◌, ◌++◌, length, map, Option, Some, None}
 use Rattle.std.specs.List.{flat_map, list_all}
 use Rattle.be_io.specs.Told.{WhereTold}
 use Rattle.be_io.specs.Lines.{TextLine, lines}
 use Rattle.be_model.specs.Schemas.{Attributes}
 use Rattle.be_change.specs.History.{Entry, IsWellFormed}
-use Rattle.be_change.specs.Requests.{Request, quit, Reply, held, other, split, shut, Exchange}
-use Rattle.be_change.specs.Walk.{IsLegalSession}
+use Rattle.be_change.specs.Requests.{Request, quit, Reply, ok, held, bye, dup, none, other, hit, listed, split, shut, Exchange}
+use Rattle.be_change.specs.Walk.{IsLegalSession, accepted}
 use Rattle.be_change.specs.Made.{made}
 use Rattle.be_transcript.specs.Readings.{reading}
 use Rattle.be_transcript.specs.Replies.{reply_text}
@@ -44,11 +44,33 @@ comes_in_run (split a b) = false
 comes_in_run shut = false
 comes_in_run _ = true
 
+-- the length of the list of changes that a reply tells
+abbrev pub length_told : Reply → Option ℕ
+length_told (ok n) = Some n
+length_told (held n) = Some n
+length_told (bye n) = Some n
+length_told (dup m id) = Some m
+length_told (none m) = Some m
+length_told (other m id) = Some m
+length_told (hit n names) = Some n
+length_told (listed n names) = Some n
+length_told _ = None
+
+abbrev pub IsTold : ℕ → Option ℕ → Type 0
+IsTold n (Some m) = m ≡ n
+IsTold n None = Unit {0}
+
+-- after n accepted changes, each reply tells exactly how many changes were accepted so far, its own with them
+abbrev pub TellsCounts : ℕ → List Exchange → Type 0
+TellsCounts n [] = Unit {0}
+TellsCounts n (p ∷ ps) = IsTold (n + length (accepted (p ∷ []))) (length_told p.1) × TellsCounts (n + length (accepted (p ∷ []))) ps
+
 -- the exchanges of a run with one session, number 1, over the list that they make
 pub record AreRun (s : Attributes) (ls : List TextLine) (ps : List Exchange) : Type 0 where
   pub exchanges : AreExchanges s 1 (made 1 ps) ls ps
   pub formed : IsWellFormed (made 1 ps)
   pub plain : list_all (λ (p : Exchange). comes_in_run p.1) ps ≡ true
+  pub counts : TellsCounts 0 ps
 
 -- out is the legal transcript of the lines by these exchanges, over the list that they make
 pub record IsRunTranscript (s : Attributes) (ls : List TextLine) (ps : List Exchange) (out : List ℕ) : Type 0 where
@@ -63,9 +85,17 @@ pub record IsCutTranscript (s : Attributes) (ls : List TextLine) (ps : List Exch
   pub is_text : texts (ps ++ last ∷ []) ≡ out ++ missing
   pub whole : BeginsWith out (texts ps)
 
--- the last of these lines is a QUIT
+abbrev pub is_quit : Request → Bool
+is_quit quit = true
+is_quit _ = false
+
+-- none of these lines is a QUIT
+abbrev pub HasNoQuit : Attributes → List TextLine → Type 0
+HasNoQuit s ls = list_all (λ (line : TextLine). not (is_quit (reading s line))) ls ≡ true
+
+-- the last of these lines is a QUIT, and no line before it is one
 abbrev pub EndsWithQuit : Attributes → List TextLine → Type 0
-EndsWithQuit s ls = (front : List TextLine) × (last : TextLine) × (ls ≡ front ++ last ∷ []) × (reading s last ≡ quit)
+EndsWithQuit s ls = (front : List TextLine) × (last : TextLine) × (ls ≡ front ++ last ∷ []) × HasNoQuit s front × (reading s last ≡ quit)
 
 -- the bytes of a session's line before its LF
 abbrev pub line_limit : ℕ
