@@ -77,7 +77,6 @@ fn main(rt: HostRuntime) -> ExitCode {
     ExitCode::from(0)
 }
 PROGRAM
-sed -i 's/use std::alloc::Global;/use std::alloc::Global;/' "$room/crates/conditions/src/main.rt"
 (cd "$room/crates/conditions" && rt run -- 0 all) >"$room/built" 2>&1 || { tail -n 20 "$room/built"; exit 1; }
 
 # measure WORDS: the least seconds of processor time of five runs that read the words 100,000 times
