@@ -1,5 +1,5 @@
 -- Readings of lines and texts of replies, by computation.
-use Rattle.std.proofs.Common.{◌≡◌, [], ◌∷◌, pos, negsuc, true, false, refl, codes}
+use Rattle.std.proofs.Common.{◌≡◌, [], ◌∷◌, pos, negsuc, true, false, refl, codes, arith}
 use Rattle.std.specs.Fmt.{digits}
 use Rattle.be_base.specs.Text.{is_word_byte}
 use Rattle.be_io.specs.Lines.{text, long, lines}
@@ -10,6 +10,7 @@ use Rattle.be_change.specs.Requests.{refused, subscribe, unsubscribe, publish, l
 use Rattle.be_change.specs.Requests as asked
 use Rattle.be_transcript.specs.Readings.{reading}
 use Rattle.be_transcript.specs.Replies.{reply_text}
+use Rattle.be_transcript.specs.Transcript.{TellsCounts, HasNoQuit, EndsWithQuit}
 
 abbrev example : Attributes
 example =
@@ -133,3 +134,26 @@ a_line_with_cr = refl
 
 rest_is_no_line : lines 4 false (codes "ab\nx") ≡ text (codes "ab") ∷ []
 rest_is_no_line = refl
+
+counted : TellsCounts 0 ((subscribe (codes "a") [], ok 1) ∷ (refused bad, refusal bad) ∷ (listing, listed 1 (codes "a" ∷ [])) ∷ (quit, bye 2) ∷ [])
+counted = (refl, (tt, (refl, (refl, tt))))
+
+-- a LIST that leaves out the change before it
+counted_too_few : TellsCounts 0 ((subscribe (codes "a") [], ok 1) ∷ (listing, listed 0 []) ∷ []) → ⊥
+counted_too_few counts = omega (arith, counts.1.0)
+
+-- an OK that tells its place
+counted_from_nothing : TellsCounts 0 ((subscribe (codes "a") [], ok 0) ∷ []) → ⊥
+counted_from_nothing counts = omega (arith, counts.0)
+
+a_quit_at_the_end : EndsWithQuit example (text (codes "LIST") ∷ text (codes "QUIT") ∷ [])
+unfolding is_word_byte
+a_quit_at_the_end = (text (codes "LIST") ∷ [], text (codes "QUIT"), refl, refl, refl)
+
+no_quit : HasNoQuit example (text (codes "QUIT now") ∷ text [] ∷ long 70000 ∷ [])
+unfolding is_word_byte
+no_quit = refl
+
+a_quit_among_them : HasNoQuit example (text (codes "QUIT") ∷ text (codes "LIST") ∷ []) → ⊥
+unfolding is_word_byte
+a_quit_among_them free = absurd cc
