@@ -1,13 +1,8 @@
 #!/usr/bin/env bash
 # Prints the time of SUBs, of as many UNSUBs in a mixed order, and of LISTs of all names, and how each grows at
 # twice as many. No part of the gate.
-set -u
-here="$(cd "$(dirname "${BASH_SOURCE[0]}")" && pwd)"
-room="$(mktemp -d)"
-trap 'rm -rf "$room"' EXIT
-"$here/../justmeadow" >/dev/null 2>&1
-[ $? -eq 2 ] || { echo "the program can't be run"; exit 1; }
-program="$here/../crates/justmeadow/out/justmeadow"
+. "$(dirname "${BASH_SOURCE[0]}")/common.sh"
+use_program
 printf 'int price 0 1000\nsym side buy sell\n' >"$room/schema.txt"
 
 # script SUBS UNSUBS LISTS

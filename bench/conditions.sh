@@ -1,18 +1,8 @@
 #!/usr/bin/env bash
 # Prints the time of reading 100,000 conditions of four predicates, and how much longer a set of 64 values takes than
 # one of a single value. It builds, and so proves, a program of its own. No part of the gate.
-set -u
-top="$(cd "$(dirname "${BASH_SOURCE[0]}")/.." && pwd)"
-room="$(mktemp -d)"
-trap 'rm -rf "$room"' EXIT
-[ -x /usr/bin/time ] || { echo "there is no /usr/bin/time"; exit 1; }
-mkdir -p "$room/crates/conditions/src"
-cp "$top/HANDLES" "$room"
-for crate in be_base be_model be_expr; do
-    tar -C "$top/crates" --exclude=out -cf - "$crate" | tar -C "$room/crates" -xf -
-    grep "^$crate:" "$top/crates.txt" >>"$room/crates.txt"
-done
-echo 'conditions: be_base be_model be_expr' >>"$room/crates.txt"
+. "$(dirname "${BASH_SOURCE[0]}")/common.sh"
+own_crate conditions be_base be_model be_expr
 cat >"$room/crates/conditions/src/main.rt" <<'PROGRAM'
 //! Reads the condition that its words after the first are, as often as the first says, and prints how often it was one.
 #![tactic(auto)]
@@ -77,7 +67,7 @@ fn main(rt: HostRuntime) -> ExitCode {
     ExitCode::from(0)
 }
 PROGRAM
-(cd "$room/crates/conditions" && rt run -- 0 all) >"$room/built" 2>&1 || { tail -n 20 "$room/built"; exit 1; }
+build_own conditions 0 all
 
 # measure WORDS: the least seconds of processor time of five runs that read the words 100,000 times
 measure() {

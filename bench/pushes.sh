@@ -1,18 +1,8 @@
 #!/usr/bin/env bash
 # Prints the time and the memory of pushing removals onto the list of changes, whose entries are the longest,
 # at 1,000,000 and at 2,000,000 pushes. It builds, and so proves, a program of its own. No part of the gate.
-set -u
-top="$(cd "$(dirname "${BASH_SOURCE[0]}")/.." && pwd)"
-room="$(mktemp -d)"
-trap 'rm -rf "$room"' EXIT
-[ -x /usr/bin/time ] || { echo "there is no /usr/bin/time"; exit 1; }
-mkdir -p "$room/crates/pushes/src"
-cp "$top/HANDLES" "$room"
-for crate in be_base be_model be_change; do
-    tar -C "$top/crates" --exclude=out -cf - "$crate" | tar -C "$room/crates" -xf -
-    grep "^$crate:" "$top/crates.txt" >>"$room/crates.txt"
-done
-echo 'pushes: be_base be_model be_change' >>"$room/crates.txt"
+. "$(dirname "${BASH_SOURCE[0]}")/common.sh"
+own_crate pushes be_base be_model be_change
 cat >"$room/crates/pushes/src/main.rt" <<'PROGRAM'
 //! Pushes as many removals as its last word says, and prints how many the list has.
 #![tactic(auto)]
@@ -64,7 +54,7 @@ fn main(rt: HostRuntime) -> ExitCode {
     ExitCode::from(0)
 }
 PROGRAM
-(cd "$room/crates/pushes" && rt run -- 0) >"$room/built" 2>&1 || { tail -n 20 "$room/built"; exit 1; }
+build_own pushes 0
 
 # measure PUSHES: the least seconds of processor time of five runs, and the most memory in kB
 measure() {

@@ -1,16 +1,11 @@
 #!/usr/bin/env bash
 # Prints lines per second and peak memory of `run` for 1,000 subscriptions and 20,000 events on one core,
 # and how the time grows at twice the subscriptions and at twice the events. No part of the gate.
-set -u
-here="$(cd "$(dirname "${BASH_SOURCE[0]}")" && pwd)"
-room="$(mktemp -d)"
-trap 'rm -rf "$room"' EXIT
-"$here/../justmeadow" >/dev/null 2>&1
-[ $? -eq 2 ] || { echo "the program can't be run"; exit 1; }
-program="$here/../crates/justmeadow/out/justmeadow"
+. "$(dirname "${BASH_SOURCE[0]}")/common.sh"
+use_program
 pin=()
 ! taskset -c 0 true 2>/dev/null || pin=(taskset -c 0)
-awk -v what=schema -f "$here/workload.awk" >"$room/schema.txt"
+awk -v what=schema -f "$top/bench/workload.awk" >"$room/schema.txt"
 
 serve() {
     "${pin[@]}" "$program" run "$room/schema.txt" <"$room/script.txt" >"$room/out.txt"
@@ -18,7 +13,7 @@ serve() {
 
 # measure SUBS EVENTS: the least seconds of processor time of nine runs
 measure() {
-    awk -v what=script -v subs="$1" -v events="$2" -f "$here/workload.awk" >"$room/script.txt"
+    awk -v what=script -v subs="$1" -v events="$2" -f "$top/bench/workload.awk" >"$room/script.txt"
     local TIMEFORMAT='%3U %3S'
     for _ in 1 2 3 4 5 6 7 8 9; do
         { time serve; } 2>&1

@@ -1,13 +1,8 @@
 #!/usr/bin/env bash
 # Prints the time of reading the greatest schema, 256 attributes of 4,096 symbols each, of half of it, and of a schema
 # whose one line has more symbols than it may. No part of the gate.
-set -u
-here="$(cd "$(dirname "${BASH_SOURCE[0]}")" && pwd)"
-room="$(mktemp -d)"
-trap 'rm -rf "$room"' EXIT
-"$here/../justmeadow" >/dev/null 2>&1
-[ $? -eq 2 ] || { echo "the program can't be run"; exit 1; }
-program="$here/../crates/justmeadow/out/justmeadow"
+. "$(dirname "${BASH_SOURCE[0]}")/common.sh"
+use_program
 
 # schema ATTRIBUTES SYMBOLS
 schema() {

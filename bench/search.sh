@@ -2,18 +2,9 @@
 # Prints the time of 20,000,000 searches of a tree with 4, 8 and 16 rows at its root, each of which is tested and not
 # found, beyond the time of as many searches without a row. It builds, and so proves, a program of its own. No part of
 # the gate.
-set -u
-top="$(cd "$(dirname "${BASH_SOURCE[0]}")/.." && pwd)"
-room="$(mktemp -d)"
-trap 'rm -rf "$room"' EXIT
-[ -x /usr/bin/time ] || { echo "there is no /usr/bin/time"; exit 1; }
-mkdir -p "$room/crates/search/src" "$room/crates/search/proofs/fill" "$room/crates/search/specs"
-cp "$top/HANDLES" "$room"
-for crate in be_base be_model be_shape be_match; do
-    tar -C "$top/crates" --exclude=out -cf - "$crate" | tar -C "$room/crates" -xf -
-    grep "^$crate:" "$top/crates.txt" >>"$room/crates.txt"
-done
-echo 'search: be_base be_model be_shape be_match' >>"$room/crates.txt"
+. "$(dirname "${BASH_SOURCE[0]}")/common.sh"
+own_crate search be_base be_model be_shape be_match
+mkdir -p "$room/crates/search/proofs/fill" "$room/crates/search/specs"
 cat >"$room/crates/search/src/main.rt" <<'PROGRAM'
 //! Searches a tree of as many rows as its last word says twenty million times, and prints how many rows were tested.
 #![tactic(auto)]
@@ -183,7 +174,7 @@ loop-id-preserved c =
       subst (AllBelow (c.loop-id.id + 1)) (sym e.contents) (one_more c.loop-id.id (arc_value c.in_ok-row.row) (contents n) c.in_ok-row.ensures c.loop-id.invariant.2),
     )
 PROOF
-(cd "$room/crates/search" && rt run -- 0) >"$room/built" 2>&1 || { tail -n 20 "$room/built"; exit 1; }
+build_own search 0
 
 # measure ROWS: the least seconds of processor time of five runs
 measure() {
