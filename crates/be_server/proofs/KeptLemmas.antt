@@ -23,7 +23,7 @@ use Rattle.be_change.proofs.Free.{unsub_frees, name_at_one}
 use Rattle.be_change.proofs.Grows.{live-append, live_below, rising_live}
 use Rattle.be_change.proofs.Alone.{entries_snoc, owned_name}
 use Rattle.be_change.proofs.Forms.{formed_append}
-use Rattle.be_server.specs.Kept.{id_of_row, id_named, row_made, IsKept}
+use Rattle.be_server.specs.Subscriptions.{id_of_row, id_named, row_made, IsKept}
 
 abbrev first : Option Id → Option Id → Option Id
 first None y = y
@@ -70,6 +70,10 @@ some_has name (r ∷ l) id rising e = step (has_name name r) refl e (λ rest. so
         let is : id_of_row r ≡ id = cc in
         found_here r l id.0 name (sym same) (ap (λ (x : Id). x.0) is)
     step false same e rest = found_later r l id.0 name rising (rest e)
+
+-- so the name is live
+pub live_name : (name : Text) (l : Live) (id : Id) → Rising l → id_named name l ≡ Some id → is_live_name name l ≡ true
+live_name name l id rising e = found_live l id.0 name (some_has name l id rising e)
 
 -- a new row's name in the register
 pub registered_sub : (name q : Text) (l : Live) (r : ℕ × Row) (old : Option Id) → r.1.name ≡ name → id_named name l ≡ None → old ≡ id_named q l
@@ -203,7 +207,7 @@ pub kept_unsubscribed : {Z : Type 0} (h h' : List Entry) (es es' : List (ℕ × 
     → IsKept h' (live_in es') reg'
 kept_unsubscribed h h' es es' reg reg' name id k going there grown dropped registers =
     let e : Entry = unsubscribed 1 (length h) name in
-    let here : is_live_name name (live h) ≡ true = found_live (live h) id.0 name (some_has name (live h) id (rising_live h) there) in
+    let here : is_live_name name (live h) ≡ true = live_name name (live h) id (rising_live h) there in
     let may : MayFollow h e = record { serial = next_serial h k.alone; present = going; allowed = owned_name 1 name (live h) k.owned here } in
     let o : LosesOne (live h) (live (h ++ e ∷ [])) 1 name = unsub_loses_one h 1 (length h) name k.formed may in
     let gone : is_live_name name (live (h ++ e ∷ [])) ≡ false = unsub_frees h 1 (length h) name k.formed may in

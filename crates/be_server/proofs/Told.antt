@@ -6,10 +6,10 @@ use Rattle.be_transcript.specs.Replies.{reply_text}
 use Rattle.be_io.specs.declared.faults.SinkFault.{SinkFault}
 use Rattle.be_server.specs.declared.naming.Wanted.{Wanted}
 use Rattle.be_server.specs.declared.naming.Wanted.TheVariants.{SatisfiedBy, Own}
-use Rattle.be_server.specs.Given.{Replies}
-use Rattle.be_server.specs.Turns.{Answered}
-use Rattle.be_server.specs.Wanting.{names_wanted, naming, asking}
-use Rattle.be_server.specs.Wrote.{SinkState, Wrote}
+use Rattle.be_server.specs.Subscriptions.{Replies}
+use Rattle.be_server.specs.Session.{Answered}
+use Rattle.be_server.specs.Naming.{names_wanted, naming, asking}
+use Rattle.be_io.specs.Sink.{SinkState, Wrote}
 
 fits : (h : List Entry) (w : Wanted) → Replies h (asking w) (naming w (length h) (names_wanted w (live h))) h
 fits h (SatisfiedBy e) = (refl, refl, refl)

@@ -6,7 +6,7 @@ ghost use Rattle.be_io.specs.Lines as line;
 ghost use Rattle.be_transcript.specs.Readings.{reading, subscription, removal, publication, alone, expr_refusal, event_refusal};
 ghost use Rattle.be_expr.specs.Expressions.{IsKnown as IsKnownExpr};
 ghost use Rattle.be_event.specs.Events.{IsKnown as IsKnownEvent};
-ghost use Rattle.be_server.specs.Asked.{Reads, plain_request, Refuses};
+ghost use Rattle.be_server.specs.Requests.{Reads, plain_request, Refuses};
 
 use be_base::{AttrNo, Name, NoMemory, Scan, Token, next_token};
 use be_event::{EventFault, read_event};

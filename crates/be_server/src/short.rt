@@ -2,8 +2,8 @@
 
 ghost use Rattle.std.specs.Prelude.{◌≡◌, ◌+◌, ◌≤◌, ◌++◌, [], length};
 ghost use Rattle.be_transcript.specs.Replies.{part, number, refusal_text, reply_text};
-ghost use Rattle.be_server.specs.Asked.{plain_refusal};
-ghost use Rattle.be_server.specs.Shorts.{plain_reply};
+ghost use Rattle.be_server.specs.Requests.{plain_refusal};
+ghost use Rattle.be_server.specs.Short.{plain_reply};
 
 use crate::requests::Refusal;
 use arrayvec::ArrayString;

@@ -12,10 +12,9 @@ ghost use Rattle.be_change.specs.Entries.{entry_of, live_in, most_entries, HasId
 ghost use Rattle.be_change.specs.History.{live, has_left, subscribed};
 ghost use Rattle.be_change.specs.Made.{change_named};
 ghost use Rattle.be_change.specs.Requests as asked;
-ghost use Rattle.be_server.specs.Given.{Replies};
-ghost use Rattle.be_server.specs.Kept.{id_named, row_made};
-ghost use Rattle.be_server.specs.Shorts.{plain_reply};
-ghost use Rattle.be_server.specs.Wanting.{names_wanted};
+ghost use Rattle.be_server.specs.Subscriptions.{id_named, row_made, Replies};
+ghost use Rattle.be_server.specs.Short.{plain_reply};
+ghost use Rattle.be_server.specs.Naming.{names_wanted};
 
 use crate::naming::{Wanted, push_part};
 use crate::short::Short;
@@ -49,7 +48,7 @@ impl Model for Subscriptions {
     ghost use Rattle.be_base.specs.Text.{same_text};
     ghost use Rattle.be_change.specs.Entries.{live_in};
     ghost use Rattle.indexmap.specs.IndexMap.{get};
-    ghost use Rattle.be_server.specs.Kept.{IsKept};
+    ghost use Rattle.be_server.specs.Subscriptions.{IsKept};
 
     ghost view = { λ s. s.log.list };
 
@@ -66,6 +65,13 @@ impl Subscriptions {
             rows: BTreeMap::new(alloc),
             register: IndexMap::new(alloc),
         }
+    }
+
+    /// The changes, in their order.
+    pub fn changes(&self) -> &ChangeLog
+        ensures { result.now.list ≡ self.now }
+    {
+        &self.log
     }
 
     /// How many changes there are.
@@ -205,7 +211,7 @@ fn new_row(alloc: Global, place: u64, name: Name, conj: Conj) -> Result<Arc<Row>
 fn subscription(alloc: Global, place: u64, row: &Arc<Row>) -> Result<Arc<Change>, NoMemory>
     ensures { IfOk result (λ change. entry_of (arc_value change) ≡ subscribed 1 place (arc_value row.now)) }
 {
-    let row = Arc::try_clone(row).map_err(|_| NoMemory)?;
+    let row = Arc::try_clone(row)?;
     let change = Change::Sub {
         session: SESSION,
         serial: place,
@@ -237,7 +243,8 @@ fn make_room(register: &mut IndexMap<Name, Id>) -> Result<(), NoMemory>
     ensures room { OnOk result (0 < spare register.new) }
     ensures same { register.new.entries ≡ register.old.entries }
 {
-    register.reserve(1).map_err(|_| NoMemory)
+    register.reserve(1)?;
+    Ok(())
 }
 
 // Puts a name into the register, for which there is room.

@@ -10,7 +10,7 @@ use Rattle.be_change.specs.Requests.{refused, subscribe, unsubscribe, publish, l
 use Rattle.be_change.specs.Requests as asked
 use Rattle.be_transcript.specs.Readings.{reading}
 use Rattle.be_transcript.specs.Replies.{reply_text}
-use Rattle.be_transcript.specs.Transcript.{TellsCounts, HasNoQuit, EndsWithQuit}
+use Rattle.be_transcript.specs.Runs.{TellsCounts, RemovalsMayWant, HasNoQuit, EndsWithQuit}
 
 abbrev example : Attributes
 example =
@@ -157,3 +157,10 @@ no_quit = refl
 a_quit_among_them : HasNoQuit example (text (codes "QUIT") ∷ text (codes "LIST") ∷ []) → ⊥
 unfolding is_word_byte
 a_quit_among_them free = absurd cc
+
+-- an UNSUB of a live name for which memory was wanting, and one of a name that isn't live
+wanted : RemovalsMayWant [] ((subscribe (codes "a") [], ok 1) ∷ (unsubscribe (codes "a"), no_memory) ∷ [])
+wanted = (tt, (refl, tt))
+
+wanted_for_nothing : RemovalsMayWant [] ((subscribe (codes "a") [], ok 1) ∷ (unsubscribe (codes "b"), no_memory) ∷ []) → ⊥
+wanted_for_nothing wants = absurd cc
