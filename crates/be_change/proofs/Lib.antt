@@ -7,3 +7,4 @@ pub mod Places
 pub mod Examples
 pub mod Free
 pub mod Walks
+pub mod Boxes

@@ -5,10 +5,10 @@ use Rattle.std.specs.declared.sync.Arc.{Arc}
 use Rattle.be_model.specs.declared.changes.Change.{Change}
 use Rattle.be_model.specs.declared.changes.Row.{Row}
 pub use Rattle.be_model.specs.Entries.{entry_of}
-use Rattle.be_change.specs.History.{Entry, subscribed, unsubscribed, left, Live}
+use Rattle.be_change.specs.History.{Entry, subscribed, unsubscribed, left, ByIds}
 
 -- rows by ids, as plain data
-abbrev pub live_in : {Z : Type 0} → List (ℕ × Arc Row Z) → Live
+abbrev pub live_in : {Z : Type 0} → List (ℕ × Arc Row Z) → ByIds
 live_in xs = map (λ (x : ℕ × Arc Row _). (x.0, arc_value x.1)) xs
 
 abbrev pub entries_in : {Z : Type 0} → List (Arc Change Z) → List Entry
