@@ -1,9 +1,9 @@
 -- A run with one session, whose list is an opening and then its own changes.
-use Rattle.std.specs.Prelude.{◌≡◌, ◌≢◌, ℕ, ◌+◌, ◌≤◌, ◌||◌, true, false, List, [], ◌∷◌, length}
+use Rattle.std.specs.Prelude.{◌≡◌, ◌≢◌, ℕ, ◌+◌, ◌≤◌, true, false, List, [], ◌∷◌, length}
 use Rattle.std.specs.List.{list_all}
 use Rattle.be_model.specs.declared.changes.Row.{Row}
 use Rattle.be_model.specs.Schemas.{Attributes}
-use Rattle.be_change.specs.History.{Entry, subscribed, is_of, ByIds, live, entries_of, has_left, places_of, IsWellFormed}
+use Rattle.be_change.specs.History.{Entry, subscribed, is_opening, ByIds, has_left, places_of, IsWellFormed}
 use Rattle.be_change.specs.Requests.{Exchange}
 use Rattle.be_change.specs.Walk.{Walk, beginning_at, IsLegal, IsLegalSession, accepted}
 use Rattle.be_change.specs.Made.{made, changes_made}
@@ -11,11 +11,10 @@ use Rattle.be_change.specs.Made.{made, changes_made}
 -- the session k goes on, after these exchanges, over the list that they made behind the opening
 pub record RunsAlone (s : Attributes) (opening : List Entry) (k : ℕ) (ps : List Exchange) (w : Walk) : Type 0 where
   pub session : k ≢ 0
+  pub opened : list_all is_opening opening ≡ true
   pub legal : IsLegal s k (made opening k ps) ps (beginning_at (length opening)) w
   pub formed : IsWellFormed (made opening k ps)
   pub only : places_of k (made opening k ps) ≡ accepted ps
-  pub alone : entries_of k (made opening k ps) ≡ changes_made k 0 (length opening) ps
-  pub owned : list_all (λ r. is_of 0 r || is_of k r) (live (made opening k ps)) ≡ true
   pub present : has_left k (made opening k ps) ≡ false
   pub seen : w.seen ≤ length (made opening k ps)
   pub own : w.own ≤ length (made opening k ps)

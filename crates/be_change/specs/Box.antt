@@ -1,16 +1,13 @@
 -- The letter box of a run with one session, beside its walk.
-use Rattle.std.specs.Prelude.{◌≡◌, ℕ, ◌+◌, ◌||◌, ◌≤◌, Bool, List, [], ◌∷◌, ◌++◌, length, take, drop, nat_le, if◌then◌else◌}
+use Rattle.std.specs.Prelude.{◌≡◌, ℕ, ◌+◌, ◌||◌, Bool, List, [], ◌∷◌, ◌++◌, length, take, drop, nat_le, if◌then◌else◌}
+use Rattle.be_base.specs.declared.limits.TheConstants.{BOX_LETTERS}
 use Rattle.be_model.specs.declared.changes.Row.{Row}
 use Rattle.be_model.specs.Matching.{Assignments}
 use Rattle.be_change.specs.History.{Entry, ByIds, is_of, hit_rows}
 use Rattle.be_change.specs.Requests.{Note, note, sending, fetching, sent, notes, Exchange}
 
--- no letter box holds more letters
-abbrev pub most_letters : ℕ
-most_letters = 1024
-
 abbrev pub is_full : List Note → Bool
-is_full box = nat_le most_letters (length box)
+is_full box = nat_le BOX_LETTERS (length box)
 
 -- the box after a letter to the row's session, which finds no place where the box is full or the row is of session 0
 abbrev pub with_letter : ℕ → Assignments → ℕ × Row → List Note → List Note

@@ -1,6 +1,7 @@
 -- The list of changes as plain data: what is live after it, and when it is well formed.
 use Rattle.std.specs.Prelude.{◌≡◌, ℕ, ◌+◌, ◌==◌, ◌&&◌, Bool, true, false, not, List, [], ◌∷◌, ◌++◌, length, map, filter, if◌then◌else◌}
 use Rattle.std.specs.List.{list_any, list_all}
+use Rattle.be_base.specs.declared.limits.TheConstants.{COUNT_END}
 pub use Rattle.be_base.specs.Text.{Text, same_text}
 pub use Rattle.be_model.specs.Entries.{Entry, subscribed, unsubscribed, left}
 use Rattle.be_model.specs.declared.changes.Row.{Row}
@@ -31,7 +32,7 @@ has_left k h = list_any (is_leave_of k) h
 
 -- where a session stands: how many entries it has, or 2^63 where it has left
 abbrev pub stand : ℕ → List Entry → ℕ
-stand k h = if has_left k h then 9223372036854775808 else length (entries_of k h)
+stand k h = if has_left k h then COUNT_END else length (entries_of k h)
 
 -- the places of one session's entries, where the list begins at this place
 abbrev pub places_from : ℕ → ℕ → List Entry → List ℕ

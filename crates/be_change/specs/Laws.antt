@@ -1,5 +1,6 @@
 -- What a reader may rely on of each list of changes.
 use Rattle.std.specs.Prelude.{◌≡◌, ℕ, ◌≤◌, ◌↔◌, true, List, [], ◌∷◌, ◌++◌, length, take, Some, slice_get}
+use Rattle.be_base.specs.declared.limits.TheConstants.{BOX_LETTERS}
 use Rattle.be_model.specs.Schemas.{Attributes}
 use Rattle.be_model.specs.Matching.{Assignments, satisfied}
 use Rattle.be_model.specs.ByIds.{rows_of}
@@ -7,7 +8,7 @@ use Rattle.be_change.specs.History.{Text, Entry, unsubscribed, left, session_of,
 use Rattle.be_change.specs.Requests.{Note, Exchange}
 use Rattle.be_change.specs.Walk.{Walk, IsLegal, IsLegalSession, names_of_session, live_rows}
 use Rattle.be_change.specs.LiveRows.{AllBelow, Rising, SayIds, all_differ, LosesOne}
-use Rattle.be_change.specs.Box.{most_letters, KeepsBox}
+use Rattle.be_change.specs.Box.{KeepsBox}
 
 -- a list is well formed exactly where each entry may follow those before it
 abbrev pub FormIsByPlace : Type 0
@@ -93,4 +94,4 @@ HitsAreSatisfied =
 -- a box never holds more letters than it may
 abbrev pub BoxIsWithin : Type 0
 BoxIsWithin =
-    (h : List Entry) (ps : List Exchange) (box box' : List Note) → KeepsBox h ps box box' → length box ≤ most_letters → length box' ≤ most_letters
+    (h : List Entry) (ps : List Exchange) (box box' : List Note) → KeepsBox h ps box box' → length box ≤ BOX_LETTERS → length box' ≤ BOX_LETTERS

@@ -1,8 +1,8 @@
 -- How live rows stand: by rising ids, with names that differ.
-use Rattle.std.specs.Prelude.{◌≡◌, ℕ, List, ◌∷◌, ◌++◌}
+use Rattle.std.specs.Prelude.{◌≡◌, ℕ, ◌∷◌, ◌++◌}
 use Rattle.be_model.specs.declared.changes.Row.{Row}
 pub use Rattle.be_model.specs.ByIds.{AllBelow, AllAbove, Rising, SayIds}
-pub use Rattle.be_model.specs.TextLists.{is_among_texts, all_differ}
+pub use Rattle.be_base.specs.TextLists.{is_among_texts, all_differ}
 use Rattle.be_change.specs.History.{Text, ByIds}
 
 -- the second list is the first without one row, which has this session and name

@@ -1,9 +1,8 @@
 -- Which replies one session may be given, line by line, over one list of changes. Nothing here is about bytes.
-use Rattle.std.specs.Prelude.{◌≡◌, ◌≢◌, ℕ, ◌+◌, ◌-◌, ◌<◌, ◌≤◌, ◌⊎◌, Bool, true, false, List, [], ◌∷◌, ◌++◌, length, take, drop, filter, All, Option, Some, slice_get}
+use Rattle.std.specs.Prelude.{◌≡◌, ◌≢◌, ℕ, ◌+◌, ◌-◌, ◌<◌, ◌≤◌, ◌⊎◌, Bool, true, false, List, [], ◌∷◌, ◌++◌, length, take, drop, filter, All, Some, slice_get}
 use Rattle.be_model.specs.declared.changes.Row.{Row}
-use Rattle.be_model.specs.declared.costs.Cost.{Cost}
 use Rattle.be_model.specs.Schemas.{Attributes}
-use Rattle.be_model.specs.Matching.{Assignments, satisfies}
+use Rattle.be_model.specs.Matching.{satisfies}
 use Rattle.be_model.specs.Bounds.{IsWithinBound}
 use Rattle.be_model.specs.ByIds.{ByIds, row_at, rows_of}
 use Rattle.be_change.specs.History.{Text, Entry, subscribed, unsubscribed, left, is_of, live, names_of, hits, places_of, is_live_name}

@@ -1,5 +1,5 @@
-use Rattle.be_change.proofs.Boxes.{letters_within}
+use Rattle.be_change.proofs.Boxes.{box_within}
 use Rattle.be_change.proofs.laws.box_is_within.Goals as goal
 
 pub returns : goal.returns
-returns c = ?
+returns c = box_within
