@@ -3,6 +3,7 @@ pub mod Entries
 pub mod Sound
 pub mod Requests
 pub mod Walk
+pub mod Box
 pub mod Made
 pub mod LiveRows
 pub mod Alone

@@ -12,7 +12,7 @@ use Rattle.std.proofs.lemmas.Option.{slice_get_within, get_or_from_slice_get}
 use Rattle.be_base.specs.declared.names.SessionNo.{SessionNo}
 use Rattle.be_model.specs.declared.changes.Row.{Row}
 use Rattle.be_model.proofs.Lists.{position-none}
-use Rattle.be_change.specs.History.{Entry, Live, live, after_entry}
+use Rattle.be_change.specs.History.{Entry, ByIds, live, after_entry}
 use Rattle.be_change.proofs.Grows.{live-append}
 use Rattle.be_change.specs.Entries.{HasIdAt, HaveIdsFrom, IdsArePlaces}
 use Rattle.be_core.specs.declared.acts.Act.{Act}
@@ -32,7 +32,7 @@ pub filter_live : {Z : Type 0} (p : ℕ × Row → Bool) (xs : List (ℕ × Arc 
 filter_live p [] = refl
 filter_live p (x ∷ xs) =
     map_if (p (x.0, arc_value x.1)) x (filter (λ y. p (y.0, arc_value y.1)) xs)
-    ∙ ap (λ (l : Live). cond (p (x.0, arc_value x.1)) ((x.0, arc_value x.1) ∷ l) l) (filter_live p xs)
+    ∙ ap (λ (l : ByIds). cond (p (x.0, arc_value x.1)) ((x.0, arc_value x.1) ∷ l) l) (filter_live p xs)
 
 -- what is live after one more change
 pub live_more : (h : List Entry) (i : ℕ) (e : Entry) → slice_get h i ≡ Some e → live (take (i + 1) h) ≡ after_entry (live (take i h)) i e

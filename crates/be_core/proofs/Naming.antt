@@ -2,10 +2,12 @@
 use Rattle.std.proofs.Common.{◌≡◌, ℕ, ◌==◌, Bool, true, false, ◌&&◌, cond, [], ◌∷◌, Some, None, refl, sym, ap, ◌∙◌, eq-eqb}
 use Rattle.std.proofs.lemmas.Bool.{and_from, or_from, or_left, or_right, eqb-true, both_ways}
 use Rattle.be_model.specs.declared.changes.Row.{Row}
-use Rattle.be_change.specs.History.{Text, Live, has_name, is_of, is_live_name, is_live_name_of}
-use Rattle.be_change.specs.Walk.{row_at, HasNameAt, HasNameOfAnotherAt}
+use Rattle.be_model.specs.ByIds.{row_at}
+use Rattle.be_model.proofs.RisingIds.{row_at-first, row_at-later}
+use Rattle.be_change.specs.History.{Text, ByIds, has_name, is_of, is_live_name, is_live_name_of}
+use Rattle.be_change.specs.Walk.{HasNameAt, HasNameOfAnotherAt}
 use Rattle.be_change.specs.LiveRows.{Rising}
-use Rattle.be_change.proofs.Names.{found_here, found_later, row_at_later}
+use Rattle.be_change.proofs.Names.{found_here, found_later}
 use Rattle.be_core.specs.World.{Seen, seen_by, having_seen, named}
 
 -- one of two, by a test
@@ -37,7 +39,7 @@ seen-other j k n (r ∷ rs) e =
     (λ f. ap (λ (x : ℕ). cond (r.0.0 == k) r.1 x) (seen-other j k n rs e))
 
 -- no row is found where the name isn't live
-pub named_none : (name : Text) (l : Live) → named name l ≡ None → is_live_name name l ≡ false
+pub named_none : (name : Text) (l : ByIds) → named name l ≡ None → is_live_name name l ≡ false
 named_none name [] e = refl
 named_none name (x ∷ xs) e = which (λ f. named_none name xs f) (has_name name x) refl e
   where
@@ -46,20 +48,20 @@ named_none name (x ∷ xs) e = which (λ f. named_none name xs f) (has_name name
     which more false f e = or_from (has_name name x) (is_live_name name xs) f (more e)
 
 -- a row that is found has the name, at its id
-pub named_at : (name : Text) (l : Live) (r : ℕ × Row) → Rising l → named name l ≡ Some r → (row_at l r.0 ≡ Some r.1) × HasNameAt l r.0 name
+pub named_at : (name : Text) (l : ByIds) (r : ℕ × Row) → Rising l → named name l ≡ Some r → (row_at r.0 l ≡ Some r.1) × HasNameAt l r.0 name
 named_at name [] r a e = absurd cc
 named_at name (x ∷ xs) r a e = which (λ f. named_at name xs r a.1 f) (has_name name x) refl e
   where
-    at_first : (x ≡ r) → row_at (x ∷ xs) r.0 ≡ Some r.1
-    at_first same = ap (λ (b : Bool). cond b (Some x.1) (row_at xs r.0)) (eq-eqb x.0 r.0 (ap (λ (y : ℕ × Row). y.0) same)) ∙ ap (λ (y : ℕ × Row). Some y.1) same
+    at_first : (x ≡ r) → row_at r.0 (x ∷ xs) ≡ Some r.1
+    at_first same = row_at-first x xs r.0 (ap (λ (y : ℕ × Row). y.0) same) ∙ ap (λ (y : ℕ × Row). Some y.1) same
 
-    which : (named name xs ≡ Some r → (row_at xs r.0 ≡ Some r.1) × HasNameAt xs r.0 name) → (b : Bool) → has_name name x ≡ b → cond b (Some x) (named name xs) ≡ Some r
-        → (row_at (x ∷ xs) r.0 ≡ Some r.1) × HasNameAt (x ∷ xs) r.0 name
+    which : (named name xs ≡ Some r → (row_at r.0 xs ≡ Some r.1) × HasNameAt xs r.0 name) → (b : Bool) → has_name name x ≡ b → cond b (Some x) (named name xs) ≡ Some r
+        → (row_at r.0 (x ∷ xs) ≡ Some r.1) × HasNameAt (x ∷ xs) r.0 name
     which more true t e = let same : x ≡ r = cc in (at_first same, found_here x xs r.0 name t (ap (λ (y : ℕ × Row). y.0) same))
-    which more false f e = let later = more e in (row_at_later x xs r.0 r.1 a later.0, found_later x xs r.0 name a later.1)
+    which more false f e = let later = more e in (row_at-later x xs r.0 r.1 a later.0, found_later x xs r.0 name a later.1)
 
 -- a row of the session that is found makes its name the session's
-pub named_of : (k : ℕ) (name : Text) (l : Live) (r : ℕ × Row) → named name l ≡ Some r → is_of k r ≡ true → is_live_name_of k name l ≡ true
+pub named_of : (k : ℕ) (name : Text) (l : ByIds) (r : ℕ × Row) → named name l ≡ Some r → is_of k r ≡ true → is_live_name_of k name l ≡ true
 named_of k name [] r e of = absurd cc
 named_of k name (x ∷ xs) r e of = which (λ f. named_of k name xs r f of) (has_name name x) refl e
   where
@@ -70,7 +72,7 @@ named_of k name (x ∷ xs) r e of = which (λ f. named_of k name xs r f of) (has
     which more false f e = or_right (is_of k x && has_name name x) (is_live_name_of k name xs) (more e)
 
 -- a row of another session that is found
-pub named_of_another : (k : ℕ) (name : Text) (l : Live) (r : ℕ × Row) → Rising l → named name l ≡ Some r → is_of k r ≡ false → HasNameOfAnotherAt k l r.0 name
+pub named_of_another : (k : ℕ) (name : Text) (l : ByIds) (r : ℕ × Row) → Rising l → named name l ≡ Some r → is_of k r ≡ false → HasNameOfAnotherAt k l r.0 name
 named_of_another k name l r a e of =
     let at = named_at name l r a e in
     let named_so = at.1 in

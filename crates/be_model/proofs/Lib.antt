@@ -10,6 +10,7 @@ pub mod Orders
 pub mod AssignedValues
 pub mod Examples
 pub mod RowsByIds
+pub mod RisingIds
 pub mod RangeBits
 pub mod FewItems
 pub mod ReadBack
