@@ -11,8 +11,8 @@ use Rattle.be_expr.specs.Expressions as conditions
 use Rattle.be_event.specs.declared.events.EventFault.{EventFault}
 use Rattle.be_event.specs.declared.events.EventFault.TheVariants as event
 use Rattle.be_event.specs.Events as events
-use Rattle.be_change.specs.Requests.{refused, bad}
-use Rattle.be_transcript.specs.Readings.{request_of, commanded, subscription, publication, publishing, expr_refusal, event_refusal}
+use Rattle.be_change.specs.Requests.{refused, bad, publish}
+use Rattle.be_transcript.specs.Readings.{request_of, commanded, subscription, of_event, asking_of, expr_refusal, event_refusal}
 
 five_bad : (a b c d e : Bool) → refused bad ≡ cond a (refused bad) (cond b (refused bad) (cond c (refused bad) (cond d (refused bad) (cond e (refused bad) (refused bad)))))
 five_bad true b c d e = refl
@@ -52,5 +52,5 @@ faulty_subscription s word_read name None fault named read = ap (λ f. refused (
     same_fault f e = cc
 faulty_subscription s word_read name (Some ts) fault named read = rw (named, read) refl
 
-pub faulty_publication : (s : Attributes) (ts : Option (List Lexeme)) (fault : EventFault) → events.event_of s ts ≡ Err fault → publication s ts ≡ refused (event_refusal s fault)
-faulty_publication s ts fault read = ap (publishing s) read
+pub faulty_publication : (s : Attributes) (ts : Option (List Lexeme)) (fault : EventFault) → events.event_of s ts ≡ Err fault → of_event publish s ts ≡ refused (event_refusal s fault)
+faulty_publication s ts fault read = ap (asking_of publish s) read

@@ -14,14 +14,14 @@ use Rattle.be_io.proofs.LineLemmas.{lines-ClosedLine, lines-OpenLine, lines-begu
 use Rattle.be_io.proofs.ToldLemmas.{HoldsMore-append, HoldsMore-nil}
 use Rattle.be_model.specs.Schemas.{Attributes}
 use Rattle.be_change.specs.History.{Entry, has_left}
-use Rattle.be_change.specs.Requests.{Request, refused, subscribe, unsubscribe, publish, listing, quit, Reply, Exchange}
-use Rattle.be_change.specs.Walk.{beginning}
+use Rattle.be_change.specs.Requests.{Request, quit, Reply, Exchange}
+use Rattle.be_change.specs.Walk.{beginning_at}
 use Rattle.be_change.specs.Made.{made}
 use Rattle.be_change.specs.Alone.{RanAlone}
 use Rattle.be_change.proofs.Alone.{alone_ran}
 use Rattle.be_transcript.specs.LinesRead.{read_ahead, ReadToEnd, ReadInPart, ReadFirstLines}
 use Rattle.be_transcript.specs.Readings.{reading}
-use Rattle.be_transcript.specs.Replies.{reply_text}
+use Rattle.be_transcript.specs.Replies.{last_line, reply_text, with_lf}
 use Rattle.be_transcript.specs.Runs.{AreAlone, AreRun, is_quit, HasNoQuit}
 use Rattle.be_transcript.specs.Transcript.{AnswersEach, requests, texts}
 use Rattle.be_server.specs.declared.session.SessionEnd.{SessionEnd}
@@ -32,7 +32,7 @@ use Rattle.be_io.specs.Sink.{SinkState, TookPart}
 use Rattle.be_server.specs.Promise.{link, NoWriteFailed, QuitsAtEnd, Leaves, Replied, ReachedQuit, BrokeOff, CutShort, SessionEnds, TakesWithin}
 use Rattle.be_server.specs.Session.{Ties, TurnState, IsReading, TakesAlike, IsFirstLine, TookLine, TookBreak, IsSilent, EndsAt, Answered, AnswersLine, Turned, new_reader, GoesOn, IsServing}
 use Rattle.be_server.specs.Subscriptions.{Replies}
-use Rattle.be_server.proofs.Steps.{Stepped, tie_beginning, tie_step, tie_next}
+use Rattle.be_server.proofs.Steps.{Stepped, one_line, tie_beginning, tie_step, tie_next}
 
 -- one more line
 goes_on : (start unread b bytes unread' a : List ℕ) (ended : Bool) (done : List TextLine) → GoesOn false start unread b done
@@ -71,9 +71,16 @@ goes_on_told None (Some b) after unread unread' line ended done g n = absurd g
 goes_on_told (Some s) None after unread unread' line ended done g n = absurd g
 goes_on_told (Some s) (Some b) None unread unread' line ended done g n = absurd n
 
-texts-push : (ps : List Exchange) (p : Exchange) → texts (ps ++ p ∷ []) ≡ texts ps ++ reply_text p.1
-texts-push ps p =
-    flat_map-append (λ (q : Exchange). reply_text q.1) ps (p ∷ []) ∙ ap (λ (x : List ℕ). texts ps ++ x) (append-nil (reply_text p.1))
+texts-push : (s : Attributes) (ps : List Exchange) (p : Exchange) → texts s (ps ++ p ∷ []) ≡ texts s ps ++ reply_text s p.1
+texts-push s ps p =
+    flat_map-append (λ (q : Exchange). reply_text s q.1) ps (p ∷ []) ∙ ap (λ (x : List ℕ). texts s ps ++ x) (append-nil (reply_text s p.1))
+
+-- the texts of the replies, and of one more that fits the list
+texts_with : (s : Attributes) (ps : List Exchange) (h after : List Entry) (r : Request) (q : Reply) → Replies h r q after
+    → texts s (ps ++ (r, q) ∷ []) ≡ texts s ps ++ with_lf (last_line q)
+texts_with s ps h after r q f =
+    let alone : reply_text s q ≡ with_lf (last_line q) = rw (one_line s h after r q f) (append-nil (with_lf (last_line q))) in
+    texts-push s ps (r, q) ∙ ap (λ (x : List ℕ). texts s ps ++ x) alone
 
 requests-push : (s : Attributes) (ps : List Exchange) (done : List TextLine) (line : TextLine) (reply : Reply) → requests ps ≡ map (reading s) done
     → requests (ps ++ (reading s line, reply) ∷ []) ≡ map (reading s) (done ++ line ∷ [])
@@ -89,7 +96,7 @@ rises-along a b c t u v p q e = omega arith
 
 -- what one more answered line leads to, but for what its write took
 record AnsweredOne (s : Attributes) (source : SourceState) (sink : SinkState) (before after : TurnState) (g : IsServing s source sink before) (line : TextLine) (reply : Reply) : Type 0 where
-  pub stepped : Stepped g.ps (reading s line) reply after.list
+  pub stepped : Stepped s g.ps (reading s line) reply after.list
   pub asked : requests (g.ps ++ (reading s line, reply) ∷ []) ≡ map (reading s) (g.done ++ line ∷ [])
   pub lines_read : WhereTold source.left after.source.left (λ b a. GoesOn after.reader.ended b after.reader.unread a (g.done ++ line ∷ []))
 
@@ -99,7 +106,7 @@ answered_one s source sink before after g line reply took f =
     let going : WhereTold source.left before.source.left (λ b a. GoesOn false b before.reader.unread a g.done) =
     subst (λ (e : Bool). WhereTold source.left before.source.left (λ b a. GoesOn e b before.reader.unread a g.done)) took.going g.lines_read in
     record {
-      stepped = tie_step g.ps g.walk before.list after.list (reading s line) reply g.ties f;
+      stepped = tie_step s g.ps g.walk before.list after.list (reading s line) reply g.ties f;
       asked = requests-push s g.ps g.done line reply g.asked;
       lines_read = goes_on_told source.left before.source.left after.source.left before.reader.unread after.reader.unread line after.reader.ended g.done going took.next;
     }
@@ -113,7 +120,7 @@ serves_on s source sink before after g l t =
     let reply : Reply = l.2.1.0 in
     let p : Exchange = (reading s line, reply) in
     let one = answered_one s source sink before after g line reply took l.2.1.1 in
-    let next = tie_next g.ps (reading s line) reply after.list l.2.0 one.stepped in
+    let next = tie_next s g.ps (reading s line) reply after.list l.2.0 one.stepped in
     record {
       ps = g.ps ++ p ∷ [];
       walk = next.0;
@@ -121,8 +128,8 @@ serves_on s source sink before after g l t =
       ties = next.1;
       asked = one.asked;
       no_quit = no_quit_push s g.done line g.no_quit l.2.0;
-      written = subst (λ (x : List ℕ). HoldsMore sink.held after.sink.held x) (sym (texts-push g.ps p))
-          (HoldsMore-append sink.held before.sink.held after.sink.held (texts g.ps) (reply_text reply) g.written l.2.1.2.0);
+      written = subst (λ (x : List ℕ). HoldsMore sink.held after.sink.held x) (sym (texts_with s g.ps before.list after.list (reading s line) reply l.2.1.1))
+          (HoldsMore-append sink.held before.sink.held after.sink.held (texts s g.ps) (with_lf (last_line reply)) g.written l.2.1.2.0);
       quiet = l.2.1.2.1 ∙ g.quiet;
       unrefused = l.2.1.2.2 ∙ g.unrefused;
       sound = took.faults ∙ g.sound;
@@ -140,7 +147,7 @@ answered_present : (s : Attributes) (source : SourceState) (sink : SinkState) (b
     → has_left 1 after.list ≡ false
 answered_present s source sink before after g line took goes reply fits =
     let one = answered_one s source sink before after g line reply took fits in
-    let next = tie_next g.ps (reading s line) reply after.list goes one.stepped in
+    let next = tie_next s g.ps (reading s line) reply after.list goes one.stepped in
     subst (λ (h : List Entry). has_left 1 h ≡ false) next.1.made_is next.1.alone.present
 
 -- nor has one that ended without a QUIT
@@ -158,7 +165,7 @@ each true asked answered e = ([], sym e ∙ sym (append-nil answered))
 each false asked answered e = e
 
 -- what was answered is a run over the list that it made
-are_run : (s : Attributes) (ps : List Exchange) (ls : List TextLine) → RanAlone 1 ps → AreAlone ps → requests ps ≡ map (reading s) ls → AreRun s ls ps
+are_run : (s : Attributes) (ps : List Exchange) (ls : List TextLine) → RanAlone s [] 1 ps → AreAlone [] ps → requests ps ≡ map (reading s) ls → AreRun s [] ls ps
 are_run s ps ls ran alone e = record {
   exchanges = record { session = ran.session; each = each ran.session.end.ended (map (reading s) ls) (requests ps) e };
   formed = ran.formed;
@@ -173,10 +180,10 @@ replied : (s : Attributes) (source : SourceState) (sink : SinkState) (now : Turn
     → Leaves false now.list h → Replied s g.done false sink after h
 replied s source sink now after h g same l = record {
   exchanges = g.ps;
-  legal = are_run s g.ps g.done (alone_ran 1 g.ps g.walk g.ties.alone) g.ties.replies g.asked;
-  written = subst (λ (x : SinkState). HoldsMore sink.held x.held (texts g.ps)) (sym same) g.written;
+  legal = are_run s g.ps g.done (alone_ran s [] 1 g.ps g.walk g.ties.alone) g.ties.replies g.asked;
+  written = subst (λ (x : SinkState). HoldsMore sink.held x.held (texts s g.ps)) (sym same) g.written;
   last_line = g.no_quit;
-  leaves = leaves_along false (made 1 g.ps) now.list h g.ties.made_is l;
+  leaves = leaves_along false (made [] 1 g.ps) now.list h g.ties.made_is l;
 }
 
 -- at the end all lines were answered
@@ -234,11 +241,7 @@ quits_at_end s front line true none e = (front, line, refl, none, a_quit (readin
   where
     a_quit : (r : Request) → is_quit r ≡ true → r ≡ quit
     a_quit quit e = refl
-    a_quit (refused r) e = absurd cc
-    a_quit (subscribe name conj) e = absurd cc
-    a_quit (unsubscribe name) e = absurd cc
-    a_quit (publish x) e = absurd cc
-    a_quit listing e = absurd cc
+    a_quit _ e = absurd cc
 quits_at_end s front line false none e = no_quit_push s front line none e
 
 -- a QUIT, and its reply
@@ -259,8 +262,8 @@ reached_quit s source sink before after g l =
       replied = record {
         exchanges = g.ps ++ p ∷ [];
         legal = are_run s (g.ps ++ p ∷ []) done one.stepped.walked.ran one.stepped.replies one.asked;
-        written = subst (λ (x : List ℕ). HoldsMore sink.held after.sink.held x) (sym (texts-push g.ps p))
-            (HoldsMore-append sink.held before.sink.held after.sink.held (texts g.ps) (reply_text reply) g.written l.2.1.2.0);
+        written = subst (λ (x : List ℕ). HoldsMore sink.held after.sink.held x) (sym (texts_with s g.ps before.list after.list (reading s line) reply l.2.1.1))
+            (HoldsMore-append sink.held before.sink.held after.sink.held (texts s g.ps) (with_lf (last_line reply)) g.written l.2.1.2.0);
         last_line = quits_at_end s g.done line true g.no_quit l.2.0;
         leaves = sym one.stepped.walked.made_is;
       };
@@ -269,17 +272,18 @@ reached_quit s source sink before after g l =
 -- a reply that was cut short
 cut_short : (s : Attributes) (source : SourceState) (sink : SinkState) (before after : TurnState) (h : List Entry) (quits : Bool) (fault : SinkFault)
     → IsServing s source sink before → (line : TextLine) → TookLine before after line → is_quit (reading s line) ≡ quits
-    → (a : Answered before.list (reading s line) after.list before.sink after.sink (Err fault)) → TookPart before.sink after.sink (reply_text a.0)
+    → (a : Answered before.list (reading s line) after.list before.sink after.sink (Err fault)) → TookPart before.sink after.sink (with_lf (last_line a.0))
     → Leaves quits after.list h → CutShort s (link source sink) (link after.source after.sink) h
 cut_short s source sink before after h quits fault g line took is a part l =
     let reply : Reply = a.0 in
     let p : Exchange = (reading s line, reply) in
-    let text : List ℕ = reply_text reply in
+    let text : List ℕ = with_lf (last_line reply) in
     let one = answered_one s source sink before after g line reply took a.1 in
     let done : List TextLine = g.done ++ line ∷ [] in
     let missing : 0 < length (drop part.0 text) = omega (arith, length-drop part.0 text, part.1) in
-    let split : texts (g.ps ++ p ∷ []) ≡ (texts g.ps ++ take part.0 text) ++ drop part.0 text =
-    texts-push g.ps p ∙ ap (λ (x : List ℕ). texts g.ps ++ x) (sym (take-append-drop part.0 text)) ∙ sym (append_assoc (texts g.ps) (take part.0 text) (drop part.0 text)) in
+    let split : texts s (g.ps ++ p ∷ []) ≡ (texts s g.ps ++ take part.0 text) ++ drop part.0 text =
+    texts_with s g.ps before.list after.list (reading s line) reply a.1 ∙ ap (λ (x : List ℕ). texts s g.ps ++ x) (sym (take-append-drop part.0 text))
+    ∙ sym (append_assoc (texts s g.ps) (take part.0 text) (drop part.0 text)) in
     record {
       lines = done;
       quits = quits;
@@ -289,11 +293,11 @@ cut_short s source sink before after h quits fault g line took is a part l =
         exchanges = g.ps;
         last = p;
         legal = are_run s (g.ps ++ p ∷ []) done one.stepped.walked.ran one.stepped.replies one.asked;
-        out = texts g.ps ++ take part.0 text;
-        written = HoldsMore-append sink.held before.sink.held after.sink.held (texts g.ps) (take part.0 text) g.written part.2;
+        out = texts s g.ps ++ take part.0 text;
+        written = HoldsMore-append sink.held before.sink.held after.sink.held (texts s g.ps) (take part.0 text) g.written part.2;
         cut = record { missing = drop part.0 text; some = missing; is_text = split; whole = (take part.0 text, refl) };
         last_line = quits_at_end s g.done line quits g.no_quit is;
-        leaves = leaves_along quits (made 1 (g.ps ++ p ∷ [])) after.list h one.stepped.walked.made_is l;
+        leaves = leaves_along quits (made [] 1 (g.ps ++ p ∷ [])) after.list h one.stepped.walked.made_is l;
       };
     }
 
@@ -372,9 +376,9 @@ pub serves_first : (s : Attributes) (source : SourceState) (sink : SinkState) (r
     → r ≡ new_reader → h ≡ [] → IsServing s source sink (record { reader = r; source = source; sink = sink; list = h })
 serves_first s source sink r h new none = record {
   ps = [];
-  walk = beginning;
+  walk = beginning_at 0;
   done = [];
-  ties = subst (Ties [] beginning) (sym none) tie_beginning;
+  ties = subst (Ties s [] (beginning_at 0)) (sym none) (tie_beginning s);
   asked = refl;
   no_quit = refl;
   written = HoldsMore-nil sink.held;

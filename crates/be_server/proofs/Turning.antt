@@ -10,10 +10,10 @@ use Rattle.be_io.specs.declared.lines.Line.TheVariants.{Text, Long, End}
 use Rattle.be_io.specs.declared.faults.SinkFault.{SinkFault}
 use Rattle.be_io.specs.declared.faults.SinkFault.TheVariants.{Failed, NoMemory}
 use Rattle.be_change.specs.History.{Entry}
-use Rattle.be_change.specs.Requests.{Request, refused, subscribe, unsubscribe, publish, listing, quit, Reply, no_memory}
+use Rattle.be_change.specs.Requests.{Request, refused, subscribe, unsubscribe, publish, costing, listing, sending, fetching, dumping, tailing, quit, Reply, no_memory}
 use Rattle.be_model.specs.Schemas.{Attributes}
 use Rattle.be_transcript.specs.Readings.{reading}
-use Rattle.be_transcript.specs.Replies.{reply_text}
+use Rattle.be_transcript.specs.Replies.{last_line, with_lf}
 use Rattle.be_transcript.specs.Runs.{is_quit}
 use Rattle.be_server.specs.Requests.{TakesMemory}
 use Rattle.be_server.specs.declared.session.SessionEnd.TheVariants as ends
@@ -92,19 +92,16 @@ turns_after_quit h after before held (Err NoMemory) a = (refl, a)
 
 -- a request other than QUIT was given this reply
 pub said : (h after : List Entry) (r : Request) (q : Reply) (before held : SinkState) (result : Result (Unit {0}) SinkFault) (turn : Turn) → is_quit r ≡ false
-    → Replies h r q after → Wrote before held (reply_text q) result → turn ≡ turn_after result → TurnsAfter h r after before held turn
+    → Replies h r q after → Wrote before held (with_lf (last_line q)) result → turn ≡ turn_after result → TurnsAfter h r after before held turn
 said h after r q before held result turn goes fits wrote is =
     subst (λ (t : Turn). TurnsAfter h r after before held t) (sym is) (turns_after h after r before held result goes (q, fits, wrote))
 
 -- memory was wanting to read a request
 pub wanted_memory : (h : List Entry) (r : Request) (before held : SinkState) (result : Result (Unit {0}) SinkFault) (turn : Turn) → TakesMemory r
-    → Wrote before held (reply_text no_memory) result → turn ≡ turn_after result → TurnsAfter h r h before held turn
+    → Wrote before held (with_lf (last_line no_memory)) result → turn ≡ turn_after result → TurnsAfter h r h before held turn
 wanted_memory h (subscribe name conj) before held result turn takes wrote is = said h h (subscribe name conj) no_memory before held result turn refl refl wrote is
 wanted_memory h (publish e) before held result turn takes wrote is = said h h (publish e) no_memory before held result turn refl refl wrote is
-wanted_memory h (refused r) before held result turn takes wrote is = absurd takes
-wanted_memory h (unsubscribe name) before held result turn takes wrote is = absurd takes
-wanted_memory h listing before held result turn takes wrote is = absurd takes
-wanted_memory h quit before held result turn takes wrote is = absurd takes
+wanted_memory h _ before held result turn takes wrote is = absurd takes
 
 -- an answered line ends the session or not
 pub turned_line : (s : Attributes) (before after : TurnState) (line : TextLine) (turn : Turn) → TookLine before after line

@@ -3,7 +3,7 @@ use Rattle.std.specs.Prelude.{ℕ, ◌==◌, Bool, List, filter, codes}
 use Rattle.be_base.specs.Text.{Text}
 use Rattle.be_model.specs.declared.changes.Row.{Row}
 use Rattle.be_model.specs.Matching.{satisfies}
-use Rattle.be_change.specs.History.{Live, names_of}
+use Rattle.be_change.specs.History.{ByIds, names_of}
 use Rattle.be_change.specs.Requests.{Request, publish, listing, Reply, hit, listed}
 use Rattle.be_server.specs.declared.naming.Wanted.{Wanted}
 use Rattle.be_server.specs.declared.naming.Wanted.TheVariants.{SatisfiedBy, Own}
@@ -12,7 +12,7 @@ abbrev pub is_wanted : Wanted → Row → Bool
 is_wanted (SatisfiedBy e) row = satisfies e.now row.conj
 is_wanted Own row = row.session.0 == 1
 
-abbrev pub names_wanted : Wanted → Live → List Text
+abbrev pub names_wanted : Wanted → ByIds → List Text
 names_wanted w l = names_of (filter (λ (r : ℕ × Row). is_wanted w r.1) l)
 
 -- the reply that names them

@@ -39,23 +39,23 @@ Leaves false before after = (after ≡ before) ⊎ (after ≡ before ++ left 1 (
 pub record Replied (s : Attributes) (lines : List TextLine) (quits : Bool) (before after : SinkState) (list : List Entry) : Type 0 where
   pub exchanges : List Exchange
   -- one reply a line, in order, legal over the well formed list that lines and replies make
-  pub legal : AreRun s lines exchanges
+  pub legal : AreRun s [] lines exchanges
   -- what was written is these replies, and no other byte
-  pub written : HoldsMore before.held after.held (texts exchanges)
+  pub written : HoldsMore before.held after.held (texts s exchanges)
   pub last_line : QuitsAtEnd quits s lines
   -- the list that was left is that list, with the session's Bye
-  pub leaves : Leaves quits (made 1 exchanges) list
+  pub leaves : Leaves quits (made [] 1 exchanges) list
 
 -- each of these lines was answered, but that the reply to the last one is cut short
 pub record RepliedInPart (s : Attributes) (lines : List TextLine) (quits : Bool) (before after : SinkState) (list : List Entry) : Type 0 where
   pub exchanges : List Exchange
   pub last : Exchange
-  pub legal : AreRun s lines (exchanges ++ last ∷ [])
+  pub legal : AreRun s [] lines (exchanges ++ last ∷ [])
   pub out : List ℕ
   pub written : HoldsMore before.held after.held out
-  pub cut : IsCutText exchanges last out
+  pub cut : IsCutText s exchanges last out
   pub last_line : QuitsAtEnd quits s lines
-  pub leaves : Leaves quits (made 1 (exchanges ++ last ∷ [])) list
+  pub leaves : Leaves quits (made [] 1 (exchanges ++ last ∷ [])) list
 
 -- what a session reads from and writes to
 abbrev pub link : SourceState → SinkState → LinkState

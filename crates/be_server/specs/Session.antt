@@ -17,7 +17,7 @@ use Rattle.be_change.specs.Requests.{Request, Reply, Exchange}
 use Rattle.be_change.specs.Walk.{Walk}
 use Rattle.be_transcript.specs.LinesRead.{read_ahead}
 use Rattle.be_transcript.specs.Readings.{reading}
-use Rattle.be_transcript.specs.Replies.{reply_text}
+use Rattle.be_transcript.specs.Replies.{last_line, with_lf}
 use Rattle.be_transcript.specs.Runs.{AreAlone, is_quit, HasNoQuit}
 use Rattle.be_transcript.specs.Transcript.{requests, texts}
 use Rattle.be_server.specs.declared.session.SessionEnd.TheVariants as ends
@@ -40,7 +40,7 @@ turn_after_quit (Err NoMemory) = turns.AfterQuit ends.NoMemory
 -- a request was given a reply that fits the list of changes, as far as the sink took it
 abbrev pub Answered : List Entry → Request → List Entry → SinkState → SinkState → Result (Unit {0}) SinkFault → Type 0
 Answered h request after before held result =
-    (reply : Reply) × Replies h request reply after × Wrote before held (reply_text reply) result
+    (reply : Reply) × Replies h request reply after × Wrote before held (with_lf (last_line reply)) result
 
 -- a session goes on over these
 pub record TurnState : Type 0 where
@@ -116,10 +116,10 @@ Turned s before after (turns.Over ends.Spent) =
 Turned s before after turn = AnswersLine s before after turn
 
 -- session 1 goes on after these exchanges, and the list is what they made
-pub record Ties (ps : List Exchange) (w : Walk) (h : List Entry) : Type 0 where
-  pub alone : RunsAlone 1 ps w
-  pub made_is : made 1 ps ≡ h
-  pub replies : AreAlone ps
+pub record Ties (s : Attributes) (ps : List Exchange) (w : Walk) (h : List Entry) : Type 0 where
+  pub alone : RunsAlone s [] 1 ps w
+  pub made_is : made [] 1 ps ≡ h
+  pub replies : AreAlone [] ps
 
 -- a reader of a session's lines that has read nothing
 abbrev pub new_reader : ReaderState
@@ -136,10 +136,10 @@ pub record IsServing (s : Attributes) (source : SourceState) (sink : SinkState) 
   pub ps : List Exchange
   pub walk : Walk
   pub done : List TextLine
-  pub ties : Ties ps walk now.list
+  pub ties : Ties s ps walk now.list
   pub asked : requests ps ≡ map (reading s) done
   pub no_quit : HasNoQuit s done
-  pub written : HoldsMore sink.held now.sink.held (texts ps)
+  pub written : HoldsMore sink.held now.sink.held (texts s ps)
   pub quiet : now.sink.faults ≡ sink.faults
   pub unrefused : now.sink.refusals ≡ sink.refusals
   pub sound : now.source.faults ≡ source.faults

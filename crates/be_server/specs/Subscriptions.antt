@@ -3,9 +3,8 @@ use Rattle.std.specs.Prelude.{◌≡◌, ℕ, ◌+◌, true, false, List, ◌++�
 use Rattle.std.specs.List.{list_all}
 use Rattle.be_base.specs.Text.{Text}
 use Rattle.be_base.specs.declared.names.Id.{Id}
-use Rattle.be_model.specs.declared.conditions.Pred.{Pred}
 use Rattle.be_model.specs.declared.changes.Row.{Row}
-use Rattle.be_change.specs.History.{Entry, Live, live, hits, is_live_name, is_of, has_name, entries_of, IsWellFormed}
+use Rattle.be_change.specs.History.{Entry, ByIds, live, hits, is_live_name, is_of, has_name, entries_of, IsWellFormed}
 use Rattle.be_change.specs.Requests.{Request, refused, subscribe, unsubscribe, publish, listing, quit, Reply, refusal, ok, bye, dup, none, hit, listed, no_memory}
 use Rattle.be_change.specs.Walk.{HasNameAt, names_of_session}
 use Rattle.be_change.specs.Made.{change_named}
@@ -14,25 +13,21 @@ abbrev pub id_of_row : ℕ × Row → Id
 id_of_row r = record { 0 = r.0 }
 
 -- the id of the live row of this name
-abbrev pub id_named : Text → Live → Option Id
+abbrev pub id_named : Text → ByIds → Option Id
 id_named name l = option_map id_of_row (find (has_name name) l)
 
 -- the list is well formed, each change and each live row is of session 1, the rows are what is live, and the register
 -- has their names
-pub record IsKept (h : List Entry) (rows : Live) (register : Text → Option Id) : Type 0 where
+pub record IsKept (h : List Entry) (rows : ByIds) (register : Text → Option Id) : Type 0 where
   pub formed : IsWellFormed h
   pub alone : entries_of 1 h ≡ h
   pub owned : list_all (is_of 1) (live h) ≡ true
   pub rows_are : rows ≡ live h
   pub registered : (name : Text) → register name ≡ id_named name (live h)
 
--- the row that a session subscribes, at this place
-abbrev pub row_made : ℕ → ℕ → Text → List Pred → Row
-row_made k place name conj = record { id = record { 0 = place }; session = record { 0 = k }; name = name; conj = conj }
-
 -- the change that the request names is put last, and n is the number of changes then
 abbrev pub Grows : List Entry → Request → ℕ → List Entry → Type 0
-Grows h r n after = (n ≡ length h + 1) × (after ≡ h ++ change_named 1 (length h) r)
+Grows h r n after = (n ≡ length h + 1) × (after ≡ h ++ change_named 1 (length h) (length h) r)
 
 -- the reply that a request is given over the list, and the list after it
 abbrev pub Replies : List Entry → Request → Reply → List Entry → Type 0

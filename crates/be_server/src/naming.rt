@@ -2,7 +2,7 @@
 
 ghost use Rattle.std.specs.Prelude.{◌≡◌, ◌++◌, ◌∷◌, [], length, codes, OnOk, IfOk};
 ghost use Rattle.be_change.specs.History.{live};
-ghost use Rattle.be_transcript.specs.Replies.{number, reply_text};
+ghost use Rattle.be_transcript.specs.Replies.{number, last_line, with_lf};
 ghost use Rattle.be_server.specs.Naming.{is_wanted, names_wanted, naming, head_of};
 
 use crate::subscriptions::{SESSION, Subscriptions};
@@ -77,7 +77,7 @@ impl Scratch {
         subscriptions: &Subscriptions,
         wanted: Wanted<'_>,
     ) -> Result<&[u8], NoMemory>
-        ensures { IfOk result (λ text. text.now ≡ reply_text (naming wanted.entry (length subscriptions.now) (names_wanted wanted.entry (live subscriptions.now)))) }
+        ensures { IfOk result (λ text. text.now ≡ with_lf (last_line (naming wanted.entry (length subscriptions.now) (names_wanted wanted.entry (live subscriptions.now))))) }
     {
         self.names.clear();
         self.reply.clear();

@@ -4,7 +4,7 @@ ghost use Rattle.std.specs.Prelude.{◌≡◌, ◌+◌, ◌<◌, ◌≤◌, [], 
 ghost use Rattle.be_base.specs.declared.limits.TheConstants.{SOURCE_BYTES};
 ghost use Rattle.be_io.specs.Lines as line;
 ghost use Rattle.be_transcript.specs.Readings.{reading};
-ghost use Rattle.be_transcript.specs.Replies.{reply_text};
+ghost use Rattle.be_transcript.specs.Replies.{last_line, with_lf};
 ghost use Rattle.be_change.specs.History.{has_left};
 ghost use Rattle.be_change.specs.Requests as asked;
 ghost use Rattle.be_server.specs.Naming.{asking};
@@ -73,7 +73,7 @@ fn turn_after_quit(written: Result<(), SinkFault>) -> Turn
 // Writes a short reply.
 fn say<K: Sink>(out: &mut K, reply: Short) -> Result<(), SinkFault>
     ensures { Wrote (sink_state K.Sink out.old) (sink_state K.Sink out.new)
-        (reply_text (plain_reply reply)) result }
+        (with_lf (last_line (plain_reply reply))) result }
 {
     write_piece(out, reply.text().as_str().as_bytes())
 }

@@ -7,12 +7,13 @@ ghost use Rattle.std.specs.Map.{remove_entry};
 ghost use Rattle.std.specs.Ordering.{nat_cmp};
 ghost use Rattle.indexmap.specs.IndexMap.{spare, Updates};
 ghost use Rattle.be_base.specs.Text.{same_text};
+ghost use Rattle.be_base.specs.declared.limits.TheConstants.{LOG_CHANGES};
 ghost use Rattle.be_transcript.specs.Replies.{names_text};
-ghost use Rattle.be_change.specs.Entries.{entry_of, live_in, most_entries, HasIdAt};
+ghost use Rattle.be_change.specs.Entries.{entry_of, live_in, HasIdAt};
 ghost use Rattle.be_change.specs.History.{live, has_left, subscribed};
-ghost use Rattle.be_change.specs.Made.{change_named};
+ghost use Rattle.be_change.specs.Made.{change_named, row_made};
 ghost use Rattle.be_change.specs.Requests as asked;
-ghost use Rattle.be_server.specs.Subscriptions.{id_named, row_made, Replies};
+ghost use Rattle.be_server.specs.Subscriptions.{id_named, Replies};
 ghost use Rattle.be_server.specs.Short.{plain_reply};
 ghost use Rattle.be_server.specs.Naming.{names_wanted};
 
@@ -77,7 +78,7 @@ impl Subscriptions {
     /// How many changes there are.
     pub fn len(&self) -> u64
         ensures len { result ≡ length self.now }
-        ensures few { result ≤ most_entries }
+        ensures few { result ≤ LOG_CHANGES }
     {
         self.log.len()
     }
@@ -108,7 +109,7 @@ impl Subscriptions {
     fn add(&mut self, alloc: Global, name: Name, conj: Conj) -> Result<(), NoMemory>
         requires going { has_left 1 self.old ≡ false }
         requires free { id_named name (live self.old) ≡ None }
-        ensures added { OnOk result (self.new ≡ self.old ++ change_named 1 (length self.old) (asked.subscribe name conj)) }
+        ensures added { OnOk result (self.new ≡ self.old ++ change_named 1 (length self.old) (length self.old) (asked.subscribe name conj)) }
         ensures refused { OnErr result (self.new ≡ self.old) }
     {
         let place = self.log.len();
@@ -141,7 +142,7 @@ impl Subscriptions {
     fn remove(&mut self, alloc: Global, name: Name, id: Id) -> Result<(), NoMemory>
         requires going { has_left 1 self.old ≡ false }
         requires there { id_named name (live self.old) ≡ Some id }
-        ensures removed { OnOk result (self.new ≡ self.old ++ change_named 1 (length self.old) (asked.unsubscribe name)) }
+        ensures removed { OnOk result (self.new ≡ self.old ++ change_named 1 (length self.old) (length self.old) (asked.unsubscribe name)) }
         ensures refused { OnErr result (self.new ≡ self.old) }
     {
         let removal = Change::Unsub {
@@ -171,7 +172,7 @@ impl Subscriptions {
 
     fn close(&mut self, alloc: Global) -> Result<(), NoMemory>
         requires going { has_left 1 self.old ≡ false }
-        ensures closed { OnOk result (self.new ≡ self.old ++ change_named 1 (length self.old) asked.quit) }
+        ensures closed { OnOk result (self.new ≡ self.old ++ change_named 1 (length self.old) (length self.old) asked.quit) }
         ensures refused { OnErr result (self.new ≡ self.old) }
     {
         let bye = Change::Bye {

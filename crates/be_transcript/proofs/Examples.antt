@@ -88,42 +88,42 @@ empty_line = refl
 long_line : reading example (long 65537) ≡ refused asked.long
 long_line = refl
 
-accepted : reply_text (ok 1) ≡ codes "OK 1\n"
+accepted : reply_text example (ok 1) ≡ codes "OK 1\n"
 unfolding digits
 accepted = refl
 
-found : reply_text (hit 12 (codes "a" ∷ codes "b-c" ∷ [])) ≡ codes "HIT 12 2 a b-c\n"
+found : reply_text example (hit 12 (codes "a" ∷ codes "b-c" ∷ [])) ≡ codes "HIT 12 2 a b-c\n"
 unfolding digits
 found = refl
 
-found_none : reply_text (hit 1 []) ≡ codes "HIT 1 0\n"
+found_none : reply_text example (hit 1 []) ≡ codes "HIT 1 0\n"
 unfolding digits
 found_none = refl
 
-named_twice : reply_text (dup 3 2) ≡ codes "DUP 3 2\n"
+named_twice : reply_text example (dup 3 2) ≡ codes "DUP 3 2\n"
 unfolding digits
 named_twice = refl
 
-not_live : reply_text (none 7) ≡ codes "NONE 7\n"
+not_live : reply_text example (none 7) ≡ codes "NONE 7\n"
 unfolding digits
 not_live = refl
 
-its_names : reply_text (listed 2 (codes "a" ∷ codes "b" ∷ [])) ≡ codes "LIST 2 2 a b\n"
+its_names : reply_text example (listed 2 (codes "a" ∷ codes "b" ∷ [])) ≡ codes "LIST 2 2 a b\n"
 unfolding digits
 its_names = refl
 
-has_left : reply_text (bye 10) ≡ codes "BYE 10\n"
+has_left : reply_text example (bye 10) ≡ codes "BYE 10\n"
 unfolding digits
 has_left = refl
 
-many : reply_text (refusal (too_many 33)) ≡ codes "MANY 33\n"
+many : reply_text example (refusal (too_many 33)) ≡ codes "MANY 33\n"
 unfolding digits
 many = refl
 
-without_reading : reply_text (refusal bad) ≡ codes "BAD\n"
+without_reading : reply_text example (refusal bad) ≡ codes "BAD\n"
 without_reading = refl
 
-without_memory : reply_text no_memory ≡ codes "NOMEM\n"
+without_memory : reply_text example no_memory ≡ codes "NOMEM\n"
 without_memory = refl
 
 three_lines : lines 4 true (codes "ab\n\nabcde\nx") ≡ text (codes "ab") ∷ text [] ∷ long 5 ∷ text (codes "x") ∷ []
@@ -159,8 +159,8 @@ unfolding is_word_byte
 a_quit_among_them free = absurd cc
 
 -- an UNSUB of a live name for which memory was wanting, and one of a name that isn't live
-wanted : RemovalsMayWant [] ((subscribe (codes "a") [], ok 1) ∷ (unsubscribe (codes "a"), no_memory) ∷ [])
+wanted : RemovalsMayWant [] [] ((subscribe (codes "a") [], ok 1) ∷ (unsubscribe (codes "a"), no_memory) ∷ [])
 wanted = (tt, (refl, tt))
 
-wanted_for_nothing : RemovalsMayWant [] ((subscribe (codes "a") [], ok 1) ∷ (unsubscribe (codes "b"), no_memory) ∷ []) → ⊥
+wanted_for_nothing : RemovalsMayWant [] [] ((subscribe (codes "a") [], ok 1) ∷ (unsubscribe (codes "b"), no_memory) ∷ []) → ⊥
 wanted_for_nothing wants = absurd cc

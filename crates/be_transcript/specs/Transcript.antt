@@ -19,21 +19,28 @@ abbrev pub requests : List Exchange → List Request
 requests ps = map (λ (p : Exchange). p.0) ps
 
 -- the replies, one after another, and no other byte
-abbrev pub texts : List Exchange → List ℕ
-texts ps = flat_map (λ (p : Exchange). reply_text p.1) ps
+abbrev pub texts : Attributes → List Exchange → List ℕ
+texts s ps = flat_map (λ (p : Exchange). reply_text s p.1) ps
 
 -- out is the text of these replies, but that the last one is cut short
-pub record IsCutText (ps : List Exchange) (last : Exchange) (out : List ℕ) : Type 0 where
+pub record IsCutText (s : Attributes) (ps : List Exchange) (last : Exchange) (out : List ℕ) : Type 0 where
   pub missing : List ℕ
   pub some : 0 < length missing
-  pub is_text : texts (ps ++ last ∷ []) ≡ out ++ missing
-  pub whole : BeginsWith out (texts ps)
+  pub is_text : texts s (ps ++ last ∷ []) ≡ out ++ missing
+  pub whole : BeginsWith out (texts s ps)
 
--- these exchanges are session k's, over the list h, for its lines
-pub record AreExchanges (s : Attributes) (k : ℕ) (h : List Entry) (ls : List TextLine) (ps : List Exchange) : Type 0 where
-  pub session : IsLegalSession k h ps
+-- these exchanges are session k's for its lines, over the list h, of which it was told z entries before
+pub record AreExchanges (s : Attributes) (k z : ℕ) (h : List Entry) (ls : List TextLine) (ps : List Exchange) : Type 0 where
+  pub session : IsLegalSession s k z h ps
   pub each : AnswersEach session.end.ended (map (reading s) ls) (requests ps)
 
 -- out is a legal transcript of session k's lines over the list h
-abbrev pub IsTranscript : Attributes → ℕ → List Entry → List TextLine → List ℕ → Type 0
-IsTranscript s k h ls out = (ps : List Exchange) × AreExchanges s k h ls ps × (out ≡ texts ps)
+abbrev pub IsTranscript : Attributes → (k z : ℕ) → List Entry → List TextLine → List ℕ → Type 0
+IsTranscript s k z h ls out = (ps : List Exchange) × AreExchanges s k z h ls ps × (out ≡ texts s ps)
+
+-- out is a legal transcript of its lines, but that the last reply is cut short
+pub record IsCutTranscript (s : Attributes) (k z : ℕ) (h : List Entry) (ls : List TextLine) (out : List ℕ) : Type 0 where
+  pub ps : List Exchange
+  pub last : Exchange
+  pub exchanges : AreExchanges s k z h ls (ps ++ last ∷ [])
+  pub cut : IsCutText s ps last out
