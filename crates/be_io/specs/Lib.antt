@@ -1,10 +1,14 @@
 pub mod Counts
 pub mod Told
+pub mod Source
+pub mod Sink
+pub mod Outside
 pub mod Calls
 pub mod Memory
 pub mod Lines
 pub mod Reader
 pub mod Reading
 pub mod Buffer
+pub mod LineReader
 pub mod Shelf
 pub mod Door

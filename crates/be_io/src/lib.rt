@@ -1,6 +1,7 @@
 //! What the product takes from the outside and gives to it, as traits with counts of faults.
 #![tactic(auto)]
 
+mod buffer;
 mod calls;
 mod door;
 mod faults;
@@ -11,6 +12,7 @@ mod shelf;
 mod sink;
 mod source;
 mod standard;
+mod writing;
 
 pub use door::{Door, DoorCount, NoDoor};
 pub use faults::{AcceptFault, Failed, LineFault, ListenFault, ShelfFault, SinkFault};
@@ -18,9 +20,10 @@ pub use gate::{Gate, NoGate};
 pub use lines::{Line, LineReader};
 pub use link::{Link, Pair};
 pub use shelf::{MemShelf, Shelf};
-pub use sink::{MemSink, Sink, write_all};
+pub use sink::{MemSink, Sink};
 pub use source::{MemSource, Source};
 pub use standard::{FileShelf, StdinSource, StdoutSink};
+pub use writing::write_all;
 
 #[cfg(test)]
 mod tests;
