@@ -8,9 +8,9 @@ pub mod Lies
 pub mod Forms
 pub mod Rows
 pub mod Laws
-pub mod Assigned
 pub mod Entries
 pub mod Texts
 pub mod Costs
 pub mod ByIds
 pub mod Bounds
+pub mod Letters
