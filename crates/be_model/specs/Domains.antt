@@ -1,5 +1,5 @@
 -- Domains: ranges of whole numbers, and how they are halved.
-pub use Rattle.be_model.specs.TextLists.{place_of}
+pub use Rattle.be_base.specs.TextLists.{place_of}
 use Rattle.std.specs.Prelude.{ℕ, ℤ, pos, ◌+ℤ◌, ◌-ℤ◌, ◌+◌, ◌-◌, ◌/◌, ◌&&◌, zero, suc, Bool, List, length, nat_le, int_le, int_div, unsigned_abs, Option, Some, None, option_map, if◌then◌else◌}
 use Rattle.std.specs.List.{list_any}
 use Rattle.be_base.specs.Text.{Text}

@@ -1,4 +1,3 @@
-pub mod TextLists
 pub mod Places
 pub mod Domains
 pub mod Schemas

@@ -1,5 +1,5 @@
 -- Schemas: which attributes there are.
-pub use Rattle.be_model.specs.TextLists.{is_among_texts, all_differ}
+pub use Rattle.be_base.specs.TextLists.{is_among_texts, all_differ}
 use Rattle.std.specs.Prelude.{◌≡◌, ℕ, ℤ, pos, negsuc, ◌≤◌, ◌&&◌, not, Bool, true, false, List, [], ◌∷◌, length, map, nat_le, int_le, Option, option_and_then, option_map, Result, Ok, Err, slice_get, codes}
 use Rattle.std.specs.List.{list_all}
 use Rattle.be_base.specs.Text.{Text, name_of}
