@@ -1,5 +1,6 @@
--- An assigned value lies in the schema.
-use Rattle.std.proofs.Common.{◌≡◌, ℕ, ℤ, pos, ◌-◌, ◌<◌, ◌&&◌, Bool, true, false, cond, List, [], ◌∷◌, length, Option, Some, None, option_map, option_and_then, refl, ap, ◌∙◌, arith}
+-- The value of a word lies in the domain in which it was read.
+use Rattle.std.proofs.Common.{◌≡◌, ℕ, ℤ, pos, ◌-◌, ◌<◌, Bool, true, false, cond, List, [], ◌∷◌, length, Option, Some, None, option_map, option_and_then, refl, sym, ap, ◌∙◌, arith}
+use Rattle.std.proofs.lemmas.Bool.{and_from, and_parts}
 use Rattle.std.proofs.lemmas.Bool.Decides.{nat_tests}
 use Rattle.std.proofs.lemmas.Int.{ints}
 use Rattle.std.proofs.lemmas.List.Quantifiers.{position-Some}
@@ -10,13 +11,8 @@ use Rattle.be_model.specs.declared.schemas.Domain.{Domain}
 use Rattle.be_model.specs.declared.schemas.Domain.TheVariants.{Int, Sym}
 use Rattle.be_model.specs.declared.schemas.Attribute.{Attribute}
 use Rattle.be_model.specs.Domains.{Range, bounds_of, is_within, within, value_of_word, place_of}
-use Rattle.be_model.specs.Schemas.{Attributes, attribute_at}
-use Rattle.be_model.specs.Lies.{lies_in, item_lies}
-use Rattle.be_model.specs.Assigned.{value_at, attribute_of_word, assigned}
-
-and_true : (a : Bool) → a ≡ true → (a && true) ≡ true
-and_true true h = refl
-and_true false h = h
+use Rattle.be_model.specs.Schemas.{Attributes, attribute_at, range_of, value_at}
+use Rattle.be_model.specs.Lies.{lies_in}
 
 kept : (r : Range) (b : Bool) (w v : ℤ) → is_within r w ≡ b → cond b (Some w) None ≡ Some v → is_within r v ≡ true
 kept r true w v e h = let k : v ≡ w = cc in ap (is_within r) k ∙ e
@@ -42,24 +38,16 @@ pub value_within : (d : Domain) (text : Text) (v : ℤ) → value_of_word d text
 value_within (Int lo hi) text v h = in_range (lo, hi) (int_of text) v h
 value_within (Sym words) text v h = in_listing text words (place_of text words) v refl h
 
-value_lies : (o : Option Attribute) (text : Text) (v : ℤ) → option_and_then (λ (x : Attribute). value_of_word x.domain text) o ≡ Some v
+of_attribute : (o : Option Attribute) (text : Text) (v : ℤ) → option_and_then (λ (x : Attribute). value_of_word x.domain text) o ≡ Some v
     → lies_in (option_map (λ (x : Attribute). bounds_of x.domain) o) (v ∷ []) ≡ true
-value_lies None text v h = absurd (cc)
-value_lies (Some x) text v h = and_true (is_within (bounds_of x.domain) v) (value_within x.domain text v h)
+of_attribute None text v h = absurd (cc)
+of_attribute (Some x) text v h = and_from (is_within (bounds_of x.domain) v) true (value_within x.domain text v h) refl
 
-with_value : (s : Attributes) (a : AttrNo) (text : Text) (o : Option ℤ) (item : AttrNo × ℤ) → value_at s a text ≡ o
-    → option_map (λ v. (a, v)) o ≡ Some item → item_lies s item ≡ true
-with_value s a text None item e h = absurd (cc)
-with_value s a text (Some v) item e h =
-    let is : item ≡ (a, v) = cc in
-    ap (item_lies s) is ∙ value_lies (attribute_at s a) text v e
+-- the value that a word has in an attribute's domain lies there
+pub value_lies : (s : Attributes) (a : AttrNo) (text : Text) (v : ℤ) → value_at s a text ≡ Some v → lies_in (range_of s a) (v ∷ []) ≡ true
+value_lies s a text v h = of_attribute (attribute_at s a) text v h
 
--- the value that a text has in an attribute's domain lies there
-pub with_attribute : (s : Attributes) (text : Text) (o : Option AttrNo) (item : AttrNo × ℤ)
-    → option_and_then (λ a. option_map (λ v. (a, v)) (value_at s a text)) o ≡ Some item → item_lies s item ≡ true
-with_attribute s text None item h = absurd (cc)
-with_attribute s text (Some a) item h = with_value s a text (value_at s a text) item refl h
-
--- an attribute that the schema has, and a value in its domain
-pub assigned_lies : (s : Attributes) (name text : Text) (item : AttrNo × ℤ) → assigned s name text ≡ Some item → item_lies s item ≡ true
-assigned_lies s name text item h = with_attribute s text (attribute_of_word s name) item h
+pub value_in_range : (s : Attributes) (a : AttrNo) (text : Text) (v : ℤ) (r : Range) → value_at s a text ≡ Some v → range_of s a ≡ Some r → is_within r v ≡ true
+value_in_range s a text v r h e =
+    let l : lies_in (Some r) (v ∷ []) ≡ true = ap (λ o. lies_in o (v ∷ [])) (sym e) ∙ value_lies s a text v h in
+    (and_parts (is_within r v) true l).0

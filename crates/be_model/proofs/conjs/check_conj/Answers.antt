@@ -1,10 +1,10 @@
 use Rattle.std.proofs.Common.{◌≡◌, None, Some, not, slice_get, option_map, sym, refl, ap, ◌∙◌}
 use Rattle.std.specs.List.{position}
 use Rattle.std.proofs.lemmas.Option.{slice_get-get_or}
-use Rattle.be_model.specs.declared.conditions.Pred.{Pred}
+use Rattle.be_model.specs.declared.preds.Pred.{Pred}
 use Rattle.be_model.specs.Lies.{pred_lies}
 use Rattle.be_model.proofs.Spans.{lies-position_none, position_none-lies}
-use Rattle.be_model.proofs.conditions.check_conj.Goals as goal
+use Rattle.be_model.proofs.conjs.check_conj.Goals as goal
 
 pub returns-in-None-clause-lies : goal.returns-in-None-clause-lies
 returns-in-None-clause-lies c =
