@@ -5,6 +5,3 @@ pub mod laws;
 mod log;
 
 pub use crate::log::{ChangeLog, is_leave_of, session_of};
-
-#[cfg(test)]
-mod tests;

@@ -10,6 +10,3 @@ mod world;
 
 pub use crate::acts::{Act, CoreReply};
 pub use crate::world::World;
-
-#[cfg(test)]
-mod tests;

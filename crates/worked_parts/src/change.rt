@@ -4,8 +4,8 @@ ghost use Rattle.std.specs.Prelude.{IfOk};
 ghost use Rattle.std.specs.Arc.{arc_value};
 ghost use Rattle.be_change.specs.Entries.{entry_of, HasIdAt};
 
-use super::*;
 use be_base::{Id, LOG_CHANGES, Name, SessionNo};
+use be_change::{ChangeLog, session_of};
 use be_model::{Change, Conj, Row};
 use std::alloc::Global;
 use std::sync::Arc;

@@ -4,8 +4,8 @@ ghost use Rattle.std.specs.Prelude.{◌≡◌};
 ghost use Rattle.std.specs.List.{list_any};
 ghost use Rattle.be_core.specs.Acts.{deed_of, deeds_of, is_by};
 
-use super::*;
 use be_base::{Id, Name, NoMemory, SessionNo};
+use be_core::{Act, CoreReply, World};
 use be_model::{Change, Conj, Event, Row};
 use std::alloc::Global;
 use std::sync::Arc;
