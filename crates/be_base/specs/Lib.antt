@@ -5,5 +5,5 @@ pub mod TextLists
 pub mod Numbers
 pub mod Tokens
 pub mod Fronts
+pub mod FirstTokens
 pub mod Scans
-pub mod Terms

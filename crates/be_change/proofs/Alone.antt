@@ -5,17 +5,17 @@ use Rattle.std.proofs.lemmas.Bool.{and_parts, and_from, or_from, eqb-true, false
 use Rattle.std.proofs.lemmas.List.{append-nil, take_all, get_or_at}
 use Rattle.std.proofs.lemmas.List.Folds.{list_all-append, list_any-append}
 use Rattle.std.proofs.lemmas.Option.{slice_get-get_or}
-use Rattle.be_model.specs.declared.conditions.Pred.{Pred}
+use Rattle.be_model.specs.declared.preds.Pred.{Pred}
 use Rattle.be_model.specs.declared.changes.Row.{Row}
 use Rattle.be_model.specs.declared.costs.Cost.{Cost}
 use Rattle.be_model.specs.Schemas.{Attributes}
 use Rattle.be_model.specs.Matching.{Assignments}
 use Rattle.be_model.specs.Bounds.{IsWithinBound}
-use Rattle.be_change.specs.History.{Text, Entry, subscribed, unsubscribed, left, session_of, is_leave_of, is_opening, entries_of, has_left, places_of, ByIds, live, live_from, hits, is_of, is_live_name, is_live_name_of, IsWellFormed, MayFollow}
+use Rattle.be_change.specs.History.{Text, Entry, subscribed, unsubscribed, left, session_of, is_leave_of, is_opening, entries_of, has_left, places_of, live, hits, is_of, is_live_name, is_live_name_of, IsWellFormed, MayFollow}
 use Rattle.be_change.specs.Requests.{Request, Reply, Exchange, subscribe, unsubscribe, publish, costing, listing, sending, dumping, tailing, quit, ok, held, bye, dup, none, other, hit, cost, listed, sent, dumped, tailed, no_memory}
 use Rattle.be_change.specs.Walk.{Walk, beginning_at, having_seen, having_changed, having_left, having_ended, IsChangeOf, IsReadAt, IsRefusedAt, IsAcceptedAt, Answers, IsLegal, HasNameAt, HasNameOfAnotherAt, names_of_session, live_rows, tail_from, place_accepted, accepted}
 use Rattle.be_change.specs.Made.{row_made, change_named, change_made, changes_made, made}
-use Rattle.be_change.specs.Alone.{RunsAlone, RanAlone, subs_of, by_place}
+use Rattle.be_change.specs.Alone.{RunsAlone, RanAlone}
 use Rattle.be_change.proofs.Extends.{legal-append, legal-snoc}
 use Rattle.be_change.proofs.Places.{places_snoc, no_places}
 use Rattle.be_change.proofs.Grows.{live-append}
@@ -387,11 +387,3 @@ alone_owned s k ps w a = live_owned (λ j. j == k) (made [] k ps) a.formed (chan
 -- without an opening a live name is the session's
 pub alone_name : (s : Attributes) (k : ℕ) (ps : List Exchange) (w : Walk) (name : Text) → RunsAlone s [] k ps w → is_live_name name (live (made [] k ps)) ≡ true → is_live_name_of k name (live (made [] k ps)) ≡ true
 alone_name s k ps w name a e = owned_name k name (live (made [] k ps)) (alone_owned s k ps w a) e
-
-subs_from : (k n id : ℕ) (l : ByIds) (rows : List Row) → live_from l id (subs_of k n rows) ≡ l ++ by_place id rows
-subs_from k n id l [] = sym (append-nil l)
-subs_from k n id l (row ∷ rows) = subs_from k (n + 1) (id + 1) (l ++ (id, row) ∷ []) rows ∙ append_assoc l ((id, row) ∷ []) (by_place (id + 1) rows)
-
--- after Subs alone each row is live, at its place
-pub subs_live : (k n : ℕ) (rows : List Row) → live (subs_of k n rows) ≡ by_place 0 rows
-subs_live k n rows = subs_from k n 0 [] rows

@@ -2,8 +2,8 @@
 use Rattle.std.proofs.Common.{◌≡◌, ◌==◌, inl, inr, ap, ℕ, Bool, true, false, cond, Some, None, List, [], ◌∷◌, ◌++◌, refl, arith, lit≤}
 use Rattle.std.specs.Prelude.{ℤ, pos, codes}
 use Rattle.std.proofs.lemmas.List.Elements.{All-nil, All-cons}
-use Rattle.be_model.specs.declared.conditions.Op.TheVariants.{Eq}
-use Rattle.be_model.specs.declared.conditions.Pred.{Pred}
+use Rattle.be_model.specs.declared.ops.Op.TheVariants.{Eq}
+use Rattle.be_model.specs.declared.preds.Pred.{Pred}
 use Rattle.be_model.specs.declared.changes.Row.{Row}
 use Rattle.be_model.specs.declared.schemas.Domain.TheVariants.{Int}
 use Rattle.be_model.specs.Schemas.{Attributes}
@@ -35,7 +35,7 @@ abbrev is_five : List Pred
 is_five = record { attr = record { 0 = 0 }; op = Eq (pos 5) } ∷ []
 
 abbrev event : ℤ → Assignments
-event v = (record { 0 = 0 }, v) ∷ []
+event v = (record { 0 = 0 }, v ∷ []) ∷ []
 
 abbrev sub_a : Entry
 sub_a = subscribed 1 0 (row_made 1 0 a [])

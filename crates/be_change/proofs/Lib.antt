@@ -4,10 +4,12 @@ pub mod Forms
 pub mod Names
 pub mod Owners
 pub mod Alone
+pub mod Openings
 pub mod Places
 pub mod Examples
 pub mod Free
 pub mod Walks
+pub mod Placed
 pub mod Below
 pub mod Hits
 pub mod Boxes

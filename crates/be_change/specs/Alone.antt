@@ -1,9 +1,8 @@
 -- A run with one session, whose list is an opening and then its own changes.
-use Rattle.std.specs.Prelude.{◌≡◌, ◌≢◌, ℕ, ◌+◌, ◌≤◌, true, false, List, [], ◌∷◌, length}
+use Rattle.std.specs.Prelude.{◌≡◌, ◌≢◌, ℕ, ◌≤◌, true, false, List, length}
 use Rattle.std.specs.List.{list_all}
-use Rattle.be_model.specs.declared.changes.Row.{Row}
 use Rattle.be_model.specs.Schemas.{Attributes}
-use Rattle.be_change.specs.History.{Entry, subscribed, is_opening, ByIds, has_left, places_of, IsWellFormed}
+use Rattle.be_change.specs.History.{Entry, is_opening, has_left, places_of, IsWellFormed}
 use Rattle.be_change.specs.Requests.{Exchange}
 use Rattle.be_change.specs.Walk.{Walk, beginning_at, IsLegal, IsLegalSession, accepted}
 use Rattle.be_change.specs.Made.{made, changes_made}
@@ -25,13 +24,3 @@ pub record RunsAlone (s : Attributes) (opening : List Entry) (k : ℕ) (ps : Lis
 pub record RanAlone (s : Attributes) (opening : List Entry) (k : ℕ) (ps : List Exchange) : Type 0 where
   pub formed : IsWellFormed (made opening k ps)
   pub session : IsLegalSession s k (length opening) (made opening k ps) ps
-
--- Subs alone of one session, the first of which has this serial
-abbrev pub subs_of : ℕ → ℕ → List Row → List Entry
-subs_of k n [] = []
-subs_of k n (row ∷ rows) = subscribed k n row ∷ subs_of k (n + 1) rows
-
--- each row at its place, the first at this one
-abbrev pub by_place : ℕ → List Row → ByIds
-by_place place [] = []
-by_place place (row ∷ rows) = (place, row) ∷ by_place (place + 1) rows

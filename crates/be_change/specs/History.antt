@@ -43,6 +43,15 @@ places_from k place (e ∷ es) =
 abbrev pub places_of : ℕ → List Entry → List ℕ
 places_of k h = places_from k 0 h
 
+-- the entries of one session, each with its place, where the list begins at this place
+abbrev pub placed_from : ℕ → ℕ → List Entry → List (ℕ × Entry)
+placed_from k place [] = []
+placed_from k place (e ∷ es) =
+    if session_of e == k then (place, e) ∷ placed_from k (place + 1) es else placed_from k (place + 1) es
+
+abbrev pub placed_of : ℕ → List Entry → List (ℕ × Entry)
+placed_of k h = placed_from k 0 h
+
 abbrev pub has_name : Text → ℕ × Row → Bool
 has_name name r = same_text r.1.name name
 

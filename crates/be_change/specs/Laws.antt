@@ -1,14 +1,17 @@
 -- What a reader may rely on of each list of changes.
-use Rattle.std.specs.Prelude.{◌≡◌, ℕ, ◌≤◌, ◌↔◌, true, List, [], ◌∷◌, ◌++◌, length, take, Some, slice_get}
+use Rattle.std.specs.Prelude.{◌≡◌, ℕ, ◌≤◌, ◌↔◌, ◌||◌, true, List, [], ◌∷◌, ◌++◌, length, map, take, All, Some, slice_get}
+use Rattle.std.specs.List.{list_all}
 use Rattle.be_base.specs.declared.limits.TheConstants.{BOX_LETTERS}
+use Rattle.be_model.specs.declared.changes.Row.{Row}
 use Rattle.be_model.specs.Schemas.{Attributes}
 use Rattle.be_model.specs.Matching.{Assignments, satisfied}
 use Rattle.be_model.specs.ByIds.{rows_of}
-use Rattle.be_change.specs.History.{Text, Entry, unsubscribed, left, session_of, serial_of, entries_of, places_of, live, after_entry, hit_rows, hits, names_of, Opens, MayFollow, IsWellFormed}
+use Rattle.be_change.specs.History.{Text, Entry, unsubscribed, left, session_of, serial_of, is_of, is_opening, entries_of, places_of, placed_of, live, after_entry, hit_rows, hits, names_of, Opens, MayFollow, IsWellFormed}
 use Rattle.be_change.specs.Requests.{Note, Exchange}
-use Rattle.be_change.specs.Walk.{Walk, IsLegal, IsLegalSession, names_of_session, live_rows}
+use Rattle.be_change.specs.Walk.{Walk, IsLegal, IsLegalSession, IsNoteFor, names_of_session, live_rows}
 use Rattle.be_change.specs.LiveRows.{AllBelow, Rising, SayIds, all_differ, LosesOne}
-use Rattle.be_change.specs.Box.{KeepsBox}
+use Rattle.be_change.specs.Box.{with_letters, KeepsBox}
+use Rattle.be_change.specs.Opening.{IsTable, opening_of, by_place}
 
 -- a list is well formed exactly where each entry may follow those before it
 abbrev pub FormIsByPlace : Type 0
@@ -30,6 +33,19 @@ SerialsCount =
 -- after a session's Bye there is no entry of that session
 abbrev pub ByeIsLast : Type 0
 ByeIsLast = (h more : List Entry) (k n : ℕ) → IsWellFormed (h ++ left k n ∷ more) → entries_of k more ≡ []
+
+-- what a session's entries with their places are: its places, its entries, and each stands in the list at its place
+pub record IsPlaced (k : ℕ) (h : List Entry) : Type 0 where
+  pub places : map (λ (p : ℕ × Entry). p.0) (placed_of k h) ≡ places_of k h
+  pub entries : map (λ (p : ℕ × Entry). p.1) (placed_of k h) ≡ entries_of k h
+  pub stand : All (λ (p : ℕ × Entry). slice_get h p.0 ≡ Some p.1) (placed_of k h)
+
+abbrev pub EntriesArePlaced : Type 0
+EntriesArePlaced = (k : ℕ) (h : List Entry) → IsPlaced k h
+
+-- other sessions' entries leave a session's where they are
+abbrev pub PlacesAreKept : Type 0
+PlacesAreKept = (k : ℕ) (h more : List Entry) → places_of k more ≡ [] → placed_of k (h ++ more) ≡ placed_of k h
 
 -- live ids are places in the list, and rise
 abbrev pub LiveIdsRise : Type 0
@@ -86,6 +102,15 @@ WalkIsKept =
 abbrev pub OpeningIsFirst : Type 0
 OpeningIsFirst = (h more : List Entry) (e : Entry) → IsWellFormed (h ++ e ∷ more) → session_of e ≡ 0 → Opens h e
 
+-- a table opens a well formed list of session 0 alone, in which each of its rows is live at its place
+pub record IsOpened (rows : List Row) : Type 0 where
+  pub formed : IsWellFormed (opening_of rows)
+  pub alone : list_all is_opening (opening_of rows) ≡ true
+  pub live : live (opening_of rows) ≡ by_place 0 rows
+
+abbrev pub TablesOpen : Type 0
+TablesOpen = (rows : List Row) → IsTable rows → IsOpened rows
+
 -- the rows that an event hits are the live rows that it satisfies, in their order, and it has a name for each
 abbrev pub HitsAreSatisfied : Type 0
 HitsAreSatisfied =
@@ -95,3 +120,10 @@ HitsAreSatisfied =
 abbrev pub BoxIsWithin : Type 0
 BoxIsWithin =
     (h : List Entry) (ps : List Exchange) (box box' : List Note) → KeepsBox h ps box box' → length box ≤ BOX_LETTERS → length box' ≤ BOX_LETTERS
+
+-- letters that a session's own event puts into its box are letters for it, where all rows are its own or of the opening
+abbrev pub LettersAreNotes : Type 0
+LettersAreNotes =
+    (k n : ℕ) (h : List Entry) (e : Assignments) (box : List Note) → n ≤ length h
+    → list_all (λ r. is_of 0 r || is_of k r) (live (take n h)) ≡ true
+    → All (IsNoteFor k h) box → All (IsNoteFor k h) (with_letters n e (hit_rows (take n h) e) box)

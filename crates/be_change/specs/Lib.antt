@@ -6,5 +6,6 @@ pub mod Walk
 pub mod Box
 pub mod Made
 pub mod LiveRows
+pub mod Opening
 pub mod Alone
 pub mod Laws

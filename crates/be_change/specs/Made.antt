@@ -1,6 +1,6 @@
 -- The list of a run with one session.
 use Rattle.std.specs.Prelude.{ℕ, ◌+◌, List, [], ◌∷◌, ◌++◌, length}
-use Rattle.be_model.specs.declared.conditions.Pred.{Pred}
+use Rattle.be_model.specs.declared.preds.Pred.{Pred}
 use Rattle.be_model.specs.declared.changes.Row.{Row}
 use Rattle.be_change.specs.History.{Text, Entry, subscribed, unsubscribed, left}
 use Rattle.be_change.specs.Requests.{Request, subscribe, unsubscribe, quit, ok, held, bye, Exchange}

@@ -1,6 +1,6 @@
 -- What a session asks, and what it is answered, as plain data.
 use Rattle.std.specs.Prelude.{ℕ, List}
-use Rattle.be_model.specs.declared.conditions.Pred.{Pred}
+use Rattle.be_model.specs.declared.preds.Pred.{Pred}
 use Rattle.be_model.specs.declared.changes.Row.{Row}
 use Rattle.be_model.specs.declared.costs.Cost.{Cost}
 use Rattle.be_model.specs.Matching.{Assignments}

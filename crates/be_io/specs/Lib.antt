@@ -9,5 +9,6 @@ pub mod Lines
 pub mod Reader
 pub mod Reading
 pub mod Buffer
+pub mod LineReader
 pub mod Shelf
 pub mod Door

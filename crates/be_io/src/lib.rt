@@ -1,6 +1,7 @@
 //! What the product takes from the outside and gives to it, as traits with counts of faults.
 #![tactic(auto)]
 
+mod buffer;
 mod calls;
 mod door;
 mod faults;
