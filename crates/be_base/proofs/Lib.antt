@@ -4,3 +4,5 @@ pub mod Lexing
 pub mod Scanning
 pub mod Joined
 pub mod Decimals
+pub mod SetReadings
+pub mod SetTokens

@@ -5,3 +5,5 @@ pub mod Tokens
 pub mod Fronts
 pub mod Scans
 pub mod Terms
+pub mod Readers
+pub mod Sets

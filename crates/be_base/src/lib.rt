@@ -4,6 +4,8 @@
 mod limits;
 mod names;
 mod numbers;
+mod readers;
+mod sets;
 mod terms;
 mod tokens;
 
@@ -13,6 +15,8 @@ pub use limits::{
 };
 pub use names::{AttrNo, Id, Name, NameFault, NoMemory, NoRead, SessionNo};
 pub use numbers::{read_count, read_int};
+pub use readers::{after_brace, after_word, is_end, read_word};
+pub use sets::{SetValue, read_value};
 pub use terms::{Term, read_term};
 pub use tokens::{Scan, Token, is_word_byte, next_token};
 
