@@ -1,3 +1,4 @@
+pub mod Beginnings
 pub mod SameText
 pub mod NameForms
 pub mod Lexing

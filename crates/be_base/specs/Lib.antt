@@ -1,5 +1,7 @@
+pub mod Lists
 pub mod Padding
 pub mod Text
+pub mod TextLists
 pub mod Numbers
 pub mod Tokens
 pub mod Fronts
