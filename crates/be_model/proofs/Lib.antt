@@ -17,3 +17,4 @@ pub mod NamePlaces
 pub mod Putting
 pub mod NamedBelow
 pub mod Pieces
+pub mod SetsBuilt

@@ -14,3 +14,4 @@ pub mod Texts
 pub mod Costs
 pub mod ByIds
 pub mod Bounds
+pub mod SetTexts

@@ -10,6 +10,7 @@ mod found;
 mod laws;
 mod paths;
 mod schemas;
+mod set_texts;
 mod texts;
 
 pub use changes::{Change, Row};
@@ -23,3 +24,4 @@ pub use laws::{
 };
 pub use paths::{Hop, Path};
 pub use schemas::{Attribute, Domain, Names, Schema, is_reserved};
+pub use set_texts::Met;
