@@ -22,14 +22,15 @@ use Rattle.be_model.specs.Schemas.{Attributes, IsSchema, attribute_at, attribute
 use Rattle.be_model.specs.Forms.{AreValues, OpForm, IsConj, rises, put_value}
 use Rattle.be_model.specs.Lies.{values_in, pred_lies, conj_lies}
 use Rattle.be_model.specs.Assigned.{value_at}
+use Rattle.be_model.specs.SetTexts.{rising}
 use Rattle.be_model.specs.Texts.{value_text, value_text_at, name_at, WordsAreNames, NamesAreNames}
 use Rattle.be_model.proofs.Attributes.{all_at}
 use Rattle.be_model.proofs.InSchema.{range_of_pred, range_below, attribute_of_range}
 use Rattle.be_model.proofs.ReadBack.{names_are_found, values_are_read, values_are_words}
-use Rattle.be_expr.specs.Written.{is_name, is_attr, op_is_written, are_written}
+use Rattle.be_expr.specs.Grammar.{is_name, is_attr, op_is_written, are_written}
 use Rattle.be_expr.specs.Readings.{written}
-use Rattle.be_expr.specs.Expressions.{words_of, is_unknown, is_outside, has_many_values, fault_in, rising, meant_op, pred_on, meant_pred, judged, meaning, expression}
-use Rattle.be_expr.specs.Canonical.{expr_text, IsSpelled, TextsAreRead}
+use Rattle.be_expr.specs.Expressions.{words_of, is_unknown, is_outside, has_many_values, fault_in, meant_op, pred_on, meant_pred, judged, meaning, expression}
+use Rattle.be_expr.specs.Writing.{expr_text, IsSpelled, TextsAreRead}
 use Rattle.be_expr.proofs.Grammar.{tokens_are_read}
 use Rattle.be_expr.proofs.CanonicalTokens.{written_op, written_pred, expr_lexed}
 

@@ -17,7 +17,7 @@ use Rattle.be_model.specs.Schemas.{Attributes, IsSchema}
 use Rattle.be_expr.specs.declared.faults.ExprFault.{ExprFault}
 use Rattle.be_expr.specs.declared.faults.ExprFault.TheVariants.{Bad, NoMemory}
 use Rattle.be_expr.specs.Expressions.{condition}
-use Rattle.be_expr.specs.Canonical.{expr_text}
+use Rattle.be_expr.specs.Writing.{expr_text}
 
 -- the word of a change, its session and its serial
 abbrev pub head_text : Text → ℕ → ℕ → Text
