@@ -5,7 +5,7 @@ pub mod TextLists
 pub mod Numbers
 pub mod Tokens
 pub mod Fronts
+pub mod FirstTokens
 pub mod Scans
-pub mod Terms
 pub mod Readers
 pub mod Sets

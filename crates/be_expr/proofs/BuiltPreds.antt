@@ -7,11 +7,11 @@ use Rattle.std.proofs.lemmas.Bool.{or_parts, and_parts, not-true}
 use Rattle.be_base.specs.Text.{Text}
 use Rattle.be_base.specs.Tokens.{Lexeme}
 use Rattle.be_base.specs.declared.names.AttrNo.{AttrNo}
-use Rattle.be_model.specs.declared.conditions.Op.{Op}
-use Rattle.be_model.specs.declared.conditions.Pred.{Pred}
+use Rattle.be_model.specs.declared.ops.Op.{Op}
+use Rattle.be_model.specs.declared.preds.Pred.{Pred}
 use Rattle.be_model.specs.Schemas.{Attributes, numbered, attribute_named}
 use Rattle.be_base.specs.Readers.{Read}
-use Rattle.be_model.specs.Assigned.{value_at}
+use Rattle.be_model.specs.Schemas.{value_at}
 use Rattle.be_model.specs.SetTexts.{has_outside}
 use Rattle.be_expr.specs.Grammar.{WrittenOp, between, WrittenPred}
 use Rattle.be_expr.specs.Readings.{with_attr, read_pred}

@@ -6,9 +6,9 @@ use Rattle.be_base.specs.Tokens.{Lexeme, word, less, less_or_equal, equal, not_e
 use Rattle.be_base.specs.Sets.{set_tokens, set_text}
 use Rattle.be_base.proofs.SetTokens.{AreWords, Ends, set_then}
 use Rattle.be_base.proofs.Joined.{IsWord-from_name, word_then, word_alone, word_space, space_then, less_space, less_or_equal_space, equal_space, not_equal_space, greater_or_equal_space, greater_space}
-use Rattle.be_model.specs.declared.conditions.Op.{Op}
-use Rattle.be_model.specs.declared.conditions.Op.TheVariants.{Lt, Le, Eq, Ne, Ge, Gt, Between, OneOf, NoneOf}
-use Rattle.be_model.specs.declared.conditions.Pred.{Pred}
+use Rattle.be_model.specs.declared.ops.Op.{Op}
+use Rattle.be_model.specs.declared.ops.Op.TheVariants.{Lt, Le, Eq, Ne, Ge, Gt, Between, OneOf, NoneOf}
+use Rattle.be_model.specs.declared.preds.Pred.{Pred}
 use Rattle.be_model.specs.Schemas.{Attributes}
 use Rattle.be_model.specs.Forms.{AreValues, OpForm}
 use Rattle.be_model.specs.Lies.{values_in}

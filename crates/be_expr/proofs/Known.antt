@@ -4,7 +4,7 @@ use Rattle.std.specs.Option.{option_or}
 use Rattle.be_base.specs.Text.{Text}
 use Rattle.be_base.specs.Tokens.{tokens}
 use Rattle.be_base.specs.declared.names.AttrNo.{AttrNo}
-use Rattle.be_model.specs.declared.conditions.Pred.{Pred}
+use Rattle.be_model.specs.declared.preds.Pred.{Pred}
 use Rattle.be_model.specs.Schemas.{Attributes, attribute_named}
 use Rattle.be_model.proofs.NamedBelow.{named_below}
 use Rattle.be_expr.specs.Grammar.{WrittenPred}

@@ -10,14 +10,14 @@ use Rattle.be_base.specs.Text.{Text, same_text}
 use Rattle.be_base.specs.Tokens.{Lexeme, less, less_or_equal, not_equal, greater_or_equal, greater}
 use Rattle.be_base.specs.declared.names.AttrNo.{AttrNo}
 use Rattle.be_model.specs.declared.schemas.Attribute.{Attribute}
-use Rattle.be_model.specs.declared.conditions.Pred.{Pred}
+use Rattle.be_model.specs.declared.preds.Pred.{Pred}
 use Rattle.be_model.specs.Domains.{Range, bounds_of, is_within, value_of_word, place_of}
 use Rattle.be_model.specs.Schemas.{Attributes, numbered, attribute_named, attribute_at, names_of_attributes, range_of}
-use Rattle.be_model.specs.Assigned.{value_at}
+use Rattle.be_model.specs.Schemas.{value_at}
 use Rattle.be_model.specs.SetTexts.{known, has_outside, rising}
 use Rattle.be_model.specs.Forms.{put_value}
 use Rattle.be_model.specs.Lies.{values_in, lies_in, lies_within, pred_lies, conj_lies}
-use Rattle.be_model.proofs.AssignedValues.{value_within}
+use Rattle.be_model.proofs.ReadValues.{value_within}
 use Rattle.be_expr.specs.declared.faults.ExprFault.{ExprFault}
 use Rattle.be_expr.specs.declared.faults.ExprFault.TheVariants.{NoMemory}
 use Rattle.be_expr.specs.declared.faults.Faults.{Faults}

@@ -5,7 +5,7 @@ use Rattle.std.specs.Option.{option_or}
 use Rattle.std.proofs.lemmas.Bool.{and_from, not_from_false}
 use Rattle.std.proofs.lemmas.Bool.Decides.{nat_tests}
 use Rattle.be_base.specs.declared.names.AttrNo.{AttrNo}
-use Rattle.be_model.specs.declared.conditions.Pred.{Pred}
+use Rattle.be_model.specs.declared.preds.Pred.{Pred}
 use Rattle.be_model.specs.Schemas.{Attributes, attribute_named}
 use Rattle.be_expr.specs.declared.faults.ExprFault.{ExprFault}
 use Rattle.be_expr.specs.declared.faults.ExprFault.TheVariants.{Bad, Attr, Dom, Many, NoMemory}

@@ -5,8 +5,8 @@ use Rattle.be_base.specs.Tokens.{Lexeme}
 use Rattle.be_base.specs.Readers.{Read}
 use Rattle.be_base.specs.declared.limits.TheConstants.{PREDICATES, SET_VALUES}
 use Rattle.be_base.specs.declared.names.AttrNo.{AttrNo}
-use Rattle.be_model.specs.declared.conditions.Op.{Op}
-use Rattle.be_model.specs.declared.conditions.Pred.{Pred}
+use Rattle.be_model.specs.declared.ops.Op.{Op}
+use Rattle.be_model.specs.declared.preds.Pred.{Pred}
 use Rattle.be_model.specs.Schemas.{Attributes}
 use Rattle.be_model.specs.SetTexts.{known, has_outside}
 use Rattle.be_expr.specs.Grammar.{WrittenOp, WrittenPred}

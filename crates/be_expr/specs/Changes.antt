@@ -5,7 +5,7 @@ use Rattle.be_base.specs.Text.{Text, same_text, name_of, IsName}
 use Rattle.be_base.specs.Numbers.{count_of}
 use Rattle.be_base.specs.Tokens.{Lexeme, word, tokens}
 use Rattle.be_base.specs.declared.names.NameFault.{NameFault}
-use Rattle.be_model.specs.declared.conditions.Pred.{Pred}
+use Rattle.be_model.specs.declared.preds.Pred.{Pred}
 use Rattle.be_model.specs.declared.changes.Row.{Row}
 use Rattle.be_model.specs.declared.changes.Change.{Change}
 use Rattle.be_expr.specs.Parts.{PlainFront}

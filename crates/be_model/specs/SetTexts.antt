@@ -6,7 +6,7 @@ use Rattle.be_base.specs.Text.{Text}
 use Rattle.be_base.specs.Tokens.{Lexeme}
 use Rattle.be_base.specs.Readers.{Read}
 use Rattle.be_base.specs.declared.names.AttrNo.{AttrNo}
-use Rattle.be_model.specs.Assigned.{value_at}
+use Rattle.be_model.specs.Schemas.{value_at}
 use Rattle.be_model.specs.Forms.{put_value}
 use Rattle.be_model.specs.Schemas.{Attributes}
 use Rattle.be_model.specs.declared.set_texts.Met.{Met}
