@@ -20,3 +20,4 @@ pub mod Putting
 pub mod NamedBelow
 pub mod Pieces
 pub mod SetsBuilt
+pub mod TextsBack

@@ -1,14 +1,16 @@
 -- Sets of values as texts over a schema.
-use Rattle.std.specs.Prelude.{◌≡◌, ℕ, ℤ, pos, ◌≤◌, ◌+◌, Bool, false, List, [], ◌∷◌, length, map, Option, Some, None}
+use Rattle.std.specs.Prelude.{◌≡◌, ℕ, ℤ, pos, ◌≤◌, ◌+◌, Bool, false, List, [], ◌∷◌, length, map, All, Option, Some, None}
 use Rattle.std.specs.List.{list_any}
 use Rattle.std.specs.Option.{is_none, option_map_or}
-use Rattle.be_base.specs.Text.{Text}
+use Rattle.be_base.specs.Text.{Text, IsName, IsWord}
 use Rattle.be_base.specs.Tokens.{Lexeme}
 use Rattle.be_base.specs.Readers.{Read}
+use Rattle.be_base.specs.declared.limits.TheConstants.{SET_VALUES}
 use Rattle.be_base.specs.declared.names.AttrNo.{AttrNo}
 use Rattle.be_model.specs.Schemas.{value_at}
 use Rattle.be_model.specs.Forms.{put_value}
 use Rattle.be_model.specs.Schemas.{Attributes}
+use Rattle.be_model.specs.Texts.{value_text_at, name_at}
 use Rattle.be_model.specs.declared.set_texts.Met.{Met}
 
 -- the value of a word that has one
@@ -45,4 +47,8 @@ values_with s a r = (meant_values s a r.0, r.1)
 -- words were read, at most 64 with n more, and each has a value
 abbrev pub FineValues : Attributes → AttrNo → ℕ → Read (List Text) → Type 0
 FineValues s a n None = ⊥
-FineValues s a n (Some r) = (has_outside s a r.0 ≡ false) × (n + length r.0 ≤ 64)
+FineValues s a n (Some r) = (has_outside s a r.0 ≡ false) × (n + length r.0 ≤ SET_VALUES)
+
+-- the attribute's name is a name, and the texts of the values are words
+abbrev pub IsSpelled : Attributes → AttrNo → List ℤ → Type 0
+IsSpelled s a vs = IsName (name_at s a) × All (λ v. IsWord (value_text_at s a v)) vs
