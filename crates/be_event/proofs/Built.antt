@@ -14,7 +14,7 @@ use Rattle.be_event.specs.Events.{by_place}
 
 -- each attribute is below n
 abbrev all_below : ℕ → Assignments → Bool
-all_below n items = list_all (λ (i : AttrNo × ℤ). ltb i.0.0 n) items
+all_below n items = list_all (λ (i : AttrNo × List ℤ). ltb i.0.0 n) items
 
 below_more : (n : ℕ) (items : Assignments) → all_below n items ≡ true → all_below (suc n) items ≡ true
 below_more n [] h = refl
@@ -25,14 +25,14 @@ below_more n (i ∷ items) h =
 below_step : (n : ℕ) (o : Option ℤ) (items : Assignments) → all_below n items ≡ true → all_below (suc n) (option_map_or (λ v. items ++ (numbered n, v) ∷ []) o items) ≡ true
 below_step n None items h = below_more n items h
 below_step n (Some v) items h =
-    list_all-append (λ (i : AttrNo × ℤ). ltb i.0.0 (suc n)) items ((numbered n, v) ∷ [])
+    list_all-append (λ (i : AttrNo × List ℤ). ltb i.0.0 (suc n)) items ((numbered n, v) ∷ [])
     ∙ and_both (all_below (suc n) items) (ltb n (suc n) && true) (below_more n items h) (grind (arith, nat_tests))
 
 by_place-below : (n : ℕ) (value : ℕ → Option ℤ) → all_below n (by_place n value) ≡ true
 by_place-below zero value = refl
 by_place-below (suc n) value = below_step n (value n) (by_place n value) (by_place-below n value)
 
-rise_one : (n : ℕ) (v : ℤ) (i : AttrNo × ℤ) (rest : Assignments) → ltb i.0.0 n ≡ true → attrs_rise (i ∷ rest) ≡ true → all_below n rest ≡ true
+rise_one : (n : ℕ) (v : ℤ) (i : AttrNo × List ℤ) (rest : Assignments) → ltb i.0.0 n ≡ true → attrs_rise (i ∷ rest) ≡ true → all_below n rest ≡ true
     → (all_below n rest ≡ true → attrs_rise rest ≡ true → attrs_rise (rest ++ (numbered n, v) ∷ []) ≡ true) → attrs_rise (i ∷ rest ++ (numbered n, v) ∷ []) ≡ true
 rise_one n v i [] first h below more = and_both (ltb i.0.0 n) true first refl
 rise_one n v i (j ∷ rest) first h below more =

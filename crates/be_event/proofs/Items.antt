@@ -10,7 +10,7 @@ use Rattle.be_base.specs.Text.{Text}
 use Rattle.be_base.specs.declared.names.AttrNo.{AttrNo}
 use Rattle.be_model.specs.Matching.{Assignments, value_of}
 use Rattle.be_model.specs.Schemas.{Attributes, numbered, attribute_named}
-use Rattle.be_model.specs.Assigned.{value_at}
+use Rattle.be_model.specs.Schemas.{value_at}
 use Rattle.be_event.specs.Written.{WrittenItem, item_of}
 use Rattle.be_event.specs.Events.{is_unknown, unknown_attr, is_outside, outside_domain, assignment, assignments, again_after, stands_twice}
 use Rattle.be_event.specs.ItemScans.{Holds, Finds}
@@ -66,7 +66,7 @@ assignments-none : (s : Attributes) (items : List WrittenItem) (item : WrittenIt
 assignments-none s items item h =
     filter_map-append (assignment s) items (item ∷ []) ∙ rw h (append-nil (assignments s items))
 
-assignments-some : (s : Attributes) (items : List WrittenItem) (item : WrittenItem) (v : AttrNo × ℤ) → assignment s item ≡ Some v → assignments s (items ++ item ∷ []) ≡ assignments s items ++ v ∷ []
+assignments-some : (s : Attributes) (items : List WrittenItem) (item : WrittenItem) (v : AttrNo × List ℤ) → assignment s item ≡ Some v → assignments s (items ++ item ∷ []) ≡ assignments s items ++ v ∷ []
 assignments-some s items item v h = filter_map-append (assignment s) items (item ∷ []) ∙ rw h refl
 
 is_unknown_by : (o : Option AttrNo) (s : Attributes) (item : WrittenItem) → attribute_named s item.attr ≡ o → is_unknown s item ≡ is_none o
@@ -106,7 +106,7 @@ again_step true c a d r q h = refl
 again_step false c a d r q h = h
 
 -- the first attribute that stands a second time, with one more item
-again-push : (before items : Assignments) (item : AttrNo × ℤ)
+again-push : (before items : Assignments) (item : AttrNo × List ℤ)
     → again_after before (items ++ item ∷ []) ≡ option_or (again_after before items) (cond (is_some (value_of (before ++ items) item.0)) (Some item.0) None)
 again-push before [] item = rw (append-nil before) refl
 again-push before (x ∷ items) item =
@@ -118,12 +118,12 @@ value_step true c v w r q h = refl
 value_step false c v w r q h = h
 
 -- the value of an attribute, with one more item
-pub value_of-push : (items : Assignments) (item : AttrNo × ℤ) (a : AttrNo) → value_of (items ++ item ∷ []) a ≡ option_or (value_of items a) (cond (item.0.0 == a.0) (Some item.1) None)
+pub value_of-push : (items : Assignments) (item : AttrNo × List ℤ) (a : AttrNo) → value_of (items ++ item ∷ []) a ≡ option_or (value_of items a) (cond (item.0.0 == a.0) (Some item.1) None)
 value_of-push [] item a = refl
 value_of-push (x ∷ items) item a = value_step (x.0.0 == a.0) (item.0.0 == a.0) x.1 item.1 _ (value_of items a) (value_of-push items item a)
 
 -- the attribute had a value already
-had_value : (items : Assignments) (item : AttrNo × ℤ) (old : ℤ) (place : ℕ) → Some old ≡ value_of items item.0
+had_value : (items : Assignments) (item : AttrNo × List ℤ) (old : ℤ) (place : ℕ) → Some old ≡ value_of items item.0
     → value_of (items ++ item ∷ []) (numbered place) ≡ value_of items (numbered place)
 had_value items item old place h = value_of-push items item (numbered place) ∙ at (item.0.0 == place) refl
   where
@@ -132,7 +132,7 @@ had_value items item old place h = value_of-push items item (numbered place) ∙
     at true e = let k : item.0.0 ≡ place = grind (arith, nat_tests) in rw (← k) (rw (← h) refl)
 
 -- the attribute had no value yet
-new_value : (values : List (Option ℤ)) (items : Assignments) (item : AttrNo × ℤ) (place : ℕ) → length values ≡ 256 → place < 256 → item.0.0 < 256 → None ≡ value_of items item.0
+new_value : (values : List (Option ℤ)) (items : Assignments) (item : AttrNo × List ℤ) (place : ℕ) → length values ≡ 256 → place < 256 → item.0.0 < 256 → None ≡ value_of items item.0
     → get_or values place None ≡ value_of items (numbered place)
     → get_or (set values item.0.0 (Some item.1)) place None ≡ value_of (items ++ item ∷ []) (numbered place)
 new_value values items item place len within few none is = at (item.0.0 == place) refl ∙ sym (value_of-push items item (numbered place))

@@ -5,7 +5,7 @@ use Rattle.std.specs.Option.{option_or}
 use Rattle.be_base.specs.Text.{Text}
 use Rattle.be_base.specs.Tokens.{tokens}
 use Rattle.be_base.specs.declared.names.AttrNo.{AttrNo}
-use Rattle.be_model.specs.Assigned.{value_at}
+use Rattle.be_model.specs.Schemas.{value_at}
 use Rattle.be_model.specs.Matching.{Assignments, value_of}
 use Rattle.be_model.specs.Schemas.{Attributes, attribute_named}
 use Rattle.be_model.proofs.NamedBelow.{named_below}

@@ -9,7 +9,7 @@ use Rattle.be_base.proofs.SameText.{equal_from_same_text}
 use Rattle.be_model.specs.Matching.{Assignments, value_of}
 use Rattle.be_model.specs.Schemas.{Attributes, numbered, attribute_named}
 use Rattle.be_model.specs.Lies.{item_lies, event_lies}
-use Rattle.be_model.proofs.AssignedValues.{with_attribute}
+use Rattle.be_model.proofs.ReadValues.{with_attribute}
 use Rattle.be_event.specs.Written.{WrittenItem, read_items, written}
 use Rattle.be_event.specs.Events.{assignment, assignments, by_place, by_attribute, judged, meaning, event}
 use Rattle.be_event.specs.ItemScans.{items_in, Holds, Scanned, Judges}
@@ -33,7 +33,7 @@ written_in None some dash = refl
 written_in (Some ts) some dash = written_items ts some dash
 
 -- a value of an item lies in the schema
-lies_step : (s : Attributes) (o : Option (AttrNo × ℤ)) (items : Assignments) (a : AttrNo) (v : ℤ) → ((i : AttrNo × ℤ) → o ≡ Some i → item_lies s i ≡ true)
+lies_step : (s : Attributes) (o : Option (AttrNo × List ℤ)) (items : Assignments) (a : AttrNo) (v : ℤ) → ((i : AttrNo × List ℤ) → o ≡ Some i → item_lies s i ≡ true)
     → (value_of items a ≡ Some v → item_lies s (a, v) ≡ true) → value_of (cons_option o items) a ≡ Some v → item_lies s (a, v) ≡ true
 lies_step s None items a v one rest h = rest h
 lies_step s (Some i) items a v one rest h = at (i.0.0 == a.0) refl h

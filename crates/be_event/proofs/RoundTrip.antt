@@ -32,13 +32,13 @@ use Rattle.be_event.specs.Canonical.{item_text, event_text, IsSpelled, TextsAreR
 use Rattle.be_event.proofs.Grammar.{written-event_tokens}
 
 -- an item as its text writes it
-abbrev written_as : Attributes → AttrNo × ℤ → WrittenItem
+abbrev written_as : Attributes → AttrNo × List ℤ → WrittenItem
 written_as s item = item_of (name_at s item.0) (value_text_at s item.0 item.1)
 
 in_parts : (name value rest : Text) → (name ++ codes "=" ++ value) ++ rest ≡ name ++ (61 ∷ (value ++ rest))
 in_parts name value rest = simp append_assoc
 
-item_lexed : (s : Attributes) (item : AttrNo × ℤ) (rest : Text) (ts : List Lexeme) → IsSpelled s item → starts_with is_word_byte rest ≡ false → tokens rest ≡ Some ts
+item_lexed : (s : Attributes) (item : AttrNo × List ℤ) (rest : Text) (ts : List Lexeme) → IsSpelled s item → starts_with is_word_byte rest ≡ false → tokens rest ≡ Some ts
     → tokens (item_text s item ++ rest) ≡ Some (word (name_at s item.0) ∷ equal ∷ word (value_text_at s item.0 item.1) ∷ ts)
 unfolding is_word_byte
 item_lexed s item rest ts p ends e =
@@ -47,7 +47,7 @@ item_lexed s item rest ts p ends e =
     ap tokens (in_parts (name_at s item.0) (value_text_at s item.0 item.1) rest)
     ∙ word_then (name_at s item.0) (61 ∷ (value_text_at s item.0 item.1 ++ rest)) (equal ∷ word (value_text_at s item.0 item.1) ∷ ts) (IsWord-from_name (name_at s item.0) p.name) refl sign
 
-items_lexed : (s : Attributes) (item : AttrNo × ℤ) (items : Assignments) → IsSpelled s item → All (IsSpelled s) items
+items_lexed : (s : Attributes) (item : AttrNo × List ℤ) (items : Assignments) → IsSpelled s item → All (IsSpelled s) items
     → tokens (item_text s item ++ flat_map (λ i. codes " " ++ item_text s i) items) ≡ Some (item_tokens (map (written_as s) (item ∷ items)))
 unfolding is_word_byte
 items_lexed s item [] p ps = item_lexed s item [] [] p refl refl
@@ -66,7 +66,7 @@ event_lexed s [] ps = word_alone (codes "-") hyphen
 event_lexed s (item ∷ items) ps = items_lexed s item items (All-head (IsSpelled s) item items ps) (All-tail (IsSpelled s) item items ps)
 
 -- the schema assigns what was written
-assigned_back : (s : Attributes) (item : AttrNo × ℤ) → IsSpelled s item → assignment s (written_as s item) ≡ Some item
+assigned_back : (s : Attributes) (item : AttrNo × List ℤ) → IsSpelled s item → assignment s (written_as s item) ≡ Some item
 assigned_back s item p = rw (p.found, p.read) refl
 
 assignments_back : (s : Attributes) (e : Assignments) → All (IsSpelled s) e → assignments s (map (written_as s) e) ≡ e
@@ -83,20 +83,20 @@ none_outside s [] ps = refl
 none_outside s (item ∷ items) ps =
     let p = All-head (IsSpelled s) item items ps in rw (p.found, p.read) (none_outside s items (All-tail (IsSpelled s) item items ps))
 
-below_next : (b : AttrNo × ℤ) (bs : Assignments) (i : AttrNo × ℤ) (is : Assignments) → attrs_rise (b ∷ bs ++ i ∷ is) ≡ true → b.0.0 < i.0.0
+below_next : (b : AttrNo × List ℤ) (bs : Assignments) (i : AttrNo × List ℤ) (is : Assignments) → attrs_rise (b ∷ bs ++ i ∷ is) ≡ true → b.0.0 < i.0.0
 below_next b [] i is h = let k = and_left (ltb b.0.0 i.0.0) (attrs_rise (i ∷ is)) h in grind (arith, nat_tests)
 below_next b (c ∷ cs) i is h =
     let k = and_left (ltb b.0.0 c.0.0) (attrs_rise (c ∷ cs ++ i ∷ is)) h in
     let m = below_next c cs i is (and_right (ltb b.0.0 c.0.0) (attrs_rise (c ∷ cs ++ i ∷ is)) h) in grind (arith, nat_tests)
 
-rest_rises : (b : AttrNo × ℤ) (items : Assignments) → attrs_rise (b ∷ items) ≡ true → attrs_rise items ≡ true
+rest_rises : (b : AttrNo × List ℤ) (items : Assignments) → attrs_rise (b ∷ items) ≡ true → attrs_rise items ≡ true
 rest_rises b [] h = refl
 rest_rises b (c ∷ cs) h = and_right (ltb b.0.0 c.0.0) (attrs_rise (c ∷ cs)) h
 
 apart : (a b : ℕ) → a < b → (a == b) ≡ false
 apart a b h = grind (arith, nat_tests)
 
-no_value_before : (before : Assignments) (i : AttrNo × ℤ) (is : Assignments) → attrs_rise (before ++ i ∷ is) ≡ true → value_of before i.0 ≡ None
+no_value_before : (before : Assignments) (i : AttrNo × List ℤ) (is : Assignments) → attrs_rise (before ++ i ∷ is) ≡ true → value_of before i.0 ≡ None
 no_value_before [] i is h = refl
 no_value_before (b ∷ bs) i is h = rw (apart b.0.0 i.0.0 (below_next b bs i is h)) (no_value_before bs i is (rest_rises b (bs ++ i ∷ is) h))
 
@@ -110,7 +110,7 @@ abbrev front : ℕ → Assignments → Assignments
 front n [] = []
 front n (i ∷ is) = cond (ltb i.0.0 n) (i ∷ front n is) []
 
-later_none : (n : ℕ) (i : AttrNo × ℤ) (is : Assignments) → attrs_rise (i ∷ is) ≡ true → n ≤ i.0.0 → (value_of is (numbered n) ≡ None) × (front (suc n) is ≡ [])
+later_none : (n : ℕ) (i : AttrNo × List ℤ) (is : Assignments) → attrs_rise (i ∷ is) ≡ true → n ≤ i.0.0 → (value_of is (numbered n) ≡ None) × (front (suc n) is ≡ [])
 later_none n i [] h k = (refl, refl)
 later_none n i (j ∷ js) h k =
     let first = and_left (ltb i.0.0 j.0.0) (attrs_rise (j ∷ js)) h in
@@ -120,7 +120,7 @@ later_none n i (j ∷ js) h k =
     let rest = later_none n j js (rest_rises i (j ∷ js) h) (omega arith) in
     (rw here rest.0, rw out refl)
 
-kept : (o : Option ℤ) (i : AttrNo × ℤ) (items : Assignments) (n : ℕ)
+kept : (o : Option ℤ) (i : AttrNo × List ℤ) (items : Assignments) (n : ℕ)
     → i ∷ option_map_or (λ v. items ++ (numbered n, v) ∷ []) o items ≡ option_map_or (λ v. (i ∷ items) ++ (numbered n, v) ∷ []) o (i ∷ items)
 kept None i items n = refl
 kept (Some v) i items n = refl
@@ -165,24 +165,24 @@ by_attribute-front zero e h = sym (nothing_below e)
 by_attribute-front (suc n) e h =
     ap (λ (x : Assignments). option_map_or (λ v. x ++ (numbered n, v) ∷ []) (value_of e (numbered n)) x) (by_attribute-front n e h) ∙ sym (front_more n e h)
 
-front_all : (n : ℕ) (e : Assignments) → list_all (λ (i : AttrNo × ℤ). ltb i.0.0 n) e ≡ true → front n e ≡ e
+front_all : (n : ℕ) (e : Assignments) → list_all (λ (i : AttrNo × List ℤ). ltb i.0.0 n) e ≡ true → front n e ≡ e
 front_all n [] h = refl
 front_all n (i ∷ is) h =
-    rw (and_left (ltb i.0.0 n) (list_all (λ (j : AttrNo × ℤ). ltb j.0.0 n) is) h) (ap (λ (x : Assignments). i ∷ x) (front_all n is (and_right (ltb i.0.0 n) (list_all (λ (j : AttrNo × ℤ). ltb j.0.0 n) is) h)))
+    rw (and_left (ltb i.0.0 n) (list_all (λ (j : AttrNo × List ℤ). ltb j.0.0 n) is) h) (ap (λ (x : Assignments). i ∷ x) (front_all n is (and_right (ltb i.0.0 n) (list_all (λ (j : AttrNo × List ℤ). ltb j.0.0 n) is) h)))
 
-range_of_item : (s : Attributes) (i : AttrNo × ℤ) → item_lies s i ≡ true → (r : Range) × (range_of s i.0 ≡ Some r)
+range_of_item : (s : Attributes) (i : AttrNo × List ℤ) → item_lies s i ≡ true → (r : Range) × (range_of s i.0 ≡ Some r)
 range_of_item s i h = by_option (range_of s i.0) refl h
   where
     by_option : (o : Option Range) → range_of s i.0 ≡ o → lies_in o (i.1 ∷ []) ≡ true → (r : Range) × (range_of s i.0 ≡ Some r)
     by_option None e k = absurd (cc)
     by_option (Some r) e k = (r, e)
 
-all_inside : (s : Attributes) (e : Assignments) → event_lies s e ≡ true → list_all (λ (i : AttrNo × ℤ). ltb i.0.0 (length s)) e ≡ true
+all_inside : (s : Attributes) (e : Assignments) → event_lies s e ≡ true → list_all (λ (i : AttrNo × List ℤ). ltb i.0.0 (length s)) e ≡ true
 all_inside s [] h = refl
 all_inside s (i ∷ is) h =
     let lies = range_of_item s i (and_left (item_lies s i) (event_lies s is) h) in
     let inside = range_below s i.0 lies.0 lies.1 in
-    and_both (ltb i.0.0 (length s)) (list_all (λ (j : AttrNo × ℤ). ltb j.0.0 (length s)) is) (grind (arith, nat_tests)) (all_inside s is (and_right (item_lies s i) (event_lies s is) h))
+    and_both (ltb i.0.0 (length s)) (list_all (λ (j : AttrNo × List ℤ). ltb j.0.0 (length s)) is) (grind (arith, nat_tests)) (all_inside s is (and_right (item_lies s i) (event_lies s is) h))
 
 unreserved_at : (s : Attributes) (a : AttrNo) → IsSchema s → attribute_named s (name_at s a) ≡ Some a → not (is_among_texts (name_at s a) reserved_words) ≡ true
 unreserved_at s a f h =
@@ -215,7 +215,7 @@ spelled_is_read s e f rises lies ps =
     ∙ ap (judged (by_attribute (length s) (assignments s items))) fault
     ∙ ap (λ x. Ok x) same
 
-spelled_at : (s : Attributes) (i : AttrNo × ℤ) → IsSchema s → NamesAreNames s → item_lies s i ≡ true → IsSpelled s i
+spelled_at : (s : Attributes) (i : AttrNo × List ℤ) → IsSchema s → NamesAreNames s → item_lies s i ≡ true → IsSpelled s i
 spelled_at s i f names h =
     let r = range_of_item s i h in
     let x = attribute_of_range s i.0 r.0 r.1 in

@@ -7,7 +7,7 @@ use Rattle.be_base.specs.Tokens.{Lexeme, tokens}
 use Rattle.be_base.specs.declared.names.AttrNo.{AttrNo}
 use Rattle.be_model.specs.Matching.{Assignments, value_of}
 use Rattle.be_model.specs.Schemas.{Attributes, numbered, attribute_named}
-use Rattle.be_model.specs.Assigned.{value_at}
+use Rattle.be_model.specs.Schemas.{value_at}
 use Rattle.be_event.specs.Written.{WrittenItem, written}
 use Rattle.be_event.specs.declared.events.EventFault.{EventFault}
 use Rattle.be_event.specs.declared.events.EventFault.TheVariants.{Bad, Attr, Dom, Twice, NoMemory}
@@ -28,7 +28,7 @@ abbrev pub outside_domain : Attributes → List WrittenItem → Option AttrNo
 outside_domain s items = option_and_then (λ (item : WrittenItem). attribute_named s item.attr) (find (is_outside s) items)
 
 -- the attribute and its value, where the schema has both
-abbrev pub assignment : Attributes → WrittenItem → Option (AttrNo × ℤ)
+abbrev pub assignment : Attributes → WrittenItem → Option (AttrNo × List ℤ)
 assignment s item =
     option_and_then (λ a. option_map (λ v. (a, v)) (value_at s a item.value)) (attribute_named s item.attr)
 

@@ -13,23 +13,24 @@ use Rattle.std.proofs.lemmas.Option.{get_or_from_slice_get, slice_get_within}
 use Rattle.be_base.specs.Text.{Text, IsWord, IsName}
 use Rattle.be_base.specs.declared.names.AttrNo.{AttrNo}
 use Rattle.be_base.proofs.NameForms.{name_of-Ok}
-use Rattle.be_model.specs.declared.conditions.Op.{Op}
-use Rattle.be_model.specs.declared.conditions.Op.TheVariants.{Lt, Le, Eq, Ne, Ge, Gt, Between, OneOf, NoneOf}
-use Rattle.be_model.specs.declared.conditions.Pred.{Pred}
+use Rattle.be_model.specs.declared.ops.Op.{Op}
+use Rattle.be_model.specs.declared.ops.Op.TheVariants.{Lt, Le, Eq, Ne, Ge, Gt, Between, OneOf, NoneOf}
+use Rattle.be_model.specs.declared.preds.Pred.{Pred}
 use Rattle.be_model.specs.declared.schemas.Attribute.{Attribute}
 use Rattle.be_model.specs.Domains.{bounds_of, is_within, value_of_word}
 use Rattle.be_model.specs.Schemas.{Attributes, IsSchema, attribute_at, attribute_named, is_among_texts, reserved_words, is_domain}
 use Rattle.be_model.specs.Forms.{AreValues, OpForm, IsConj, rises, put_value}
 use Rattle.be_model.specs.Lies.{values_in, pred_lies, conj_lies}
-use Rattle.be_model.specs.Assigned.{value_at}
+use Rattle.be_model.specs.Schemas.{value_at}
+use Rattle.be_model.specs.SetTexts.{rising}
 use Rattle.be_model.specs.Texts.{value_text, value_text_at, name_at, WordsAreNames, NamesAreNames}
 use Rattle.be_model.proofs.Attributes.{all_at}
 use Rattle.be_model.proofs.InSchema.{range_of_pred, range_below, attribute_of_range}
 use Rattle.be_model.proofs.ReadBack.{names_are_found, values_are_read, values_are_words}
-use Rattle.be_expr.specs.Written.{is_name, is_attr, op_is_written, are_written}
+use Rattle.be_expr.specs.Grammar.{is_name, is_attr, op_is_written, are_written}
 use Rattle.be_expr.specs.Readings.{written}
-use Rattle.be_expr.specs.Expressions.{words_of, is_unknown, is_outside, has_many_values, fault_in, rising, meant_op, pred_on, meant_pred, judged, meaning, expression}
-use Rattle.be_expr.specs.Canonical.{expr_text, IsSpelled, TextsAreRead}
+use Rattle.be_expr.specs.Expressions.{words_of, is_unknown, is_outside, has_many_values, fault_in, meant_op, pred_on, meant_pred, judged, meaning, expression}
+use Rattle.be_expr.specs.Writing.{expr_text, IsSpelled, TextsAreRead}
 use Rattle.be_expr.proofs.Grammar.{tokens_are_read}
 use Rattle.be_expr.proofs.CanonicalTokens.{written_op, written_pred, expr_lexed}
 

@@ -20,3 +20,5 @@ pub mod NamePlaces
 pub mod Putting
 pub mod NamedBelow
 pub mod Pieces
+pub mod SetsBuilt
+pub mod TextsBack

@@ -12,6 +12,7 @@ mod ops;
 mod paths;
 mod preds;
 mod schemas;
+mod set_texts;
 mod texts;
 mod values;
 
@@ -29,4 +30,5 @@ pub use ops::Op;
 pub use paths::{Hop, Path};
 pub use preds::Pred;
 pub use schemas::{Attribute, Domain, Names, Schema, is_reserved};
+pub use set_texts::Met;
 pub use values::Values;

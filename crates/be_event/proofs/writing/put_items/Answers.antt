@@ -12,7 +12,7 @@ use Rattle.be_event.specs.Canonical.{item_text, event_text, IsSpelled}
 use Rattle.be_model.proofs.Pieces.{joined_more}
 use Rattle.be_event.proofs.writing.put_items.Goals as goal
 
-abbrev no_item : AttrNo × ℤ
+abbrev no_item : AttrNo × List ℤ
 no_item = (numbered 0, pos 0)
 
 pub put_item-requires-in-loop-item : goal.put_item-requires-in-loop-item
@@ -37,7 +37,7 @@ loop-item-preserved c =
 pub returns-clause-written : goal.returns-clause-written
 returns-clause-written c =
     let s = c.args.schema.now in
-    let f = λ (item : AttrNo × ℤ). codes " " ++ item_text s item in
+    let f = λ (item : AttrNo × List ℤ). codes " " ++ item_text s item in
     c.loop-item.invariant.written
     ∙ ap (λ items. c.put_item.new.text.items ++ flat_map f items) (take_all c.loop-item.item-index c.in-Some.rest.now c.loop-item-test.false)
     ∙ ap (λ text. text ++ flat_map f c.in-Some.rest.now) c.in_ok-put_item.ensures.written

@@ -2,7 +2,8 @@
 use Rattle.std.specs.Prelude.{◌&&◌, Bool, true, false, List, [], ◌∷◌, ◌++◌, codes}
 use Rattle.std.specs.List.{list_all}
 use Rattle.be_base.specs.Text.{Text}
-use Rattle.be_base.specs.Tokens.{Lexeme, word, less, less_or_equal, equal, not_equal, greater_or_equal, greater, open_brace, close_brace, comma}
+use Rattle.be_base.specs.Tokens.{Lexeme, word, less, less_or_equal, equal, not_equal, greater_or_equal, greater}
+use Rattle.be_base.specs.Sets.{set_tokens, is_filled}
 pub use Rattle.be_model.specs.Schemas.{is_name, is_attr}
 
 -- a comparison with the words of its values
@@ -15,15 +16,6 @@ pub data WrittenOp : Type 0 where
 pub record WrittenPred : Type 0 where
   pub attr : Text
   pub op : WrittenOp
-
--- values parted by commas
-abbrev pub value_tokens : List Text → List Lexeme
-value_tokens [] = []
-value_tokens (v ∷ []) = word v ∷ []
-value_tokens (v ∷ w ∷ vs) = word v ∷ comma ∷ value_tokens (w ∷ vs)
-
-abbrev pub set_tokens : List Text → List Lexeme
-set_tokens vs = open_brace ∷ value_tokens vs ++ close_brace ∷ []
 
 abbrev pub op_tokens : WrittenOp → List Lexeme
 op_tokens (compared operator v) = operator ∷ word v ∷ []
@@ -48,10 +40,6 @@ is_operator not_equal = true
 is_operator greater_or_equal = true
 is_operator greater = true
 is_operator _ = false
-
-abbrev pub is_filled : List Text → Bool
-is_filled [] = false
-is_filled (v ∷ vs) = true
 
 -- a set has at least one value
 abbrev pub op_is_written : WrittenOp → Bool

@@ -2,10 +2,10 @@ use Rattle.std.proofs.Common.{◌≡◌, length, map, option_map, option_and_the
 use Rattle.be_base.specs.Tokens.{tokens}
 use Rattle.be_expr.specs.Expressions.{meant_pred}
 use Rattle.be_expr.specs.Faults.{preds_in}
-use Rattle.be_expr.specs.Building.{FinePreds}
+use Rattle.be_expr.specs.Build.{FinePreds}
 use Rattle.be_expr.proofs.Joining.{preds_left, left_size}
 use Rattle.be_expr.proofs.BuiltPreds.{meant_behind}
-use Rattle.be_expr.proofs.build.build_preds.Given as goal
+use Rattle.be_expr.proofs.build.build.Given as goal
 
 abbrev pub invariant-loop-left : goal.invariant-loop-left
 invariant-loop-left l = record {

@@ -2,18 +2,15 @@
 use Rattle.std.specs.Prelude.{◌≡◌, ℤ, true, List, [], ◌∷◌, ◌++◌, Ok, All, codes}
 use Rattle.std.specs.List.{join_by}
 use Rattle.be_base.specs.Text.{Text, IsName, IsWord}
-use Rattle.be_model.specs.declared.conditions.Op.{Op}
-use Rattle.be_model.specs.declared.conditions.Op.TheVariants.{Lt, Le, Eq, Ne, Ge, Gt, Between, OneOf, NoneOf}
-use Rattle.be_model.specs.declared.conditions.Pred.{Pred}
+use Rattle.be_base.specs.Sets.{set_text}
+use Rattle.be_model.specs.declared.ops.Op.{Op}
+use Rattle.be_model.specs.declared.ops.Op.TheVariants.{Lt, Le, Eq, Ne, Ge, Gt, Between, OneOf, NoneOf}
+use Rattle.be_model.specs.declared.preds.Pred.{Pred}
 use Rattle.be_model.specs.Schemas.{Attributes, IsSchema}
 use Rattle.be_model.specs.Forms.{IsConj}
 use Rattle.be_model.specs.Lies.{values_in, conj_lies}
 use Rattle.be_model.specs.Texts.{value_text_at, name_at, NamesAreNames}
 use Rattle.be_expr.specs.Expressions.{expression}
-
--- values parted by commas, in braces
-abbrev pub set_text : (ℤ → Text) → List ℤ → Text
-set_text value vs = codes "{" ++ join_by value (codes ",") vs ++ codes "}"
 
 abbrev pub op_text : (ℤ → Text) → Op → Text
 op_text value (Lt v) = codes "< " ++ value v
