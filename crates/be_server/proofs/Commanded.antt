@@ -2,7 +2,7 @@
 use Rattle.std.proofs.Common.{◌≡◌, Bool, true, false, cond, List, Option, Some, None, Result, Ok, Err, refl, ap, codes}
 use Rattle.be_base.specs.Text.{Text, same_text, name_of}
 use Rattle.be_base.specs.Tokens.{Lexeme, word, put_token}
-use Rattle.be_model.specs.declared.conditions.Pred.{Pred}
+use Rattle.be_model.specs.declared.preds.Pred.{Pred}
 use Rattle.be_model.specs.Schemas.{Attributes}
 use Rattle.be_model.specs.Matching.{Assignments}
 use Rattle.be_expr.specs.declared.faults.ExprFault.{ExprFault}
@@ -41,6 +41,7 @@ event_fault event.Bad read r other = r
 event_fault (event.Attr name) read r other = r
 event_fault (event.Dom a) read r other = r
 event_fault (event.Twice a) read r other = r
+event_fault (event.Many count) read r other = r
 event_fault event.NoMemory read r other = absurd (other refl)
 
 -- a name and a condition with a fault

@@ -13,7 +13,7 @@ use Rattle.std.proofs.lemmas.Bool.Decides.{nat_tests}
 use Rattle.be_base.specs.Text.{Text, same_text}
 use Rattle.be_base.specs.declared.names.Id.{Id}
 use Rattle.be_base.proofs.SameText.{equal_from_same_text, same_text_from_equal}
-use Rattle.be_model.specs.declared.conditions.Pred.{Pred}
+use Rattle.be_model.specs.declared.preds.Pred.{Pred}
 use Rattle.be_model.specs.declared.changes.Row.{Row}
 use Rattle.be_change.specs.Entries.{live_in}
 use Rattle.be_change.specs.History.{Entry, subscribed, unsubscribed, left, ByIds, live, names_of, has_name, is_of, is_live_name, entries_of, has_left, session_of, MayFollow, IsWellFormed}

@@ -153,6 +153,7 @@ fn of_event(schema: &Schema, fault: EventFault) -> Result<Refusal, NoMemory>
         EventFault::Twice { attr } => Ok(Refusal::Twice {
             name: schema.name(attr),
         }),
+        EventFault::Many { count } => Ok(Refusal::Many { count }),
         EventFault::NoMemory => Err(NoMemory),
     }
 }

@@ -76,6 +76,7 @@ fn push_named(text: &mut ArrayString<96>, word: &str, name: &Name)
     ensures exact { text.new.bytes ≡ word.now ++ part name.now }
     ensures short { length text.new.bytes ≤ 70 }
 {
+    // How long a name is comes to light at a call on it.
     let _form = name.bytes();
     push(text, word);
     push(text, " ");

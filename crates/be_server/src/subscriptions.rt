@@ -303,6 +303,7 @@ fn write_names(
     ensures count { IfOk result (λ n. n ≡ length (names_wanted wanted.entry (live_in rows.now.entries))) }
 {
     let mut count = 0;
+    // That the count fits comes to light at the length of the map.
     let _ = rows.len();
     for (_, row) in rows {
         if wanted.takes(row) {

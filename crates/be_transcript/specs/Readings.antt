@@ -6,7 +6,7 @@ use Rattle.be_base.specs.Text.{Text, same_text, name_of}
 use Rattle.be_base.specs.Tokens.{Lexeme, word, tokens}
 use Rattle.be_base.specs.declared.names.NameFault.{NameFault}
 use Rattle.be_io.specs.Lines as line
-use Rattle.be_model.specs.declared.conditions.Pred.{Pred}
+use Rattle.be_model.specs.declared.preds.Pred.{Pred}
 use Rattle.be_model.specs.Matching.{Assignments}
 use Rattle.be_model.specs.Schemas.{Attributes}
 use Rattle.be_model.specs.Texts.{name_at}
@@ -32,6 +32,7 @@ event_refusal s event.Bad = bad
 event_refusal s (event.Attr name) = unknown_attribute name
 event_refusal s (event.Dom a) = outside_domain (name_at s a)
 event_refusal s (event.Twice a) = given_twice (name_at s a)
+event_refusal s (event.Many count) = too_many count
 event_refusal s event.NoMemory = bad
 
 abbrev pub subscribing : Attributes → Result Text NameFault → Result (List Pred) ExprFault → Request

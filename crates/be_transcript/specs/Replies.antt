@@ -7,8 +7,8 @@ use Rattle.be_model.specs.Schemas.{Attributes}
 use Rattle.be_change.specs.History.{Entry}
 use Rattle.be_change.specs.Requests.{Refusal, bad, long, unknown_attribute, outside_domain, given_twice, too_many, Note, Reply, refusal, ok, held, bye, dup, none, other, hit, cost, listed, sent, notes, dumped, tailed, split, no_memory, shut}
 use Rattle.be_expr.specs.Changes.{change_text}
-use Rattle.be_expr.specs.Canonical.{expr_text}
-use Rattle.be_event.specs.Canonical.{event_text}
+use Rattle.be_expr.specs.Writing.{expr_text}
+use Rattle.be_event.specs.Writing.{event_text}
 
 -- a space and a part of a line
 abbrev pub part : Text → Text
