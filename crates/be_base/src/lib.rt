@@ -8,6 +8,7 @@ mod laws;
 mod limits;
 mod names;
 mod numbers;
+mod refusals;
 mod tokens;
 
 pub use laws::tokens_are_from_the_left;

@@ -44,10 +44,8 @@ impl Path {
         ensures put { OnOk result (self.new ≡ self.old ++ hop ∷ []) }
         ensures refused { OnErr result (self.new ≡ self.old) }
     {
-        match self.hops.push(hop) {
-            Ok(()) => Ok(()),
-            Err(_) => Err(NoMemory),
-        }
+        self.hops.push(hop)?;
+        Ok(())
     }
 
     pub fn hops(&self) -> &[Hop]
