@@ -120,39 +120,3 @@ impl Found {
         self.rows.capacity() - self.rows.len()
     }
 }
-
-#[cfg(test)]
-mod tests {
-    use super::*;
-    use crate::conjs::Conj;
-    use be_base::{Id, Name, SessionNo};
-    use std::test::Fail;
-
-    #[test]
-    fn rows_come_in_order_of_their_ids(rt: HostRuntime) -> Result<(), Fail> {
-        let alloc = rt.alloc();
-        let mut found = Found::make(alloc);
-        found.reserve(4)?;
-        for id in [7, 3, 5] {
-            let name = Name::read(b"a").map_err(|_| NoMemory)?;
-            let conj = Conj::make(alloc);
-            let row = Arc::new(
-                alloc,
-                Row {
-                    id: Id(id),
-                    session: SessionNo(1),
-                    name,
-                    conj,
-                },
-            )?;
-            if 0 < found.spare() {
-                found.push_again(&row)?;
-            }
-        }
-        found.order();
-        let ids = found.rows();
-        assert_eq!(rt; ids.len(), 3);
-        assert_eq!(rt; (ids[0].id.0, ids[1].id.0, ids[2].id.0), (3, 5, 7));
-        Ok(())
-    }
-}

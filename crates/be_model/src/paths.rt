@@ -54,19 +54,3 @@ impl Path {
         self.hops.as_slice()
     }
 }
-
-#[cfg(test)]
-mod tests {
-    use super::*;
-    use std::test::Fail;
-
-    #[test]
-    fn steps_are_put(rt: HostRuntime) -> Result<(), Fail> {
-        let mut path = Path::make(rt.alloc());
-        for hop in [Hop::Part(AttrNo(3)), Hop::Low, Hop::High] {
-            path.push(hop)?;
-        }
-        assert_eq!(rt; path.hops().len(), 3);
-        Ok(())
-    }
-}
