@@ -15,6 +15,7 @@ mod name_lists;
 mod ops;
 mod paths;
 mod preds;
+mod sameness;
 mod schemas;
 mod texts;
 mod values;

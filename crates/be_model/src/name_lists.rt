@@ -110,4 +110,3 @@ impl Names {
         self.differ
     }
 }
-
