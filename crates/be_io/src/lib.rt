@@ -1,9 +1,11 @@
 //! What the product takes from the outside and gives to it, as traits with counts of faults.
 #![tactic(auto)]
 
+mod buffer;
 mod calls;
 mod door;
 mod faults;
+mod file_lines;
 mod gate;
 mod lines;
 mod link;
@@ -15,6 +17,7 @@ mod writing;
 
 pub use door::{Door, DoorCount, NoDoor};
 pub use faults::{AcceptFault, Failed, LineFault, ListenFault, ShelfFault, SinkFault};
+pub use file_lines::{first_line, means_nothing};
 pub use gate::{Gate, NoGate};
 pub use lines::{Line, LineReader};
 pub use link::{Link, Pair};

@@ -2,7 +2,8 @@
 use Rattle.std.proofs.Common.{refl, [], length, arith, ◌≡◌, ℕ, ◌+◌, ◌≤◌, sym, ap, subst, ◌∙◌}
 use Rattle.std.proofs.lemmas.Result.{err_from_is_err_and}
 use Rattle.be_io.specs.Reader.{ReaderState}
-use Rattle.be_io.specs.Reading.{IsReading, Takes}
+use Rattle.be_io.specs.Reading.{IsReading}
+use Rattle.be_io.specs.Buffer.{Takes}
 use Rattle.be_io.proofs.ReadingLemmas.{IsReading-start, IsReading-counted, IsReading-skip, IsReading-fill, IsReading-close, IsReading-finish, IsReading-broken, IsReading-unbroken}
 use Rattle.be_io.proofs.lines.LineReader.read_line.Goals as goal
 
@@ -54,7 +55,7 @@ returns-then-branch-eq0-clause-line g c =
     let skip = IsReading-skip c.args.self.now c.loop-len.self c.skip.new.self (g.S.Source.left c.args.src.now) (g.S.Source.left c.loop-len.src) c.loop-len.skipped c.loop-len.scanned c.skip.result c.loop-len.invariant.reading c.in_default.ensures c.skip.ensures.exact c.skip.ensures.after in
     let zero = c.if-branch-eq0.true in
     let after = subst (λ k. c.fill.new.self ≡ record c.skip.new.self { unread = c.fill.new.self.unread; text = []; taken = c.skip.new.self.taken + k }) zero c.in_ok-fill.ensures.after in
-    let takes = subst (λ k. Takes c.skip.new.self c.fill.new.self (g.S.Source.left c.loop-len.src) (g.S.Source.left c.fill.new.src) k) zero c.in_ok-fill.ensures.takes in
+    let takes = subst (λ k. Takes c.skip.new.self.unread c.fill.new.self.unread (g.S.Source.left c.loop-len.src) (g.S.Source.left c.fill.new.src) k) zero c.in_ok-fill.ensures.takes in
     IsReading-finish c.args.self.now c.skip.new.self c.fill.new.self c.finish.new.self (g.S.Source.left c.args.src.now) (g.S.Source.left c.loop-len.src) (g.S.Source.left c.fill.new.src) (c.loop-len.skipped + c.skip.result) c.finish.result skip after takes c.finish.ensures.line c.finish.ensures.after
 
 pub loop-len-preserved : goal.loop-len-preserved
