@@ -36,7 +36,5 @@ pub use ops::Op;
 pub use paths::{Hop, Path};
 pub use preds::Pred;
 pub use schemas::{Attribute, Domain, Schema, is_reserved};
-pub use values::{VALUES_IN_PLACE, Values};
-pub use schemas::{Attribute, Domain, Names, Schema, is_reserved};
 pub use set_texts::Met;
-pub use values::Values;
+pub use values::{VALUES_IN_PLACE, Values};

@@ -2,4 +2,12 @@
 #![tactic(auto)]
 
 #[cfg(test)]
+mod base;
+#[cfg(test)]
+mod event;
+#[cfg(test)]
+mod expr;
+#[cfg(test)]
+mod io;
+#[cfg(test)]
 mod model;
