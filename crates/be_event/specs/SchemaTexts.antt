@@ -11,7 +11,7 @@ use Rattle.be_model.specs.declared.schemas.Attribute.{Attribute}
 use Rattle.be_model.specs.declared.schemas.Domain.{Domain}
 use Rattle.be_model.specs.declared.schemas.Domain.TheVariants.{Int, Sym}
 use Rattle.be_model.specs.Schemas.{Attributes, attribute_of, names_of_attributes, reserved_words, is_among_texts, all_differ, is_domain}
-use Rattle.be_event.specs.Written.{is_name}
+use Rattle.be_event.specs.Grammar.{is_name}
 use Rattle.be_event.specs.declared.schema_texts.SchemaFault.{SchemaFault}
 use Rattle.be_event.specs.declared.schema_texts.SchemaFault.TheVariants.{Line, NoMemory}
 use Rattle.be_event.specs.declared.schema_texts.SchemaKind.{SchemaKind}

@@ -6,7 +6,7 @@ ghost use Rattle.be_base.specs.Text.{name_of};
 ghost use Rattle.be_base.specs.Tokens.{is_blank};
 ghost use Rattle.be_base.specs.Fronts.{starts_with};
 ghost use Rattle.be_model.specs.Schemas.{is_among_texts, all_differ};
-ghost use Rattle.be_event.specs.Written.{is_name};
+ghost use Rattle.be_event.specs.Grammar.{is_name};
 ghost use Rattle.be_event.specs.SchemaTexts.{words, begins_word};
 ghost use Rattle.be_event.specs.Words.{FirstWord};
 

@@ -1,7 +1,7 @@
 -- The text of a condition in its one canonical form.
-use Rattle.std.specs.Prelude.{◌≡◌, ℤ, true, List, [], ◌∷◌, ◌++◌, Ok, All, codes}
+use Rattle.std.specs.Prelude.{◌≡◌, ℤ, true, List, [], ◌∷◌, ◌++◌, Ok, codes}
 use Rattle.std.specs.List.{join_by}
-use Rattle.be_base.specs.Text.{Text, IsName, IsWord}
+use Rattle.be_base.specs.Text.{Text}
 use Rattle.be_base.specs.Sets.{set_text}
 use Rattle.be_model.specs.declared.ops.Op.{Op}
 use Rattle.be_model.specs.declared.ops.Op.TheVariants.{Lt, Le, Eq, Ne, Ge, Gt, Between, OneOf, NoneOf}
@@ -9,6 +9,7 @@ use Rattle.be_model.specs.declared.preds.Pred.{Pred}
 use Rattle.be_model.specs.Schemas.{Attributes, IsSchema}
 use Rattle.be_model.specs.Forms.{IsConj}
 use Rattle.be_model.specs.Lies.{values_in, conj_lies}
+use Rattle.be_model.specs.SetTexts as set
 use Rattle.be_model.specs.Texts.{value_text_at, name_at, NamesAreNames}
 use Rattle.be_expr.specs.Expressions.{expression}
 
@@ -33,7 +34,7 @@ expr_text s (p ∷ ps) = join_by (pred_text s) (codes " and ") (p ∷ ps)
 
 -- its name is a name, and the texts of its values are words
 abbrev pub IsSpelled : Attributes → Pred → Type 0
-IsSpelled s p = IsName (name_at s p.attr) × All (λ v. IsWord (value_text_at s p.attr v)) (values_in p.op)
+IsSpelled s p = set.IsSpelled s p.attr (values_in p.op)
 
 -- reading the canonical text of a condition gives it back
 abbrev pub TextsAreRead : Type 0

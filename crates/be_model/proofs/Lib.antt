@@ -22,3 +22,4 @@ pub mod NamedBelow
 pub mod Pieces
 pub mod SetsBuilt
 pub mod TextsBack
+pub mod SetsLie

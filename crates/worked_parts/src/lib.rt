@@ -2,6 +2,16 @@
 #![tactic(auto)]
 
 #[cfg(test)]
+mod base;
+#[cfg(test)]
 mod change;
 #[cfg(test)]
 mod core_;
+#[cfg(test)]
+mod event;
+#[cfg(test)]
+mod expr;
+#[cfg(test)]
+mod io;
+#[cfg(test)]
+mod model;
