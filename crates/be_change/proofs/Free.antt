@@ -3,6 +3,7 @@ use Rattle.std.proofs.Common.{◌≡◌, ℕ, ◌==◌, Bool, true, false, not, 
 use Rattle.std.specs.Prelude.{filter}
 use Rattle.std.specs.List.{list_any}
 use Rattle.std.proofs.lemmas.Bool.{and_parts, or_parts, or_from, both_ways, eqb-true, not-true}
+use Rattle.std.proofs.Math.Bool.{or-false}
 use Rattle.std.proofs.lemmas.List.Folds.{list_any-append}
 use Rattle.be_base.proofs.SameText.{equal_from_same_text}
 use Rattle.be_model.specs.declared.changes.Row.{Row}
@@ -17,11 +18,7 @@ use Rattle.be_change.proofs.Names.{text_turned, live_differ, unsub_loses_one, fo
 pub subscribed_names : (h : List Entry) (k n : ℕ) (row : Row) (name : Text) → is_live_name name (live (h ++ subscribed k n row ∷ [])) ≡ (is_live_name name (live h) || same_text row.name name)
 subscribed_names h k n row name =
     ap (is_live_name name) (live-append h (subscribed k n row))
-    ∙ (list_any-append (has_name name) (live h) ((length h, row) ∷ []) ∙ ap (λ (b : Bool). is_live_name name (live h) || b) (or_nil (same_text row.name name)))
-  where
-    or_nil : (b : Bool) → (b || false) ≡ b
-    or_nil true = refl
-    or_nil false = refl
+    ∙ (list_any-append (has_name name) (live h) ((length h, row) ∷ []) ∙ ap (λ (b : Bool). is_live_name name (live h) || b) (or-false (same_text row.name name)))
 
 others_if : (c : Bool) (other : Text) (x : ℕ × Row) (xs ys : ByIds) → (c ≡ true → has_name other x ≡ false) → is_live_name other ys ≡ is_live_name other xs
     → is_live_name other (cond (not c) (x ∷ ys) ys) ≡ is_live_name other (x ∷ xs)

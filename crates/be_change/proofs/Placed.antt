@@ -7,7 +7,7 @@ use Rattle.std.proofs.lemmas.Option.{slice_get-get_or}
 use Rattle.be_base.specs.Lists.{BeginsWith}
 use Rattle.be_change.specs.History.{Entry, session_of, entries_of, places_from, places_of, placed_from, placed_of}
 use Rattle.be_change.specs.Laws.{IsPlaced}
-use Rattle.be_change.proofs.Places.{places_none}
+use Rattle.be_change.proofs.Places.{append_if, places_none}
 
 map_if : {A B : Type 0} (f : A → B) (b : Bool) (x : A) (xs : List A) (ys : List B) → map f xs ≡ ys → map f (cond b (x ∷ xs) xs) ≡ cond b (f x ∷ ys) ys
 map_if f true x xs ys e = ap (λ l. f x ∷ l) e
@@ -42,10 +42,6 @@ stand_from k n front (e ∷ es) is =
 
 pub entries_placed : (k : ℕ) (h : List Entry) → IsPlaced k h
 entries_placed k h = record { places = placed_from-places k 0 h; entries = placed_from-entries k 0 h; stand = stand_from k 0 [] h refl }
-
-append_if : (b : Bool) (x : ℕ × Entry) (xs ys zs : List (ℕ × Entry)) → xs ≡ ys ++ zs → cond b (x ∷ xs) xs ≡ cond b (x ∷ ys) ys ++ zs
-append_if true x xs ys zs e = ap (λ (l : List (ℕ × Entry)). x ∷ l) e
-append_if false x xs ys zs e = e
 
 placed_from-append : (k n : ℕ) (xs ys : List Entry) → placed_from k n (xs ++ ys) ≡ placed_from k n xs ++ placed_from k (n + length xs) ys
 placed_from-append k n [] ys = ap (λ (m : ℕ). placed_from k m ys) (omega arith)

@@ -12,8 +12,9 @@ use Rattle.be_model.specs.declared.changes.Change.{Change}
 use Rattle.be_change.specs.History.{Entry, subscribed, unsubscribed, left, session_of, entries_of, is_leave_of, has_left, places_of, places_from}
 use Rattle.be_change.specs.Entries.{entry_of, entries_in, HasIdAt, HaveIdsFrom, IdsArePlaces, IsLog, spare_of}
 
-append_if : (b : Bool) (x : ℕ) (xs ys zs : List ℕ) → xs ≡ ys ++ zs → cond b (x ∷ xs) xs ≡ cond b (x ∷ ys) ys ++ zs
-append_if true x xs ys zs e = ap (λ (l : List ℕ). x ∷ l) e
+-- one more in front of the first of two parts
+pub append_if : {A : Type 0} (b : Bool) (x : A) (xs ys zs : List A) → xs ≡ ys ++ zs → cond b (x ∷ xs) xs ≡ cond b (x ∷ ys) ys ++ zs
+append_if true x xs ys zs e = ap (λ l. x ∷ l) e
 append_if false x xs ys zs e = e
 
 pub places_from-append : (k n : ℕ) (xs ys : List Entry) → places_from k n (xs ++ ys) ≡ places_from k n xs ++ places_from k (n + length xs) ys

@@ -1,6 +1,7 @@
 -- One act keeps what worlds keep, and answers each session legally.
 use Rattle.std.proofs.Common.{◌≡◌, ℕ, ◌+◌, ◌-◌, ◌==◌, ◌≤◌, Bool, true, false, ◌||◌, cond, List, [], ◌∷◌, ◌++◌, length, Option, Some, None, refl, sym, ap, ◌∙◌, subst, arith, length-append, eq-eqb}
 use Rattle.std.proofs.lemmas.Bool.{eqb-true, or_left, or_right, or_from}
+use Rattle.std.proofs.Math.Bool.{or-false}
 use Rattle.std.proofs.lemmas.List.{append-nil}
 use Rattle.be_base.proofs.Beginnings.{BeginsWith-same, BeginsWith-append}
 use Rattle.be_model.specs.Schemas.{Attributes}
@@ -184,10 +185,6 @@ left_by_other k (subscribed j n row) f = refl
 left_by_other k (unsubscribed j n name) f = refl
 left_by_other k (left j n) f = f
 
-or_false : (a b : Bool) → b ≡ false → (a || b) ≡ a
-or_false true b f = refl
-or_false false b f = f
-
 -- a change of another session leaves the session where it was
 follows_other : (k : ℕ) (s : State) (w : Walk) (e : Entry) → Follows k s w → (session_of e == k) ≡ false → Follows k (after_change e s) w
 follows_other k s w e f apart =
@@ -198,7 +195,7 @@ follows_other k s w e f apart =
       own = omega (arith, f.own, length-append s.list (e ∷ []));
       serial = f.serial ∙ ap (λ (l : List Entry). length l) (sym entries);
       ended =
-          f.ended ∙ sym (left-append k s.list (e ∷ []) ∙ or_false (has_left k s.list) (is_leave_of k e || false) (or_from (is_leave_of k e) false (left_by_other k e apart) refl));
+          f.ended ∙ sym (left-append k s.list (e ∷ []) ∙ (ap (λ (b : Bool). has_left k s.list || b) (or_from (is_leave_of k e) false (left_by_other k e apart) refl) ∙ or-false (has_left k s.list)));
     }
 
 answered_changed_own : (k : ℕ) (s : State) (d : Deed) (w : Walk) (e : Entry) (r : CoreReply) → IsWorld s → Follows k s w → Changed s d k e r → (k == k) ≡ true → Answered k s d w (after_change e s, r)

@@ -1,6 +1,6 @@
 -- What sessions have seen, and names among live rows.
 use Rattle.std.proofs.Common.{◌≡◌, ℕ, ◌==◌, Bool, true, false, ◌&&◌, cond, [], ◌∷◌, Some, None, refl, sym, ap, ◌∙◌, eq-eqb}
-use Rattle.std.proofs.lemmas.Bool.{and_from, or_from, or_left, or_right, eqb-true, both_ways}
+use Rattle.std.proofs.lemmas.Bool.{cond_both, cond-true, cond-false, and_from, or_from, or_left, or_right, eqb-true, both_ways}
 use Rattle.be_model.specs.declared.changes.Row.{Row}
 use Rattle.be_model.specs.ByIds.{row_at}
 use Rattle.be_model.proofs.RisingIds.{row_at-first, row_at-later}
@@ -10,32 +10,19 @@ use Rattle.be_change.specs.LiveRows.{Rising}
 use Rattle.be_change.proofs.Names.{found_here, found_later}
 use Rattle.be_core.specs.World.{Seen, seen_by, having_seen, named}
 
--- one of two, by a test
-pub if_cases : {A : Type 0} (b : Bool) (x y : A) (P : A → Type 0) → (b ≡ true → P x) → (b ≡ false → P y) → P (cond b x y)
-if_cases true x y P p q = p refl
-if_cases false x y P p q = q refl
-
-pub cond_false : {A : Type 0} (b : Bool) (x y : A) → b ≡ false → cond b x y ≡ y
-cond_false true x y e = absurd cc
-cond_false false x y e = refl
-
-pub cond_true : {A : Type 0} (b : Bool) (x y : A) → b ≡ true → cond b x y ≡ x
-cond_true true x y e = refl
-cond_true false x y e = absurd cc
-
 pub seen-own : (k n : ℕ) (rs : Seen) → seen_by k (having_seen k n rs) ≡ n
-seen-own k n [] = cond_true (k == k) n 0 (eq-eqb k k refl)
+seen-own k n [] = cond-true (k == k) n 0 (eq-eqb k k refl)
 seen-own k n (r ∷ rs) =
-    if_cases (r.0.0 == k) ((r.0, n) ∷ rs) (r ∷ having_seen k n rs) (λ l. seen_by k l ≡ n)
-    (λ t. cond_true (r.0.0 == k) n (seen_by k rs) t)
-    (λ f. cond_false (r.0.0 == k) r.1 (seen_by k (having_seen k n rs)) f ∙ seen-own k n rs)
+    cond_both (r.0.0 == k) ((r.0, n) ∷ rs) (r ∷ having_seen k n rs) (λ l. seen_by k l ≡ n)
+    (λ t. cond-true (r.0.0 == k) n (seen_by k rs) t)
+    (λ f. cond-false (r.0.0 == k) r.1 (seen_by k (having_seen k n rs)) f ∙ seen-own k n rs)
 
 pub seen-other : (j k n : ℕ) (rs : Seen) → (j == k) ≡ false → seen_by k (having_seen j n rs) ≡ seen_by k rs
-seen-other j k n [] e = cond_false (j == k) n 0 e
+seen-other j k n [] e = cond-false (j == k) n 0 e
 seen-other j k n (r ∷ rs) e =
-    if_cases (r.0.0 == j) ((r.0, n) ∷ rs) (r ∷ having_seen j n rs) (λ l. seen_by k l ≡ seen_by k (r ∷ rs))
+    cond_both (r.0.0 == j) ((r.0, n) ∷ rs) (r ∷ having_seen j n rs) (λ l. seen_by k l ≡ seen_by k (r ∷ rs))
     (λ t. let f : (r.0.0 == k) ≡ false = ap (λ (i : ℕ). i == k) (eqb-true r.0.0 j t) ∙ e in
-    cond_false (r.0.0 == k) n (seen_by k rs) f ∙ sym (cond_false (r.0.0 == k) r.1 (seen_by k rs) f))
+    cond-false (r.0.0 == k) n (seen_by k rs) f ∙ sym (cond-false (r.0.0 == k) r.1 (seen_by k rs) f))
     (λ f. ap (λ (x : ℕ). cond (r.0.0 == k) r.1 x) (seen-other j k n rs e))
 
 -- no row is found where the name isn't live

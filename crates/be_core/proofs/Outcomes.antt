@@ -1,7 +1,7 @@
 -- What may come of one act.
 use Rattle.std.proofs.Common.{◌≡◌, ◌≢◌, ℕ, ◌+◌, ◌==◌, ◌≤◌, Bool, true, false, not, ◌&&◌, ◌||◌, cond, List, [], ◌∷◌, length, take, Option, Some, None, refl, sym, ap, ◌∙◌, subst, arith, eq-eqb}
 use Rattle.std.specs.Prelude.{nat_le}
-use Rattle.std.proofs.lemmas.Bool.{and_parts, or_parts, eqb-true, not-true, both_ways}
+use Rattle.std.proofs.lemmas.Bool.{cond_both, and_parts, or_parts, eqb-true, not-true, both_ways}
 use Rattle.std.proofs.lemmas.Bool.Decides.{nat_tests}
 use Rattle.std.proofs.lemmas.List.{take_all}
 use Rattle.be_model.specs.declared.changes.Row.{Row}
@@ -19,7 +19,7 @@ use Rattle.be_core.specs.declared.acts.CoreReply.TheVariants.{Taken, Held, Dup, 
 use Rattle.be_core.specs.Acts.{Deed, asks, publishes, reshapes, reads, tells, leaves, is_by}
 use Rattle.be_core.specs.World.{State, seen_by, is_pending, is_pending_of, is_ahead, is_deaf, is_next_of, is_bye, named, after_seeing, after_change, split, subscribe, unsubscribe, change_next, ask, leave, read, tell, step, is_split, IsWorld}
 use Rattle.be_core.specs.Sessions.{request_in, reply_in}
-use Rattle.be_core.proofs.Naming.{if_cases, named_none, named_at, named_of, named_of_another}
+use Rattle.be_core.proofs.Naming.{named_none, named_at, named_of, named_of_another}
 
 -- the session's walk has come as far as the state
 pub record Follows (k : ℕ) (s : State) (w : Walk) : Type 0 where
@@ -234,7 +234,7 @@ sub_outcomes : (k : ℕ) (s : State) (j n : ℕ) (row : Row) (P : State × CoreR
     → Holds s (asks k (subscribed j n row)) P → P (subscribe k (subscribed j n row) row s o)
 sub_outcomes k s j n row P (Some r) is h next p = p.looked k s.published (Dup s.published (record { 0 = r.0 })) (looked_dup k s j n row r h is)
 sub_outcomes k s j n row P None is h next p =
-    if_cases (row.id.0 == length s.list && row.session.0 == k) (after_change (subscribed j n row) s, Taken (length s.list + 1)) (s, Nothing) P
+    cond_both (row.id.0 == length s.list && row.session.0 == k) (after_change (subscribed j n row) s, Taken (length s.list + 1)) (s, Nothing) P
     (λ t.
     let both = and_parts (row.id.0 == length s.list) (row.session.0 == k) t in
     p.changed k (subscribed j n row) (Taken (length s.list + 1))
@@ -245,7 +245,7 @@ unsub_outcomes : (k : ℕ) (s : State) (j n : ℕ) (name : Text) (P : State × C
     → Holds s (asks k (unsubscribed j n name)) P → P (unsubscribe k (unsubscribed j n name) s o)
 unsub_outcomes k s j n name P None is h next p = p.looked k s.published (NoName s.published) (looked_none k s j n name h is)
 unsub_outcomes k s j n name P (Some r) is h next p =
-    if_cases (is_of k r) (after_change (unsubscribed j n name) s, Taken (length s.list + 1)) (after_seeing k s.published s, Other s.published (record { 0 = r.0 })) P
+    cond_both (is_of k r) (after_change (unsubscribed j n name) s, Taken (length s.list + 1)) (after_seeing k s.published s, Other s.published (record { 0 = r.0 })) P
     (λ t. p.changed k (unsubscribed j n name) (Taken (length s.list + 1)) (changed_unsub k s j n name r h next is t))
     (λ f. p.looked k s.published (Other s.published (record { 0 = r.0 })) (looked_other k s j n name r h is f))
 
@@ -256,11 +256,11 @@ change_outcomes k (left j n) s P h next p = p.stays Nothing refl refl
 
 ask_outcomes : (k : ℕ) (e : Entry) (s : State) (P : State × CoreReply → Type 0) → (k == 0) ≡ false → IsWorld s → Holds s (asks k e) P → P (ask k e s)
 ask_outcomes k e s P by w p =
-    if_cases (is_deaf k s || not (is_next_of k s.list e)) (s, Nothing) (cond (is_ahead k s) (split k s) (change_next k e s)) P
+    cond_both (is_deaf k s || not (is_next_of k s.list e)) (s, Nothing) (cond (is_ahead k s) (split k s) (change_next k e s)) P
     (λ t. p.stays Nothing refl refl)
     (λ f.
     let both = or_parts (is_deaf k s) (not (is_next_of k s.list e)) f in
-    if_cases (is_ahead k s) (split k s) (change_next k e s) P
+    cond_both (is_ahead k s) (split k s) (change_next k e s) P
     (λ a. absurd (not_ahead k s w a))
     (λ a. change_outcomes k e s P (heard k s by w both.0) (next_of k s e (from_not_false (is_next_of k s.list e) both.1)) p))
   where
@@ -271,16 +271,16 @@ ask_outcomes k e s P by w p =
 leave_outcomes : (k : ℕ) (s : State) (P : State × CoreReply → Type 0) → (k == 0) ≡ false → IsWorld s → Holds s (leaves k) P → P (leave k s)
 leave_outcomes k s P by w p =
     let e : Entry = left k (length (entries_of k s.list)) in
-    if_cases (is_deaf k s) (s, Nothing) (cond (is_ahead k s) (split k s) (after_change e s, Left (length s.list + 1))) P
+    cond_both (is_deaf k s) (s, Nothing) (cond (is_ahead k s) (split k s) (after_change e s, Left (length s.list + 1))) P
     (λ t. p.stays Nothing refl refl)
     (λ f.
-    if_cases (is_ahead k s) (split k s) (after_change e s, Left (length s.list + 1)) P
+    cond_both (is_ahead k s) (split k s) (after_change e s, Left (length s.list + 1)) P
     (λ a. absurd (not_ahead k s w a))
     (λ a. p.changed k e (Left (length s.list + 1)) (changed_leave k s (heard k s by w f))))
 
 read_outcomes : (k n : ℕ) (e : Assignments) (s : State) (P : State × CoreReply → Type 0) → IsWorld s → Holds s (reads k n e) P → P (read k n e s)
 read_outcomes k n e s P w p =
-    if_cases (not (has_left k s.list) && (nat_le (seen_by k s.seen) n && nat_le n s.published)) (after_seeing k n s, Hits n (hits (take n s.list) e)) (s, Nothing) P
+    cond_both (not (has_left k s.list) && (nat_le (seen_by k s.seen) n && nat_le n s.published)) (after_seeing k n s, Hits n (hits (take n s.list) e)) (s, Nothing) P
     (λ t.
     let one = and_parts (not (has_left k s.list)) (nat_le (seen_by k s.seen) n && nat_le n s.published) t in
     let two = and_parts (nat_le (seen_by k s.seen) n) (nat_le n s.published) one.1 in
@@ -294,10 +294,10 @@ read_outcomes k n e s P w p =
 
 tell_outcomes : (k : ℕ) (s : State) (P : State × CoreReply → Type 0) → IsWorld s → Holds s (tells k) P → P (tell k s)
 tell_outcomes k s P w p =
-    if_cases (is_pending_of k s) (s, Held (length s.list)) (cond (is_ahead k s) (split k s) (after_seeing k s.published s, Nothing)) P
+    cond_both (is_pending_of k s) (s, Held (length s.list)) (cond (is_ahead k s) (split k s) (after_seeing k s.published s, Nothing)) P
     (λ t. p.stays (Held (length s.list)) refl refl)
     (λ f.
-    if_cases (is_ahead k s) (split k s) (after_seeing k s.published s, Nothing) P
+    cond_both (is_ahead k s) (split k s) (after_seeing k s.published s, Nothing) P
     (λ a. absurd (not_ahead k s w a))
     (λ a. p.told k (w.seen k)))
 
