@@ -1,9 +1,9 @@
 -- The lines of a file, from its front.
-use Rattle.std.proofs.Common.{◌≡◌, ◌==◌, ◌<◌, ◌++◌, true, false, ℕ, List, [], ◌∷◌, length, map, refl, ap, ◌∙◌, if◌then◌else◌}
+use Rattle.std.proofs.Common.{◌≡◌, ◌==◌, ◌<◌, ◌++◌, true, false, ℕ, List, [], ◌∷◌, length, map, refl, ap, ◌∙◌}
 use Rattle.std.specs.List.{list_all}
 use Rattle.std.proofs.lemmas.List.{nil_from_length}
 use Rattle.be_base.specs.Tokens.{is_blank}
-use Rattle.be_base.specs.Fronts.{starts_with, IsAfterBlanks}
+use Rattle.be_base.specs.Fronts.{IsAfterBlanks}
 use Rattle.be_base.proofs.Lexing.{list_all_head}
 use Rattle.be_io.specs.Lines.{has_lf, without_cr, closed_lines, open_line, last_line}
 use Rattle.be_io.specs.FileLines.{file_lines, means_nothing}

@@ -5,4 +5,3 @@ pub mod BufferLemmas
 pub mod ReadingLemmas
 pub mod LineLemmas
 pub mod FileLineLemmas
-pub mod CountLemmas

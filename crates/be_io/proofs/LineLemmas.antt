@@ -1,5 +1,5 @@
 -- The lines of a text, from its front.
-use Rattle.std.proofs.Common.{◌≡◌, ℕ, ◌==◌, ◌||◌, ◌<◌, ◌++◌, Bool, true, false, List, [], ◌∷◌, length, map, refl, ap, ◌∙◌, arith, if◌then◌else◌}
+use Rattle.std.proofs.Common.{◌≡◌, ℕ, ◌==◌, ◌<◌, ◌++◌, Bool, true, false, List, [], ◌∷◌, length, map, refl, ap, ◌∙◌, arith, if◌then◌else◌}
 use Rattle.std.proofs.lemmas.Bool.{or_parts, or_right}
 use Rattle.be_io.specs.Lines.{has_lf, closed_lines, open_line, put_first, last_line, lines, line_of, closed_line}
 use Rattle.be_io.specs.Reader.{ClosedLine, OpenLine}
@@ -50,6 +50,3 @@ lines-OpenLine limit bytes line rest last =
 pub lines-begun : (limit : ℕ) (begun : List ℕ) → has_lf begun ≡ false → lines limit false begun ≡ []
 lines-begun limit begun none =
     ap (λ front. map (λ l. closed_line limit l) front ++ map (λ l. line_of limit l) (last_line false (open_line begun))) (closed_lines-none begun none) ∙ ap (λ l. map (λ l. line_of limit l) l) (last_line-false (open_line begun))
-
-pub lines-nil : (limit : ℕ) (ended : Bool) → lines limit ended [] ≡ []
-lines-nil limit ended = refl

@@ -1,4 +1,9 @@
-//! What the product takes from the outside and gives to it, as traits with counts of faults.
+//! What the product takes from the outside and gives to it: sources, sinks, links, doors, shelves and gates, as traits with
+//! counts of faults, and lines read from a source.
+//!
+//! Its contract: lines are those of the bytes read, and a fault comes only where the object that was handed in counted it. Each
+//! trait has an object in memory; the thin adapters over the real things (standard.rt) are the trusted edge. It stands on
+//! be_base. Begin with specs/Outside, then specs/Reader.
 #![tactic(auto)]
 
 mod buffer;
