@@ -26,6 +26,3 @@ pub use sink::{MemSink, Sink};
 pub use source::{MemSource, Source};
 pub use standard::{FileShelf, StdinSource, StdoutSink};
 pub use writing::write_all;
-
-#[cfg(test)]
-mod tests;
