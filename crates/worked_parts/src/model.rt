@@ -2,7 +2,7 @@
 
 use be_base::{AttrNo, Id, Name, NoMemory, PREDICATES, SET_VALUES, SessionNo};
 use be_model::{
-    Conj, Domain, DomFault, Event, Found, Hop, Names, Op, Path, Pred, Row, Schema, Values,
+    Change, Conj, Domain, DomFault, Event, Found, Hop, Names, Op, Path, Pred, Row, Schema, Values,
     check_conj,
 };
 use std::alloc::Global;
@@ -224,19 +224,51 @@ fn steps_are_put(rt: HostRuntime) -> Result<(), Fail> {
     Ok(())
 }
 
+fn row(alloc: Global, id: u64, op: Op) -> Result<Row, Fail> {
+    let mut conj = Conj::make(alloc);
+    if !conj.is_full() {
+        conj.push(pred(0, op))?;
+    }
+    Ok(Row {
+        id: Id(id),
+        session: SessionNo(1),
+        name: Name::read(b"a").map_err(|_| NoMemory)?,
+        conj,
+    })
+}
+
+fn subscribed(alloc: Global, id: u64, op: Op) -> Result<Change, Fail> {
+    Ok(Change::Sub {
+        session: SessionNo(1),
+        serial: 0,
+        row: Arc::new(alloc, row(alloc, id, op)?)?,
+    })
+}
+
+#[test]
+fn changes_are_compared_by_their_contents(rt: HostRuntime) -> Result<(), Fail> {
+    let alloc = rt.alloc();
+    let wanted = || set(alloc, [3, 9].as_slice());
+    let own = subscribed(alloc, 4, Op::OneOf(wanted()?))?;
+    assert!(rt; own.same_as(&subscribed(alloc, 4, Op::OneOf(wanted()?))?));
+    assert!(rt; !own.same_as(&subscribed(alloc, 5, Op::OneOf(wanted()?))?));
+    assert!(rt; !own.same_as(&subscribed(alloc, 4, Op::NoneOf(wanted()?))?));
+    assert!(rt; !own.same_as(&subscribed(alloc, 4, Op::OneOf(Values::one(alloc, 3)?))?));
+    let left = Change::Bye {
+        session: SessionNo(1),
+        serial: 0,
+    };
+    assert!(rt; left.same_as(&left) && !own.same_as(&left));
+    Ok(())
+}
+
 #[test]
 fn rows_come_in_order_of_their_ids(rt: HostRuntime) -> Result<(), Fail> {
     let alloc = rt.alloc();
     let mut found = Found::make(alloc);
     found.reserve(4)?;
     for id in [7, 3, 5] {
-        let row = Row {
-            id: Id(id),
-            session: SessionNo(1),
-            name: Name::read(b"a").map_err(|_| NoMemory)?,
-            conj: Conj::make(alloc),
-        };
-        let row = Arc::new(alloc, row)?;
+        let row = Arc::new(alloc, row(alloc, id, Op::Ne(0))?)?;
         if 0 < found.spare() {
             found.push_again(&row)?;
         }
