@@ -4,4 +4,5 @@ pub mod FillLemmas
 pub mod BufferLemmas
 pub mod ReadingLemmas
 pub mod LineLemmas
+pub mod FileLineLemmas
 pub mod CountLemmas

@@ -1,6 +1,7 @@
 -- What is known of a reader within a call.
 use Rattle.std.proofs.Common.{◌≡◌, ℕ, ◌+◌, ◌<◌, ◌≤◌, ◌==◌, ◌||◌, inl, inr, Bool, true, false, List, [], ◌∷◌, ◌++◌, length, take, drop, nat_lt, Option, Some, None, refl, sym, ap, subst, ◌∙◌, arith, append_assoc, add-zero, length-take, length-append, if◌then◌else◌}
 use Rattle.std.proofs.lemmas.List.{append-nil, take_all, take_at, nil_from_length}
+use Rattle.std.proofs.lemmas.Bool.{or_parts}
 use Rattle.std.proofs.lemmas.Bool.Decides.{nat_tests}
 use Rattle.be_io.specs.declared.lines.Line.{Line}
 use Rattle.be_io.specs.declared.lines.Line.TheVariants.{Text, Long, End}
@@ -189,10 +190,6 @@ IsReading-broken old b before middle after skipped reading after_is =
     let P : Option (List ℕ) → Type 0 = λ m. WhereTold before m (λ left rest. BreaksOff (old.unread ++ left) rest) in
     subst P (sym after_is) (WhereTold-map before middle (λ left rest. left ≡ reading.given ++ rest) (λ left rest. BreaksOff (old.unread ++ left) rest) (λ left rest is. (reading.begun ++ b.unread, has_lf-none reading.begun b.unread reading.passed (IsReading-none old b before middle skipped reading), bytes_are old b before middle skipped (length b.unread) reading left rest is)) reading.told)
 
-left_false : (x y : Bool) → (x || y) ≡ false → x ≡ false
-left_false true y h = h
-left_false false y h = refl
-
 pub IsReading-unbroken : (old b : ReaderState) (before middle : Option (List ℕ)) (skipped : ℕ) → IsReading old b before middle skipped (length b.unread) → has_lf old.unread ≡ false
 IsReading-unbroken old b before middle skipped reading =
-    left_false (has_lf old.unread) (has_lf reading.given) (sym (has_lf-append old.unread reading.given) ∙ ap has_lf reading.parts ∙ has_lf-none reading.begun b.unread reading.passed (IsReading-none old b before middle skipped reading))
+    (or_parts (has_lf old.unread) (has_lf reading.given) (sym (has_lf-append old.unread reading.given) ∙ ap has_lf reading.parts ∙ has_lf-none reading.begun b.unread reading.passed (IsReading-none old b before middle skipped reading))).0

@@ -6,6 +6,7 @@ pub mod Outside
 pub mod Calls
 pub mod Memory
 pub mod Lines
+pub mod FileLines
 pub mod Reader
 pub mod Reading
 pub mod Buffer

@@ -5,6 +5,7 @@ mod buffer;
 mod calls;
 mod door;
 mod faults;
+mod file_lines;
 mod gate;
 mod lines;
 mod link;
@@ -16,6 +17,7 @@ mod writing;
 
 pub use door::{Door, DoorCount, NoDoor};
 pub use faults::{AcceptFault, Failed, LineFault, ListenFault, ShelfFault, SinkFault};
+pub use file_lines::{first_line, means_nothing};
 pub use gate::{Gate, NoGate};
 pub use lines::{Line, LineReader};
 pub use link::{Link, Pair};
@@ -24,6 +26,3 @@ pub use sink::{MemSink, Sink};
 pub use source::{MemSource, Source};
 pub use standard::{FileShelf, StdinSource, StdoutSink};
 pub use writing::write_all;
-
-#[cfg(test)]
-mod tests;

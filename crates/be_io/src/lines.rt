@@ -2,9 +2,8 @@
 
 ghost use Rattle.std.specs.Prelude.{◌≡◌, ℕ, ◌+◌, ◌-◌, ◌<◌, ◌≤◌, ◌++◌, List, [], length, take, drop, slice_index, vec_len, true, false, not, Some, None, Ok, Err, IfOk, IfErr, IfSome, OnOk, OnErr, MatchOption, nat_lt, ◌||◌, ◌==◌, if◌then◌else◌};
 ghost use Rattle.be_io.specs.Counts.{raised, HasRisen, RisesBy};
-ghost use Rattle.be_io.specs.Told.{WhereTold};
 ghost use Rattle.be_io.specs.Lines.{has_lf, without_cr};
-ghost use Rattle.be_io.specs.Reader.{ReaderState, GivesLine, FitsLine, BreaksOff, MovesOn};
+ghost use Rattle.be_io.specs.Reader.{ReaderState, GivesNext, FitsLine, Stops, MovesOn};
 ghost use Rattle.be_io.specs.Reading.{IsFirstLf, answer_of, shown};
 ghost use Rattle.be_io.specs.Buffer.{Takes};
 
@@ -93,17 +92,16 @@ impl LineReader {
             × (self.new ≡ record self.old { text = [] }) × (src.new ≡ src.old) }
 
         // The next line of all that is left, where the source tells that.
-        ensures line { self.old.ended ≡ false → IfOk result (λ line. WhereTold (S.left src.old) (S.left src.new)
-            (λ before after. GivesLine self.new line (self.old.unread ++ before) (self.new.unread ++ after))) }
+        ensures line { self.old.ended ≡ false → IfOk result (λ line.
+            GivesNext self.old.unread self.new line (S.left src.old) (S.left src.new)) }
         ensures fits { IfOk result (FitsLine self.new) }
         ensures progress { IfOk result (MovesOn self.old self.new) }
         ensures done { self.new.ended ≡ true → self.new.unread ≡ [] }
         ensures sound { OnOk result ((self.new.stopped ≡ None) × (S.read_faults src.new ≡ S.read_faults src.old)) }
 
         // What was taken before a fault, and isn't in a line yet, has no LF.
-        ensures broken { self.old.stopped ≡ None → IfErr result (λ fault. (self.new.stopped ≡ Some fault)
-            × (self.new.text ≡ []) × (self.new.ended ≡ false) × WhereTold (S.left src.old) (S.left src.new)
-            (λ before after. BreaksOff (self.old.unread ++ before) after)) }
+        ensures broken { self.old.stopped ≡ None → IfErr result (λ fault.
+            Stops self.old.unread self.new fault (S.left src.old) (S.left src.new)) }
         ensures read_fault { self.old.stopped ≡ None → result ≡ Err LineFault.ReadFault
             → HasRisen (S.read_faults src.old) (S.read_faults src.new) }
         ensures spent { self.old.stopped ≡ None → result ≡ Err LineFault.Spent
@@ -137,15 +135,14 @@ impl LineReader {
         requires counted { length self.old.unread ≤ self.old.taken }
         requires bound { self.old.taken ≤ SOURCE_BYTES }
         ensures limit { self.new.limit ≡ self.old.limit }
-        ensures line { IfOk result (λ line. WhereTold (S.left src.old) (S.left src.new)
-            (λ before after. GivesLine self.new line (self.old.unread ++ before) (self.new.unread ++ after))) }
+        ensures line { IfOk result (λ line.
+            GivesNext self.old.unread self.new line (S.left src.old) (S.left src.new)) }
         ensures fits { IfOk result (FitsLine self.new) }
         ensures progress { IfOk result (MovesOn self.old self.new) }
         ensures done { self.new.ended ≡ true → self.new.unread ≡ [] }
         ensures sound { OnOk result ((self.new.stopped ≡ None) × (S.read_faults src.new ≡ S.read_faults src.old)) }
-        ensures broken { IfErr result (λ fault. (self.new.stopped ≡ Some fault)
-            × (self.new.text ≡ []) × (self.new.ended ≡ false) × WhereTold (S.left src.old) (S.left src.new)
-            (λ before after. BreaksOff (self.old.unread ++ before) after)) }
+        ensures broken { IfErr result (λ fault.
+            Stops self.old.unread self.new fault (S.left src.old) (S.left src.new)) }
         ensures read_fault { result ≡ Err LineFault.ReadFault
             → HasRisen (S.read_faults src.old) (S.read_faults src.new) }
         ensures spent { result ≡ Err LineFault.Spent
@@ -310,7 +307,8 @@ impl LineReader {
     }
 }
 
-fn first_lf(bytes: &[u8]) -> Option<usize>
+/// The place of the first LF.
+pub(crate) fn first_lf(bytes: &[u8]) -> Option<usize>
     ensures { MatchOption result (has_lf bytes.now ≡ false) (IsFirstLf bytes.now) }
 {
     memchr(b'\n', bytes)

@@ -2,6 +2,12 @@
 #![tactic(auto)]
 
 #[cfg(test)]
+mod base;
+#[cfg(test)]
 mod change;
 #[cfg(test)]
 mod core_;
+#[cfg(test)]
+mod io;
+#[cfg(test)]
+mod model;

@@ -1,6 +1,12 @@
-ghost use Rattle.std.specs.Prelude.{◌≡◌, ◌<◌, ◌≤◌, length, None, IfOk};
+//! Lines whatever the pieces, objects in memory, links, files.
 
-use super::*;
+ghost use Rattle.std.specs.Prelude.{◌≡◌, ◌<◌, ◌≤◌, length, None, IfOk};
+ghost use Rattle.be_io.specs.Outside.{source_state, sink_state};
+
+use be_io::{
+    Failed, FileShelf, Line, LineFault, LineReader, Link, MemShelf, MemSink, MemSource, Pair,
+    Shelf, ShelfFault, SinkFault, Source, first_line, means_nothing, write_all,
+};
 use std::alloc::Global;
 use std::fmt::Write;
 use std::test::Fail;
@@ -244,5 +250,58 @@ fn no_file_of_the_system(rt: HostRuntime) -> Result<(), Fail> {
     let mut shelf = FileShelf::make(&rt, alloc);
     assert!(rt; shelf.read_file(alloc, "no-such-file") == Err(ShelfFault::Failed));
     assert!(rt; shelf.read_file(alloc, "/") == Err(ShelfFault::Failed));
+    Ok(())
+}
+
+// What it is as a sink stays, by the law of links.
+fn read_from<L: Link>(link: &mut L, buf: &mut [u8]) -> Result<usize, Failed>
+    requires { 0 < length buf.old }
+    ensures { sink_state L.Sink link.new ≡ sink_state L.Sink link.old }
+{
+    link.read(buf)
+}
+
+// What it is as a source stays.
+fn write_to<L: Link>(link: &mut L, bytes: &[u8]) -> Result<(), SinkFault>
+    ensures { source_state L.Source link.new ≡ source_state L.Source link.old }
+{
+    write_all(link, bytes)
+}
+
+#[test]
+fn a_link_reads_and_writes_apart(rt: HostRuntime) -> Result<(), Fail> {
+    let alloc = rt.alloc();
+    let source = MemSource::make(Vec::from_slice(alloc, b"abc")?, 2, Vec::new(alloc));
+    let sink = MemSink::make(alloc, Vec::new(alloc));
+    let mut link = Pair { source, sink };
+    let mut buf = [b'-'; 3];
+    assert_eq!(rt; write_to(&mut link, b"xy"), Ok(()));
+    assert_eq!(rt; read_from(&mut link, &mut buf), Ok(2));
+    assert_eq!(rt; buf.as_slice(), b"ab-".as_slice());
+    assert_eq!(rt; write_to(&mut link, b"z"), Ok(()));
+    assert_eq!(rt; read_from(&mut link, &mut buf), Ok(1));
+    assert_eq!(rt; read_from(&mut link, &mut buf), Ok(0));
+    assert_eq!(rt; link.sink.bytes(), b"xyz".as_slice());
+    Ok(())
+}
+
+#[test]
+fn the_lines_of_a_file(rt: HostRuntime) -> Result<(), Fail> {
+    let mut found = String::new(rt.alloc());
+    let mut rest = b"# a\n\n \t\r\n \t# b\r\nint p 0 9\r\n#\r\nSUB #\n\r".as_slice();
+    while !rest.is_empty() {
+        let (line, after) = first_line(rest);
+        let text = str::from_utf8(line)?;
+        if means_nothing(line) {
+            write!(found, "{}, ", text.len())?;
+        } else {
+            write!(found, "[{text}], ")?;
+        }
+        rest = after;
+    }
+    assert_eq!(rt;
+        found.as_str(),
+        "3, 0, 2, 5, [int p 0 9], 1, [SUB #], [\r], "
+    );
     Ok(())
 }
