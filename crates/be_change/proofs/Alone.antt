@@ -18,7 +18,6 @@ use Rattle.be_change.specs.Made.{row_made, change_named, change_made, changes_ma
 use Rattle.be_change.specs.Alone.{RunsAlone, RanAlone}
 use Rattle.be_change.proofs.Extends.{legal-append, legal-snoc}
 use Rattle.be_change.proofs.Places.{places_snoc, no_places}
-use Rattle.be_change.proofs.Grows.{live-append}
 use Rattle.be_change.proofs.Owners.{live_owned, owned_name}
 use Rattle.be_change.proofs.Forms.{formed_append, entries_of-append, no_opening}
 
@@ -352,13 +351,6 @@ alone_quit_no_memory s o k ps w a =
             inl (ap (places_of k) (sym same) ∙ (a.only ∙ sym (accepted-append ps ((quit, no_memory) ∷ []) ∙ append-nil (accepted ps))));
       };
     }
-
--- the live rows after a subscription
-pub live_subscribed : (o : List Entry) (k : ℕ) (ps : List Exchange) (name : Text) (conj : List Pred) (n : ℕ)
-    → live (made o k (ps ++ (subscribe name conj, ok n) ∷ [])) ≡ live (made o k ps) ++ (length (made o k ps), row_made k (length (made o k ps)) name conj) ∷ []
-live_subscribed o k ps name conj n =
-    let i : ℕ = length (changes_made k 0 (length o) ps) in
-    ap live (made-snoc o k ps (subscribe name conj, ok n)) ∙ live-append (made o k ps) (subscribed k i (row_made k (length (made o k ps)) name conj))
 
 named_owned : (p : ℕ → Bool) (k n m : ℕ) (r : Request) → p k ≡ true → list_all (λ e. p (session_of e)) (change_named k n m r) ≡ true
 named_owned p k n m (subscribe name conj) e = and_from (p k) true e refl

@@ -1,13 +1,12 @@
 -- The places and ids of changes, and counts over the list.
 use Rattle.std.proofs.Common.{◌≡◌, ℕ, suc, ◌+◌, ◌≤◌, ◌==◌, Bool, true, false, cond, ◌||◌, List, [], ◌∷◌, ◌++◌, length, refl, sym, ap, ◌∙◌, subst, arith, zero-add, length-append, eq-eqb}
 use Rattle.std.proofs.lemmas.Bool.{or_from}
-use Rattle.std.proofs.lemmas.List.{map-append, length-map, append-nil, nil_from_length}
+use Rattle.std.proofs.lemmas.List.{map-append, length-map, append-nil}
 use Rattle.std.proofs.lemmas.List.Folds.{list_any-append}
 use Rattle.std.proofs.lemmas.List.Sums.{length-filter}
 use Rattle.std.specs.Arc.{arc_value}
 use Rattle.std.specs.declared.sync.Arc.{Arc}
 use Rattle.std.specs.List.{list_any, count_by, filter}
-use Rattle.be_base.specs.Lists.{BeginsWith}
 use Rattle.be_model.specs.declared.changes.Change.{Change}
 use Rattle.be_change.specs.History.{Entry, subscribed, unsubscribed, left, session_of, entries_of, is_leave_of, has_left, places_of, places_from}
 use Rattle.be_change.specs.Entries.{entry_of, entries_in, HasIdAt, HaveIdsFrom, IdsArePlaces, IsLog, spare_of}
@@ -96,14 +95,6 @@ places_from-count k n (x ∷ xs) = same_length_if (session_of x == k) n (places_
 -- a session has as many places as entries
 pub places_count : (k : ℕ) (h : List Entry) → length (places_of k h) ≡ length (entries_of k h)
 places_count k h = places_from-count k 0 h
-
--- a list that begins with another, and has no more entries of the session than it, has them at the same places
-pub places_same : (k : ℕ) (h seen : List Entry) → BeginsWith h seen → length (entries_of k h) ≡ length (entries_of k seen) → places_of k h ≡ places_of k seen
-places_same k h seen s n =
-    let all : places_of k h ≡ places_of k seen ++ places_from k (length seen) s.0 = ap (places_of k) s.1 ∙ places_of-append k seen s.0 in
-    let none : length (places_from k (length seen) s.0) ≡ 0 =
-    omega (arith, places_count k h, places_count k seen, ap (λ (l : List ℕ). length l) all, length-append (places_of k seen) (places_from k (length seen) s.0)) in
-    all ∙ (ap (λ (l : List ℕ). places_of k seen ++ l) (nil_from_length (places_from k (length seen) s.0) none) ∙ append-nil (places_of k seen))
 
 pub left-append : (k : ℕ) (h more : List Entry) → has_left k (h ++ more) ≡ (has_left k h || has_left k more)
 left-append k h more = list_any-append (is_leave_of k) h more
