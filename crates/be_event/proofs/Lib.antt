@@ -2,7 +2,6 @@ pub mod Grammar
 pub mod RoundTrip
 pub mod SchemaForms
 pub mod Notes
-pub mod FirstLines
 pub mod WordLemmas
 pub mod Scans
 pub mod Built
