@@ -3,8 +3,16 @@ use Rattle.std.proofs.Common.{◌≡◌, ℤ, Bool, true, false, cond, leb, ltb,
 use Rattle.std.specs.Option.{is_some}
 use Rattle.std.specs.Int.Signed.{le_z}
 use Rattle.std.proofs.lemmas.List.{append_assoc}
-use Rattle.be_shape.proofs.Placed.{levels, placed_here}
-use Rattle.std.specs.List.{list_any, list_all}
+use Rattle.be_shape.proofs.Children.{where_known, rows_of, rows_are}
+use Rattle.be_shape.proofs.Placed.{placed}
+use Rattle.be_shape.proofs.Visited.{visited_of, visited_is}
+use Rattle.be_shape.specs.Children.{children, known_below, is_open, may_pass}
+use Rattle.be_shape.specs.Paths.{range_below}
+use Rattle.be_model.specs.declared.paths.Hop.{Hop}
+use Rattle.be_model.specs.declared.paths.Hop.TheVariants.{Part, Low, High}
+use Rattle.std.proofs.lemmas.List.Folds.{list_all-append}
+use Rattle.std.proofs.lemmas.Bool.{and_parts}
+use Rattle.std.specs.List.{list_any, list_all, flat_map, AllByRecursion}
 use Rattle.std.proofs.lemmas.Bool.{eqb-true}
 use Rattle.std.proofs.lemmas.Bool.Decides.{nat_tests}
 use Rattle.std.proofs.lemmas.Int.{ints}
@@ -24,9 +32,9 @@ use Rattle.be_model.specs.Hulls.{is_on, span, span_in}
 use Rattle.be_model.proofs.Attributes.{and_left, and_right, and_both}
 use Rattle.be_model.proofs.Ranges.{within_parts, within_from, spans_hold, spans_are}
 use Rattle.be_model.proofs.InSchema.{all_hold, value_within}
-use Rattle.be_shape.specs.Plain.{Plain, node, Parts, no_part, part, Half, no_half, half, rows_below, rows_in_parts, rows_in_half}
-use Rattle.be_shape.specs.Shape.{NodeRange, whole, lower, upper, Known, in_part, in_low, in_high, everywhere, in_all_parts, in_a_half, is_inside, spans_inside, parts_fit, can_split, is_here, is_placed_at, has_form, op_has_form, set_has_form, may_stand}
-use Rattle.be_shape.specs.Search.{value_inside, holds_value, visited, visited_in_parts, visited_in_half, all_of}
+use Rattle.be_shape.specs.Plain.{Plain, rows_below, leaf_of}
+use Rattle.be_shape.specs.Shape.{NodeRange, lower, upper, Known, everywhere, is_inside, spans_inside, can_split, is_placed_at, has_form, op_has_form, set_has_form, may_stand}
+use Rattle.be_shape.specs.Search.{value_inside, holds_value, enters, visited, all_of}
 use Rattle.be_match.proofs.Fronts.{satisfied_append, satisfied_leaves}
 
 false_right : (b : Bool) → (b && false) ≡ false
@@ -147,23 +155,6 @@ none_in_range s e r (row ∷ rows) el ms si h =
     (outside s e r.0 r.1 row.conj f cl el (and_left (spans_inside s (Some r) row) (list_all (spans_inside s (Some r)) rows) si) h)
     (none_in_range s e r rows el (and_right (may_stand s row) (list_all (may_stand s) rows) ms) (and_right (spans_inside s (Some r) row) (list_all (spans_inside s (Some r)) rows) si) h)
 
-all_append : (p : Row → Bool) (xs ys : List Row) → list_all p (xs ++ ys) ≡ true → (list_all p xs ≡ true) × (list_all p ys ≡ true)
-all_append p [] ys h = (refl, h)
-all_append p (x ∷ xs) ys h =
-    let k = all_append p xs ys (and_right (p x) (list_all p (xs ++ ys)) h) in (and_both (p x) (list_all p xs) (and_left (p x) (list_all p (xs ++ ys)) h) k.0, k.1)
-
-glue : (e : Assignments) (x : List Row) (vp vl vh : List (List Row)) (p l h : List Row) → satisfied e (all_of vp) ≡ satisfied e p → satisfied e (all_of vl) ≡ satisfied e l → satisfied e (all_of vh) ≡ satisfied e h
-    → satisfied e (all_of (x ∷ vp ++ vl ++ vh)) ≡ satisfied e (x ++ p ++ l ++ h)
-glue e x vp vl vh p l h a b c =
-    let sx = satisfied e x in
-    let sp = satisfied e p in
-    let sl = satisfied e l in
-    let sh = satisfied e h in
-    satisfied_append e x (all_of (vp ++ vl ++ vh)) ∙ ap (λ q. sx ++ q) (satisfied_leaves e (vp ++ vl) vh ∙ ap (λ q. q ++ satisfied e (all_of vh)) (satisfied_leaves e vp vl))
-    ∙ ap (λ q. sx ++ ((q ++ satisfied e (all_of vl)) ++ satisfied e (all_of vh))) a ∙ ap (λ q. sx ++ ((sp ++ q) ++ satisfied e (all_of vh))) b ∙ ap (λ q. sx ++ ((sp ++ sl) ++ q)) c
-    ∙ sym (append_assoc sx (sp ++ sl) sh) ∙ ap (λ q. q ++ sh) (sym (append_assoc sx sp sl))
-    ∙ sym (satisfied_append e (x ++ p ++ l) h ∙ ap (λ q. q ++ sh) (satisfied_append e (x ++ p) l ∙ ap (λ q. q ++ sl) (satisfied_append e x p)))
-
 lower_is : (r : NodeRange) → can_split r ≡ true → is_some (lower r) ≡ true
 lower_is None h = absurd (cc)
 lower_is (Some r) h = refl
@@ -172,49 +163,56 @@ upper_is : (r : NodeRange) → can_split r ≡ true → is_some (upper r) ≡ tr
 upper_is None h = absurd (cc)
 upper_is (Some r) h = refl
 
-rows_inside : (s : Attributes) (k : Known) (n : Plain) → everywhere (is_placed_at s) s k n ≡ true → list_all (spans_inside s k.range) (rows_below n) ≡ true
-rows_inside s k (node rows parts low high) ev =
-    (placed_here s k rows parts low high (levels (is_placed_at s) s k rows parts low high ev).here).inside
-
 none_in_half : (s : Attributes) (e : Assignments) (r : NodeRange) (rows : List Row) → event_lies s e ≡ true → list_all (may_stand s) rows ≡ true → list_all (spans_inside s r) rows ≡ true
     → is_some r ≡ true → holds_value e r ≡ false → satisfied e rows ≡ []
 none_in_half s e None rows el ms si h k = absurd (cc)
 none_in_half s e (Some r) rows el ms si h k = none_in_range s e r rows el ms si k
 
+-- no row below a step that a search doesn't enter is satisfied
+none_passed : (s : Attributes) (e : Assignments) (hop : Hop) (k : Known) (rows : List Row) → event_lies s e ≡ true → list_all (may_stand s) rows ≡ true
+    → is_open hop k ≡ true → list_all (may_pass s hop k) rows ≡ true → enters s e k.range hop ≡ false → satisfied e rows ≡ []
+none_passed s e (Part a) k rows el ms may pass out = none_in_part e a rows out pass
+none_passed s e Low k rows el ms may pass out =
+    none_in_half s e (lower k.range) rows el ms pass (lower_is k.range may) out
+none_passed s e High k rows el ms may pass out =
+    none_in_half s e (upper k.range) rows el ms pass (upper_is k.range may) out
+
+-- what is known at the end of a step, and its range
+pub range_known : (s : Attributes) (hop : Hop) (k : Known) → (known_below s hop k).range ≡ range_below s hop k.range
+range_known s (Part a) k = refl
+range_known s Low k = refl
+range_known s High k = refl
+
+-- all that is satisfied below a node stands in the leaves that a search of it visits
+abbrev IsExact : Attributes → Assignments → Known → Plain → Type 0
+IsExact s e k n = list_all (may_stand s) (rows_below n) ≡ true → satisfied e (all_of (visited s e k.range n)) ≡ satisfied e (rows_below n)
+
 chosen : (e : Assignments) (b : Bool) (v : List (List Row)) (rows : List Row) → (b ≡ true → satisfied e (all_of v) ≡ satisfied e rows) → (b ≡ false → satisfied e rows ≡ []) → satisfied e (all_of (cond b v [])) ≡ satisfied e rows
 chosen e true v rows h k = h refl
 chosen e false v rows h k = sym (k refl)
 
-mutual
-  -- all that is satisfied below a node stands in the leaves that a search of it visits
-  pub exact : (s : Attributes) (e : Assignments) (k : Known) (n : Plain) → event_lies s e ≡ true → everywhere (is_placed_at s) s k n ≡ true → list_all (may_stand s) (rows_below n) ≡ true
-      → satisfied e (all_of (visited s e k.range n)) ≡ satisfied e (rows_below n)
-  exact s e k (node rows parts low high) el ev ms =
-      let q = levels (is_placed_at s) s k rows parts low high ev in
-      let p = placed_here s k rows parts low high q.here in
-      let m3 = all_append (may_stand s) (rows ++ rows_in_parts parts ++ rows_in_half low) (rows_in_half high) ms in
-      let m2 = all_append (may_stand s) (rows ++ rows_in_parts parts) (rows_in_half low) m3.0 in
-      let m1 = all_append (may_stand s) rows (rows_in_parts parts) m2.0 in
-      glue e rows (visited_in_parts s e parts) (visited_in_half s e (lower k.range) low) (visited_in_half s e (upper k.range) high) (rows_in_parts parts) (rows_in_half low) (rows_in_half high)
-      (exact_parts s e k parts el q.in_parts p.fit m1.1)
-      (exact_half s e (in_low k) low el q.in_lower m2.1 (λ h. lower_is k.range (p.low_splits h)))
-      (exact_half s e (in_high k) high el q.in_upper m3.1 (λ h. upper_is k.range (p.high_splits h)))
+in_child : (s : Attributes) (e : Assignments) (k : Known) (x : Hop × Plain) → event_lies s e ≡ true → is_open x.0 k ≡ true → list_all (may_pass s x.0 k) (rows_below x.1) ≡ true
+    → IsExact s e (known_below s x.0 k) x.1 → list_all (may_stand s) (rows_below x.1) ≡ true → satisfied e (all_of (visited_of s e k.range x)) ≡ satisfied e (rows_below x.1)
+in_child s e k x el may pass claim ms =
+    chosen e (enters s e k.range x.0) (visited s e (range_below s x.0 k.range) x.1) (rows_below x.1) (λ _. ap (λ r. satisfied e (all_of (visited s e r x.1))) (sym (range_known s x.0 k)) ∙ claim ms)
+    (none_passed s e x.0 k (rows_below x.1) el ms may pass)
 
-  exact_parts : (s : Attributes) (e : Assignments) (k : Known) (parts : Parts) → event_lies s e ≡ true → in_all_parts (is_placed_at s) s k parts ≡ true → parts_fit parts ≡ true
-      → list_all (may_stand s) (rows_in_parts parts) ≡ true → satisfied e (all_of (visited_in_parts s e parts)) ≡ satisfied e (rows_in_parts parts)
-  exact_parts s e k no_part el ev pf ms = refl
-  exact_parts s e k (part a root more) el ev pf ms =
-      let m = all_append (may_stand s) (rows_below root) (rows_in_parts more) ms in
-      let v = visited s e (whole s a) root in
-      let first = chosen e (is_assigned e a) v (rows_below root)
-      (λ _. exact s e (in_part s a k) root el (and_left (everywhere (is_placed_at s) s (in_part s a k) root) (in_all_parts (is_placed_at s) s k more) ev) m.0)
-      (λ h. none_in_part e a (rows_below root) h (and_left (list_all (has a) (rows_below root)) (parts_fit more) pf)) in
-      let others = exact_parts s e k more el (and_right (everywhere (is_placed_at s) s (in_part s a k) root) (in_all_parts (is_placed_at s) s k more) ev) (and_right (list_all (has a) (rows_below root)) (parts_fit more) pf) m.1 in
-      satisfied_leaves e (cond (is_assigned e a) v []) (visited_in_parts s e more) ∙ ap (λ q. q ++ satisfied e (all_of (visited_in_parts s e more))) first ∙ ap (λ q. satisfied e (rows_below root) ++ q) others
-      ∙ sym (satisfied_append e (rows_below root) (rows_in_parts more))
+in_children : (s : Attributes) (e : Assignments) (k : Known) (xs : List (Hop × Plain)) → event_lies s e ≡ true → AllByRecursion (λ (x : Hop × Plain). is_open x.0 k ≡ true) xs
+    → AllByRecursion (λ (x : Hop × Plain). list_all (may_pass s x.0 k) (rows_below x.1) ≡ true) xs → AllByRecursion (λ (x : Hop × Plain). IsExact s e (known_below s x.0 k) x.1) xs
+    → list_all (may_stand s) (flat_map rows_of xs) ≡ true → satisfied e (all_of (flat_map (visited_of s e k.range) xs)) ≡ satisfied e (flat_map rows_of xs)
+in_children s e k [] el may pass claims ms = refl
+in_children s e k (x ∷ xs) el may pass claims ms =
+    let m = and_parts (list_all (may_stand s) (rows_below x.1)) (list_all (may_stand s) (flat_map rows_of xs)) (sym (list_all-append (may_stand s) (rows_below x.1) (flat_map rows_of xs)) ∙ ms) in
+    satisfied_leaves e (visited_of s e k.range x) (flat_map (visited_of s e k.range) xs) ∙ ap (λ q. q ++ satisfied e (all_of (flat_map (visited_of s e k.range) xs))) (in_child s e k x el may.0 pass.0 claims.0 m.0)
+    ∙ ap (λ q. satisfied e (rows_below x.1) ++ q) (in_children s e k xs el may.1 pass.1 claims.1 m.1) ∙ sym (satisfied_append e (rows_below x.1) (flat_map rows_of xs))
 
-  exact_half : (s : Attributes) (e : Assignments) (k : Known) (h : Half) → event_lies s e ≡ true → in_a_half (is_placed_at s) s k h ≡ true → list_all (may_stand s) (rows_in_half h) ≡ true
-      → (is_here h ≡ true → is_some k.range ≡ true) → satisfied e (all_of (visited_in_half s e k.range h)) ≡ satisfied e (rows_in_half h)
-  exact_half s e k no_half el ev ms t = refl
-  exact_half s e k (half n) el ev ms t =
-      chosen e (holds_value e k.range) (visited s e k.range n) (rows_below n) (λ _. exact s e k n el ev ms) (λ h. none_in_half s e k.range (rows_below n) el ms (rows_inside s k n ev) (t refl) h)
+pub exact : (s : Attributes) (e : Assignments) (k : Known) (n : Plain) → event_lies s e ≡ true → everywhere (is_placed_at s) s k n ≡ true → list_all (may_stand s) (rows_below n) ≡ true
+    → satisfied e (all_of (visited s e k.range n)) ≡ satisfied e (rows_below n)
+exact s e k n el =
+    where_known (is_placed_at s) s (IsExact s e)
+    (λ j m l claims ms. let p = placed s j m l in
+    let t = and_parts (list_all (may_stand s) (leaf_of m)) (list_all (may_stand s) (flat_map rows_of (children m))) (sym (list_all-append (may_stand s) (leaf_of m) (flat_map rows_of (children m))) ∙ ap (list_all (may_stand s)) (sym (rows_are m)) ∙ ms) in
+    ap (λ v. satisfied e (all_of v)) (visited_is s e j.range m) ∙ satisfied_append e (leaf_of m) (all_of (flat_map (visited_of s e j.range) (children m)))
+    ∙ ap (λ q. satisfied e (leaf_of m) ++ q) (in_children s e j (children m) el p.open_steps p.pass claims t.1)
+    ∙ sym (satisfied_append e (leaf_of m) (flat_map rows_of (children m))) ∙ ap (satisfied e) (sym (rows_are m)))
+    k n

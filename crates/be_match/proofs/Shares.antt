@@ -4,7 +4,7 @@ use Rattle.std.proofs.Common.{◌≡◌, ℕ, ℤ, ◌+◌, ◌<ℤ◌, ◌≤�
 use Rattle.std.specs.List.{sum_by, list_all}
 use Rattle.std.specs.Option.{is_some}
 use Rattle.std.proofs.lemmas.Int.{ints}
-use Rattle.std.proofs.lemmas.Bool.{eqb-true}
+use Rattle.std.proofs.lemmas.Bool.{eqb-true, not-true}
 use Rattle.std.proofs.lemmas.Bool.Decides.{nat_tests}
 use Rattle.std.proofs.lemmas.List.Sums.{sum_by-cons, sum_by-le-sum_by}
 use Rattle.be_base.specs.declared.names.AttrNo.{AttrNo}
@@ -16,6 +16,10 @@ use Rattle.be_model.specs.Rows.{has}
 use Rattle.be_model.specs.Bounds.{bits_of, bits_at, ranges_to, shared}
 use Rattle.be_model.proofs.Attributes.{and_left, and_right}
 use Rattle.be_model.proofs.RangeBits.{low_bits, high_bits}
+use Rattle.be_model.specs.declared.paths.Hop.{Hop}
+use Rattle.be_model.specs.declared.paths.Hop.TheVariants.{Part, Low, High}
+use Rattle.be_shape.specs.Children.{known_below, is_open, may_pass}
+use Rattle.be_shape.specs.Search.{enters}
 use Rattle.be_shape.specs.Shape.{NodeRange, whole, lower, upper, Known, nothing, in_part, in_low, in_high, is_used, can_split, is_some as some_row}
 
 abbrev bits_left : NodeRange → ℕ
@@ -81,7 +85,7 @@ whole_bits s a = by_range (range_of s a)
     by_range (Some r) = refl
 
 -- below a part whose attribute is assigned
-pub part_share : (s : Attributes) (e : Assignments) (k : Known) (a : AttrNo) (row : Row) → is_used k.used a ≡ false → is_assigned e a ≡ true → has a row ≡ true → share s e (in_part s a k) row + 1 ≤ share s e k row
+part_share : (s : Attributes) (e : Assignments) (k : Known) (a : AttrNo) (row : Row) → is_used k.used a ≡ false → is_assigned e a ≡ true → has a row ≡ true → share s e (in_part s a k) row + 1 ≤ share s e k row
 part_share s e k a row unused given has_it =
     omega (arith, whole_bits s a, part_takes s e a k.used row unused has_it given)
 
@@ -94,11 +98,18 @@ high_left None h = absurd (cc)
 high_left (Some r) h = let l : r.1.0 <ℤ r.1.1 = omega (arith, ints) in high_bits r.1 l
 
 -- in a half
-pub low_share : (s : Attributes) (e : Assignments) (k : Known) (row : Row) → can_split k.range ≡ true → share s e (in_low k) row + 1 ≤ share s e k row
+low_share : (s : Attributes) (e : Assignments) (k : Known) (row : Row) → can_split k.range ≡ true → share s e (in_low k) row + 1 ≤ share s e k row
 low_share s e k row h = omega (arith, low_left k.range h)
 
-pub high_share : (s : Attributes) (e : Assignments) (k : Known) (row : Row) → can_split k.range ≡ true → share s e (in_high k) row + 1 ≤ share s e k row
+high_share : (s : Attributes) (e : Assignments) (k : Known) (row : Row) → can_split k.range ≡ true → share s e (in_high k) row + 1 ≤ share s e k row
 high_share s e k row h = omega (arith, high_left k.range h)
+
+-- below a step that is entered, a row that may pass has a share that is less
+pub share_below : (s : Attributes) (e : Assignments) (hop : Hop) (k : Known) (row : Row) → is_open hop k ≡ true → enters s e k.range hop ≡ true → may_pass s hop k row ≡ true → share s e (known_below s hop k) row + 1 ≤ share s e k row
+share_below s e (Part a) k row may entered passed =
+    part_share s e k a row (not-true (is_used k.used a) may) entered passed
+share_below s e Low k row may entered passed = low_share s e k row may
+share_below s e High k row may entered passed = high_share s e k row may
 
 -- rows that each share one less pay for a node
 lesser : (f g : Row → ℕ) (p : Row → Bool) (rows : List Row) → list_all p rows ≡ true → ((row : Row) → p row ≡ true → f row + 1 ≤ g row) → sum_by f rows + length rows ≤ sum_by g rows
