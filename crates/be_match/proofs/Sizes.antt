@@ -7,6 +7,7 @@ use Rattle.be_model.specs.declared.changes.Row.{Row}
 use Rattle.be_model.specs.Domains.{Range}
 use Rattle.be_model.specs.Schemas.{Attributes, range_of}
 use Rattle.be_model.specs.Matching.{Assignments, value_of, is_assigned}
+use Rattle.be_model.specs.declared.costs.Cost.{Cost}
 use Rattle.be_model.specs.Lies.{event_lies}
 use Rattle.be_model.proofs.InSchema.{value_within}
 use Rattle.be_shape.specs.declared.nodes.Node.{Node}
@@ -16,7 +17,7 @@ use Rattle.be_shape.specs.Plain.{plain, part_as, parts_of, parts_as, half_as}
 use Rattle.be_shape.specs.Shape.{NodeRange, whole, lower, upper}
 use Rattle.be_shape.specs.Search.{value_inside, visited, visited_in_parts, visited_in_half, all_of}
 use Rattle.be_shape.proofs.Plains.{plain_out, part_out}
-use Rattle.be_match.specs.Leaves.{AreCountable, may_enter}
+use Rattle.be_match.specs.Leaves.{AreCountable, cost_of_leaves, may_enter}
 
 -- the rows of two lists of leaves
 pub all_of_append : (xs ys : List (List Row)) → all_of (xs ++ ys) ≡ all_of xs ++ all_of ys
@@ -51,6 +52,24 @@ node_sizes s e r n =
     record {
       visits = ap length (node_visited s e r n) ∙ sum_leaves x a b c;
       tested = ap (λ leaves. length (all_of leaves)) (node_visited s e r n) ∙ sum_rows x a b c;
+    }
+
+-- what a node costs, from what its parts and halves cost
+pub record NodeCosts (s : Attributes) (e : Assignments) (r : NodeRange) (n : Node) (p l h : Cost) : Type 0 where
+  pub visits : 1 + p.visits + l.visits + h.visits ≡ length (visited s e r (plain n))
+  pub tested : length (out-Node n).leaf + p.tested + l.tested + h.tested ≡ length (all_of (visited s e r (plain n)))
+
+pub node_costs : (s : Attributes) (e : Assignments) (r : NodeRange) (n : Node) (p l h : Cost) (ps : List Part) (low high : NodeRange) → ps ≡ (out-Node n).parts.items → low ≡ lower r → high ≡ upper r
+    → p ≡ cost_of_leaves (visited_in_parts s e (parts_as ps)) → l ≡ cost_of_leaves (visited_in_half s e low (half_as (out-Node n).low)) → h ≡ cost_of_leaves (visited_in_half s e high (half_as (out-Node n).high))
+    → NodeCosts s e r n p l h
+node_costs s e r n p l h ps low high eps el eh ep eq er =
+    let z = node_sizes s e r n in
+    let a = ep ∙ ap (λ q. cost_of_leaves (visited_in_parts s e (parts_as q))) eps in
+    let b = eq ∙ ap (λ q. cost_of_leaves (visited_in_half s e q (half_as (out-Node n).low))) el in
+    let c = er ∙ ap (λ q. cost_of_leaves (visited_in_half s e q (half_as (out-Node n).high))) eh in
+    record {
+      visits = omega (arith, z.visits, ap (λ q. q.visits) a, ap (λ q. q.visits) b, ap (λ q. q.visits) c);
+      tested = omega (arith, z.tested, ap (λ q. q.tested) a, ap (λ q. q.tested) b, ap (λ q. q.tested) c);
     }
 
 -- what a search of parts visits: what it visits in the first, and in the others

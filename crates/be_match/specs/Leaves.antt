@@ -1,7 +1,7 @@
 -- Lists of leaves, and lists that grow.
 use Rattle.std.specs.Prelude.{◌≡◌, ◌+◌, ◌^◌, ◌<◌, ◌≤◌, List, ◌++◌, length, Bool, true, Some, None}
 use Rattle.be_model.specs.declared.changes.Row.{Row}
-use Rattle.be_model.specs.Matching.{Assignments}
+use Rattle.be_model.specs.Matching.{Assignments, satisfied}
 use Rattle.be_model.specs.declared.costs.Cost.{Cost}
 use Rattle.be_model.specs.Costs.{cost}
 use Rattle.be_model.specs.Rows.{FoundRows}
@@ -25,6 +25,10 @@ pub record BeginsWith (front rows : List Row) : Type 0 where
 -- the rows and the room for more together are no less
 abbrev pub KeepsRoom : FoundRows → FoundRows → Type 0
 KeepsRoom before after = length before.rows + before.spare ≤ length after.rows + after.spare
+
+-- the event satisfies some of the rows
+abbrev pub FindsSome : Assignments → List Row → Type 0
+FindsSome e rows = 0 < length (satisfied e rows)
 
 -- a search is at the root, or in a range that holds the event's value
 abbrev pub may_enter : Assignments → NodeRange → Bool

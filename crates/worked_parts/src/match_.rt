@@ -1,11 +1,11 @@
-//! What no clause says: that the calls succeed where there is memory, and a search that was counted by hand.
+//! Of the search, what no clause says: that the calls succeed where there is memory, and a search that was counted by hand.
 
 ghost use Rattle.std.specs.Prelude.{◌≡◌, IfOk};
 ghost use Rattle.std.specs.Arc.{arc_value};
 ghost use Rattle.be_model.specs.Rows.{id_of};
 
-use super::*;
 use be_base::{AttrNo, Id, Name, NoMemory, SessionNo};
+use be_match::{cost_of, find_in};
 use be_model::{Conj, Cost, Domain, Event, Found, Op, Pred, Row, Schema};
 use be_shape::Tree;
 use std::alloc::Global;
