@@ -8,6 +8,7 @@ use Rattle.std.proofs.lemmas.Bool.{and_from}
 use Rattle.std.proofs.lemmas.Bool.Decides.{nat_tests}
 use Rattle.std.proofs.lemmas.List.Sums.{fold-append}
 use Rattle.std.proofs.lemmas.List.Folds.{list_all-append}
+use Rattle.be_base.specs.declared.limits.TheConstants.{COUNT_END, INT_SIZE}
 use Rattle.be_base.specs.Text.{Text, IsWord, is_word_byte}
 use Rattle.be_base.specs.Numbers.{is_digit, are_digits, decimal_value, count_of, size_of_digits, positive, negative, int_of}
 use Rattle.be_base.proofs.Lexing.{list_all_head}
@@ -58,23 +59,23 @@ not_empty n h = grind (arith, nat_tests)
 pub are_digits_of : (n : ℕ) (ds : Text) → AreDigitsOf n ds → are_digits ds ≡ true
 are_digits_of n ds k = and_from (not (eqb (length ds) 0)) (list_all is_digit ds) (not_empty (length ds) k.some) k.digits
 
-counted : (n v : ℕ) → v ≡ n → n < 2 ^ 63 → cond (ltb v 9223372036854775808) (Some v) None ≡ Some n
+counted : (n v : ℕ) → v ≡ n → n < 2 ^ 63 → cond (ltb v COUNT_END) (Some v) None ≡ Some n
 counted n v e h = grind (arith, nat_tests)
 
 -- a number below 2^63 is read back from its text
 pub count_of-decimal : (n : ℕ) → n < 2 ^ 63 → count_of (decimal n) ≡ Some n
 count_of-decimal n h =
     let k = AreDigitsOf-decimal n (omega arith) in
-    ap (λ b. cond (b && ltb (decimal_value (decimal n)) 9223372036854775808) (Some (decimal_value (decimal n))) None) (are_digits_of n (decimal n) k)
+    ap (λ b. cond (b && ltb (decimal_value (decimal n)) COUNT_END) (Some (decimal_value (decimal n))) None) (are_digits_of n (decimal n) k)
     ∙ counted n (decimal_value (decimal n)) k.value h
 
-capped : (n v : ℕ) → v ≡ n → n ≤ 1099511627776 → Some (min v 1099511627776) ≡ Some n
+capped : (n v : ℕ) → v ≡ n → n ≤ INT_SIZE → Some (min v INT_SIZE) ≡ Some n
 capped n v e h = grind (arith, nat_tests)
 
-pub size_of_decimal : (n : ℕ) → n ≤ 1099511627776 → size_of_digits (decimal n) ≡ Some n
+pub size_of_decimal : (n : ℕ) → n ≤ INT_SIZE → size_of_digits (decimal n) ≡ Some n
 size_of_decimal n h =
     let k = AreDigitsOf-decimal n (omega arith) in
-    ap (λ b. cond b (Some (min (decimal_value (decimal n)) 1099511627776)) None) (are_digits_of n (decimal n) k)
+    ap (λ b. cond b (Some (min (decimal_value (decimal n)) INT_SIZE)) None) (are_digits_of n (decimal n) k)
     ∙ capped n (decimal_value (decimal n)) k.value h
 
 digit_no_sign : (b : ℕ) → is_digit b ≡ true → eqb b 45 ≡ false
@@ -87,13 +88,13 @@ unsigned (b ∷ ds) some h =
     ap (λ t. cond t (negative (size_of_digits ds)) (positive (size_of_digits (b ∷ ds)))) (digit_no_sign b k.0)
 
 -- a whole number of a size up to 2^40 is read back from its text
-pub int_of-signed_decimal : (v : ℤ) → unsigned_abs v ≤ 1099511627776 → int_of (signed_decimal v) ≡ Some v
+pub int_of-signed_decimal : (v : ℤ) → unsigned_abs v ≤ INT_SIZE → int_of (signed_decimal v) ≡ Some v
 int_of-signed_decimal (pos n) h =
     let k = AreDigitsOf-decimal n (omega arith) in
     unsigned (decimal n) k.some k.digits ∙ ap positive (size_of_decimal n h)
 int_of-signed_decimal (negsuc n) h = ap negative (size_of_decimal (suc n) h)
 
-pub IsWord-signed_decimal : (v : ℤ) → unsigned_abs v ≤ 1099511627776 → IsWord (signed_decimal v)
+pub IsWord-signed_decimal : (v : ℤ) → unsigned_abs v ≤ INT_SIZE → IsWord (signed_decimal v)
 unfolding is_word_byte
 IsWord-signed_decimal (pos n) h = IsWord-decimal n (omega arith)
 IsWord-signed_decimal (negsuc n) h =

@@ -1,14 +1,12 @@
 -- The tokens of a text, by what it begins with.
 use Rattle.std.proofs.Common.{◌≢◌, ◌+◌, ◌<◌, suc, zero, length, take, drop, get_or, length-drop, ◌≡◌, ℕ, ◌==◌, ◌||◌, ◌&&◌, Bool, true, false, cond, List, [], ◌∷◌, ◌++◌, Some, None, inl, inr, ◌⊎◌, sym, ap, ◌∙◌, arith, refl}
+use Rattle.std.proofs.lemmas.Bool.{and_parts}
 use Rattle.std.proofs.lemmas.Bool.Decides.{nat_tests}
 use Rattle.std.proofs.lemmas.List.{at_drop_more, take-append-drop}
 use Rattle.std.specs.List.{list_all}
 use Rattle.be_base.specs.Text.{Text, is_word_byte}
 use Rattle.be_base.specs.Fronts.{is_equal, starts_with}
 use Rattle.be_base.specs.Tokens.{Lexeme, word, less_or_equal, equal, not_equal, greater_or_equal, blank, stray, is_blank, lexeme_of, put_before, lexemes, put_token, tokens_in, tokens}
-
-other : (a b : ℕ) → a ≢ b → (a == b) ≡ false
-other a b h = grind (arith, nat_tests)
 
 -- a byte that joins a `=` behind it
 abbrev pub is_paired : ℕ → Bool
@@ -29,10 +27,6 @@ cond_keeps f r false x y p q = q
 cond_else : {A : Type 0} (f : A → Bool) (r c : Bool) (x y : A) → c ≡ false → f y ≡ r → f (cond c x y) ≡ r
 cond_else f r true x y h q = absurd (cc)
 cond_else f r false x y h q = q
-
-and_parts : (a b : Bool) → (a && b) ≡ true → (a ≡ true) × (b ≡ true)
-and_parts true b h = (refl, h)
-and_parts false b h = absurd (cc)
 
 pub list_all_head : (p : ℕ → Bool) (b : ℕ) (text : Text) → list_all p (b ∷ text) ≡ true → (p b ≡ true) × (list_all p text ≡ true)
 list_all_head p b text h = and_parts (p b) (list_all p text) h
@@ -163,12 +157,6 @@ tokens_all_blank (b ∷ text) h =
     let k = list_all_head is_blank b text h in
     tokens_blank b text k.0 ∙ tokens_all_blank text k.1
 
-pub blank_skipped : (text : Text) (i : ℕ) → i < length text → is_blank (get_or text i 0) ≡ true
-    → tokens (drop (i + 1) text) ≡ tokens (drop i text)
-blank_skipped text i h b =
-    let e : tokens (drop i text) ≡ tokens (get_or text i 0 ∷ drop (i + 1) text) = at_drop_more tokens text i 0 h in
-    sym (tokens_blank (get_or text i 0) (drop (i + 1) text) b) ∙ sym e
-
 -- a byte that no token has
 pub tokens_stray : (b : ℕ) (text : Text) → lexeme_of b ≡ stray b → is_word_byte b ≡ false
     → (is_paired b ≡ false) ⊎ (starts_with is_equal text ≡ false) → tokens (b ∷ text) ≡ None
@@ -180,19 +168,3 @@ pub word_scanned : (n : ℕ) (text w r : Text) → w ≡ take n text → r ≡ d
     → (tokens text ≡ put_token (word w) (tokens r)) × (length r < length text)
 word_scanned n text w r we re s t e =
     rw (we, re) (tokens_word n text s t e, word_shortens n text s e)
-
-lexeme_stray : (b : ℕ) → is_word_byte b ≡ false → is_blank b ≡ false → b ≢ 60 → b ≢ 61 → b ≢ 62 → b ≢ 123 → b ≢ 125 → b ≢ 44
-    → lexeme_of b ≡ stray b
-lexeme_stray b w k a c d e f g =
-    rw (w, k, other b 60 a, other b 61 c, other b 62 d, other b 123 e, other b 125 f, other b 44 g) refl
-
--- a byte that is of no token and no part of one
-pub mark_stray : (b : ℕ) (text : Text) → is_word_byte b ≡ false → is_blank b ≡ false → b ≢ 60 → b ≢ 62 → b ≢ 33 → b ≢ 61 → b ≢ 123 → b ≢ 125 → b ≢ 44
-    → tokens (b ∷ text) ≡ None
-mark_stray b text w k a d x c e f g =
-    tokens_stray b text (lexeme_stray b w k a c d e f g) w (inl (rw (other b 60 a, other b 62 d, other b 33 x) refl))
-
--- a `!` with no `=` behind it
-pub bang_stray : (text : Text) → starts_with is_equal text ≡ false → tokens (33 ∷ text) ≡ None
-unfolding is_word_byte
-bang_stray text h = tokens_stray 33 text refl refl (inr h)

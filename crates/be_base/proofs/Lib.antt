@@ -1,6 +1,7 @@
+pub mod Beginnings
 pub mod SameText
 pub mod NameForms
 pub mod Lexing
-pub mod Scanning
 pub mod Joined
+pub mod FirstTokenLemmas
 pub mod Decimals

@@ -9,7 +9,9 @@ use Rattle.std.specs.Str.{IsAscii, IsUtf8}
 use Rattle.std.specs.List.{list_all, position, position_or_len}
 use Rattle.std.proofs.lemmas.List.Folds.{list_all_at}
 use Rattle.std.proofs.lemmas.List.Quantifiers.{position-Some}
+use Rattle.std.proofs.lemmas.Bool.{not-true}
 use Rattle.std.proofs.lemmas.Bool.Decides.{nat_tests}
+use Rattle.be_base.specs.declared.limits.TheConstants.{NAME_BYTES}
 use Rattle.be_base.specs.Text.{Text, IsName, is_word_byte, is_stray, name_of}
 
 pub word_byte_below : (b : ℕ) → is_word_byte b ≡ true → b < 128
@@ -39,33 +41,29 @@ no_place : (r : Option ℕ) (n m : ℕ) → r ≡ None → r ≡ cond (ltb n m) 
 no_place r n m e h = grind (arith, nat_tests)
 
 -- a name's form, from the three tests of a read
-pub IsName-from_tests : (text : Text) → length text ≢ 0 → length text ≤ 64 → None ≡ position is_stray text → IsName text
+pub IsName-from_tests : (text : Text) → length text ≢ 0 → length text ≤ NAME_BYTES → None ≡ position is_stray text → IsName text
 IsName-from_tests text some short none =
     record { some = omega arith; short = short; bytes = all_words text (no_place None (position_or_len is_stray text) (length text) refl none) }
-
-not_true : (b : Bool) → not b ≡ true → b ≡ false
-not_true true h = sym h
-not_true false h = refl
 
 -- a text with a byte that no name has is no name
 pub no_name : (text : Text) (place : ℕ) → Some place ≡ position is_stray text → IsName text → ⊥
 no_name text place is h =
     let k = position-Some is_stray text place 0 (sym is) in
-    let f : is_word_byte (get_or text place 0) ≡ false = not_true (is_word_byte (get_or text place 0)) k.1 in
+    let f : is_word_byte (get_or text place 0) ≡ false = not-true (is_word_byte (get_or text place 0)) k.1 in
     let e : list_all is_word_byte text ≡ false = list_all_at is_word_byte text place 0 k.0 f in
     absurd (cc (e, h.bytes))
 
 abbrev zeros : List ℕ
-zeros = replicate 64 0
+zeros = replicate NAME_BYTES 0
 
 -- the invariant of a name that is made of a text
-pub made : (text new rest : Text) → IsName text → new ≡ text → rest ≡ drop (length text) (replicate 64 0)
-    → IsName (take (length text) (new ++ rest)) × (length text ≤ 64) × (length (new ++ rest) ≡ 64) × (drop (length text) (new ++ rest) ≡ replicate (64 - length text) 0)
+pub made : (text new rest : Text) → IsName text → new ≡ text → rest ≡ drop (length text) (replicate NAME_BYTES 0)
+    → IsName (take (length text) (new ++ rest)) × (length text ≤ NAME_BYTES) × (length (new ++ rest) ≡ NAME_BYTES) × (drop (length text) (new ++ rest) ≡ replicate (NAME_BYTES - length text) 0)
 made text new rest h e r =
     let front : take (length text) (text ++ drop (length text) zeros) ≡ text = take_at text (drop (length text) zeros) (length text) refl in
     let back : drop (length text) (text ++ drop (length text) zeros) ≡ drop (length text) zeros = drop_at text (drop (length text) zeros) (length text) refl in
-    let whole : length (text ++ drop (length text) zeros) ≡ 64 = omega (arith, h.short, length-append text (drop (length text) zeros), length-drop {A = ℕ} (length text) zeros, length-replicate {A = ℕ} 64 0) in
-    rw (e, r, front, back) (h, h.short, whole, drop-replicate (length text) 64 0)
+    let whole : length (text ++ drop (length text) zeros) ≡ NAME_BYTES = omega (arith, h.short, length-append text (drop (length text) zeros), length-drop {A = ℕ} (length text) zeros, length-replicate {A = ℕ} NAME_BYTES 0) in
+    rw (e, r, front, back) (h, h.short, whole, drop-replicate (length text) NAME_BYTES 0)
 
 at_least : (w : Bool) (n m : ℕ) → w ≡ true → n ≤ m → suc n ≤ cond (not (not w)) (1 + m) 0
 at_least true n m h k = omega arith

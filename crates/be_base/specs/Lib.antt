@@ -1,7 +1,9 @@
+pub mod Lists
 pub mod Padding
 pub mod Text
+pub mod TextLists
 pub mod Numbers
 pub mod Tokens
 pub mod Fronts
+pub mod FirstTokens
 pub mod Scans
-pub mod Terms

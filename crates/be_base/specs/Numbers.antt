@@ -1,6 +1,7 @@
 -- Numbers in texts.
 use Rattle.std.specs.Prelude.{ℕ, ◌+◌, ◌*◌, ◌-◌, ◌==◌, ◌&&◌, Bool, [], ◌∷◌, length, min, nat_lt, not, Option, Some, None, ℤ, pos, neg_ℤ, fold, if◌then◌else◌}
 use Rattle.std.specs.List.{list_all}
+use Rattle.be_base.specs.declared.limits.TheConstants.{COUNT_END, INT_SIZE}
 use Rattle.be_base.specs.Text.{Text, is_between}
 
 abbrev pub is_digit : ℕ → Bool
@@ -14,14 +15,14 @@ are_digits text = not (length text == 0) && list_all is_digit text
 abbrev pub decimal_value : Text → ℕ
 decimal_value text = fold (λ value digit. 10 * value + (digit - 48)) 0 text
 
--- the number below 2^63 that a text of digits is
+-- the number that a text of digits is, where it is below the end of counts
 abbrev pub count_of : Text → Option ℕ
 count_of text =
-    if are_digits text && nat_lt (decimal_value text) 9223372036854775808 then Some (decimal_value text) else None
+    if are_digits text && nat_lt (decimal_value text) COUNT_END then Some (decimal_value text) else None
 
--- a size beyond 2^40 is read as 2^40
+-- a greater size is read as the greatest
 abbrev pub size_of_digits : Text → Option ℕ
-size_of_digits text = if are_digits text then Some (min (decimal_value text) 1099511627776) else None
+size_of_digits text = if are_digits text then Some (min (decimal_value text) INT_SIZE) else None
 
 abbrev pub positive : Option ℕ → Option ℤ
 positive None = None

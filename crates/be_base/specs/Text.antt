@@ -3,6 +3,7 @@ use Rattle.std.specs.Prelude.{◌≡◌, ℕ, ◌<◌, ◌≤◌, ◌==◌, ◌|
 use Rattle.std.specs.List.{list_all}
 use Rattle.std.specs.Option.{option_map_or}
 use Rattle.std.specs.Str.{bytes_eq}
+use Rattle.be_base.specs.declared.limits.TheConstants.{NAME_BYTES}
 use Rattle.be_base.specs.declared.names.NameFault.{NameFault}
 use Rattle.be_base.specs.declared.names.NameFault.TheVariants.{Empty, TooLong, Byte}
 
@@ -32,12 +33,12 @@ pub record IsWord (text : Text) : Type 0 where
 -- the form of a name
 pub record IsName (text : Text) : Type 0 where
   pub some : 0 < length text
-  pub short : length text ≤ 64
+  pub short : length text ≤ NAME_BYTES
   pub bytes : list_all is_word_byte text ≡ true
 
 -- the name that a text is, or the first fault of the three
 abbrev pub name_of : Text → Result Text NameFault
 name_of text =
     if length text == 0 then Err Empty else
-    (if nat_lt 64 (length text) then Err (TooLong (length text)) else
+    (if nat_lt NAME_BYTES (length text) then Err (TooLong (length text)) else
     option_map_or (λ place. Err (Byte place)) (position is_stray text) (Ok text))

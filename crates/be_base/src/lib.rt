@@ -1,20 +1,23 @@
-//! Names, numbers, tokens and limits that every layer uses.
+//! What every layer uses: names, numbers in texts, tokens, and the limits by their names.
+//!
+//! Its contract: a `Name` is 1 to 64 allowed bytes; a text's tokens are found from the left, the longest first. It stands
+//! on nothing. Begin with specs/Text and specs/Tokens.
 #![tactic(auto)]
 
+mod laws;
 mod limits;
 mod names;
 mod numbers;
-mod terms;
+mod refusals;
 mod tokens;
 
+pub use laws::tokens_are_from_the_left;
 pub use limits::{
-    ATTRIBUTES, FILE_BYTES, FIRST_INT, LAST_INT, LINE_BYTES, LOG_CHANGES, NAME_BYTES, PREDICATES,
-    SET_VALUES, SOURCE_BYTES, SYMBOLS,
+    ASKED, ATTRIBUTES, BOX_LETTERS, COUNT_END, FEED_LINE_BYTES, FILE_BYTES, FIRST_INT,
+    GENERATED_EVENTS, GENERATED_SUBSCRIPTIONS, INT_SIZE, LAST_INT, LEAF_ROWS, LINE_BYTES, LINKS,
+    LOG_CHANGES, NAME_BYTES, PREDICATES, READ_BYTES, ROUNDS, SEATS, SET_VALUES, SOURCE_BYTES,
+    SYMBOLS,
 };
 pub use names::{AttrNo, Id, Name, NameFault, NoMemory, NoRead, SessionNo};
 pub use numbers::{read_count, read_int};
-pub use terms::{Term, read_term};
-pub use tokens::{Scan, Token, is_word_byte, next_token};
-
-#[cfg(test)]
-mod tests;
+pub use tokens::{Scan, Token, after_blanks, is_blank, is_word_byte, next_token};

@@ -24,6 +24,12 @@ pub const SET_VALUES: usize = 64;
 /// Bytes of a session's line before its LF.
 pub const LINE_BYTES: usize = 65536;
 
+/// Bytes of a feed's line before its LF.
+pub const FEED_LINE_BYTES: usize = 262144;
+
+/// Bytes that a reader of lines asks for in one read, at most.
+pub const READ_BYTES: usize = 65536;
+
 /// Bytes that one reader takes.
 pub const SOURCE_BYTES: u64 = 1099511627776;
 
@@ -32,3 +38,33 @@ pub const FILE_BYTES: usize = 67108864;
 
 /// Changes in a list of changes, those that room was made for included.
 pub const LOG_CHANGES: usize = 281474976710656;
+
+/// The end of what is counted by numbers in texts: 2^63.
+pub const COUNT_END: u64 = 9223372036854775808;
+
+/// The size that larger whole numbers in texts are read as: 2^40, which no domain holds.
+pub const INT_SIZE: u64 = 1099511627776;
+
+/// The rows of a leaf that may still be split.
+pub const LEAF_ROWS: usize = 16;
+
+/// Seats of a desk, and scripts of one run.
+pub const SEATS: u32 = 64;
+
+/// Links that a door gives out.
+pub const LINKS: u64 = 1000000;
+
+/// Letters or changes that one line asks for.
+pub const ASKED: u64 = 1000000;
+
+/// Letters of a mailbox.
+pub const BOX_LETTERS: usize = 1024;
+
+/// Rounds of a generated run.
+pub const ROUNDS: u64 = 1000000;
+
+/// Subscriptions of a generated run.
+pub const GENERATED_SUBSCRIPTIONS: u64 = 100000;
+
+/// Events of a generated run.
+pub const GENERATED_EVENTS: u64 = 10000;

@@ -67,12 +67,13 @@ pub enum NameFault {
 
 /// 1 to 64 bytes of `A-Z a-z 0-9 _ . -`, kept in place. Contracts see it as its bytes.
 pub struct Name {
-    bytes: [u8; 64],
+    bytes: [u8; NAME_BYTES],
     len: u8,
 }
 
 impl Model for Name {
     ghost use Rattle.std.specs.Prelude.{◌≡◌, ℕ, ◌-◌, ◌≤◌, ◌++◌, List, take, drop, length, replicate};
+    ghost use Rattle.be_base.specs.declared.limits.TheConstants.{NAME_BYTES};
     ghost use Rattle.be_base.specs.Text.{IsName};
     ghost use Rattle.be_base.specs.Padding.{padded, length_kept};
 
@@ -81,9 +82,9 @@ impl Model for Name {
     ghost view = { λ n. take n.len n.bytes };
 
     // The unused places hold 0, so that a name's bytes say all that there is of it.
-    ghost invariant = { λ n. IsName (take n.len n.bytes) × (n.len ≤ 64) × (length n.bytes ≡ 64) × (drop n.len n.bytes ≡ replicate (64 - n.len) 0) };
+    ghost invariant = { λ n. IsName (take n.len n.bytes) × (n.len ≤ NAME_BYTES) × (length n.bytes ≡ NAME_BYTES) × (drop n.len n.bytes ≡ replicate (NAME_BYTES - n.len) 0) };
 
-    ghost inverse = { λ text. record { bytes = text ++ replicate (64 - length text) 0; len = length text } };
+    ghost inverse = { λ text. record { bytes = text ++ replicate (NAME_BYTES - length text) 0; len = length text } };
 
     ghost inverse_ok = { λ n h i. record {
       bytes = padded n.len n.bytes h.1 h.2 h.3 i;
@@ -128,7 +129,7 @@ impl Name {
         requires { IsName text.now }
         ensures { result ≡ text.now }
     {
-        let mut bytes = [0; 64];
+        let mut bytes = [0; NAME_BYTES];
         bytes[..text.len()].copy_from_slice(text);
         Name {
             bytes,

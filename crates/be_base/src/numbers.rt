@@ -3,11 +3,7 @@
 ghost use Rattle.std.specs.Prelude.{◌≡◌, ◌≤◌, Some, None, min, if◌then◌else◌};
 ghost use Rattle.be_base.specs.Numbers.{are_digits, decimal_value, count_of, int_of};
 
-// 2^63
-const COUNT_END: u64 = 9223372036854775808;
-
-// 2^40, the size that larger ones are read as
-const SIZE_CAP: u64 = 1099511627776;
+use crate::limits::{COUNT_END, INT_SIZE};
 
 /// Reads one or more digits as a number below 2^63.
 pub fn read_count(text: &[u8]) -> Option<u64>
@@ -17,17 +13,17 @@ pub fn read_count(text: &[u8]) -> Option<u64>
     if value < COUNT_END { Some(value) } else { None }
 }
 
-/// Reads an optional `-` and digits. A number of a size beyond 2^40 is read as 2^40 with its sign,
+/// Reads an optional `-` and digits. A number of a greater size than [`INT_SIZE`] is read as that size with its sign,
 /// which no domain holds.
 pub fn read_int(text: &[u8]) -> Option<i64>
     ensures { result ≡ int_of text.now }
 {
     let (first, rest) = text.split_first()?;
     if *first == b'-' {
-        let size = digits_up_to(rest, SIZE_CAP)?;
+        let size = digits_up_to(rest, INT_SIZE)?;
         Some(-(size as i64))
     } else {
-        let size = digits_up_to(text, SIZE_CAP)?;
+        let size = digits_up_to(text, INT_SIZE)?;
         Some(size as i64)
     }
 }

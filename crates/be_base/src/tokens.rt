@@ -3,8 +3,8 @@
 ghost use Rattle.std.specs.Prelude.{◌≡◌, ◌≤◌, ◌∷◌, true, false, length, take, drop, MatchOption};
 ghost use Rattle.std.specs.List.{list_all};
 ghost use Rattle.be_base.specs.Text.{is_word_byte};
-ghost use Rattle.be_base.specs.Tokens.{tokens, is_blank};
-ghost use Rattle.be_base.specs.Fronts.{is_equal, starts_with};
+ghost use Rattle.be_base.specs.Tokens.{is_blank};
+ghost use Rattle.be_base.specs.Fronts.{is_equal, starts_with, IsAfterBlanks};
 ghost use Rattle.be_base.specs.Scans.{Scans};
 
 /// Whether the byte is one of `A-Z a-z 0-9 _ . -`.
@@ -55,18 +55,16 @@ pub fn next_token(text: &[u8]) -> Scan<'_>
     first_mark(*first, rest)
 }
 
-fn is_blank(b: u8) -> bool
+/// Whether the byte is a space or a tab.
+pub fn is_blank(b: u8) -> bool
     ensures { result ≡ is_blank b }
 {
     b == b' ' || b == b'\t'
 }
 
-// The text from its first byte that is no blank.
-#[tactic(auto, using(crate::proofs::Lexing::blank_skipped))]
-fn after_blanks(text: &[u8]) -> &[u8]
-    ensures same { tokens result.now ≡ tokens text.now }
-    ensures shorter { length result.now ≤ length text.now }
-    ensures first { starts_with is_blank result.now ≡ false }
+/// The text from its first byte that is no blank.
+pub fn after_blanks(text: &[u8]) -> &[u8]
+    ensures { IsAfterBlanks text.now result.now }
 {
     for (i, b) in text.iter().enumerate() {
         if !is_blank(*b) {

@@ -1,5 +1,8 @@
 pub mod Counts
 pub mod Told
+pub mod Source
+pub mod Sink
+pub mod Outside
 pub mod Calls
 pub mod Memory
 pub mod Lines

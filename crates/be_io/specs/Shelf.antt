@@ -1,12 +1,12 @@
 -- What a shelf is asked for, and what it answers.
-use Rattle.std.specs.Prelude.{◌≡◌, ℕ, ◌++◌, ◌⊎◌, ◌||◌, ◌&&◌, Bool, true, not, List, [], ◌∷◌, Option, Some, None, is_none, Result, Ok, Err, string_bytes, if◌then◌else◌}
-use Rattle.std.specs.List.{list_any}
+use Rattle.std.specs.Prelude.{◌≡◌, ℕ, ◌++◌, ◌⊎◌, ◌||◌, Bool, List, [], ◌∷◌, map, Option, Some, None, is_none, Result, Ok, Err, string_bytes, if◌then◌else◌}
 use Rattle.std.specs.Str.{bytes_eq}
 use Rattle.std.specs.declared.string.String.{String}
 use Rattle.std.specs.declared.alloc.Global.{Global}
 use Rattle.std.specs.declared.vec.Vec.{Vec}
 use Rattle.be_io.specs.declared.faults.ShelfFault.{ShelfFault}
 use Rattle.be_io.specs.declared.faults.ShelfFault.TheVariants.{Failed, Long, NoMemory}
+use Rattle.be_base.specs.Text.{Text}
 use Rattle.be_io.specs.Counts.{HasRisen}
 use Rattle.be_io.specs.Calls.{CallState, is_to_fail, after_call, after_fault}
 
@@ -43,11 +43,8 @@ abbrev pub content_of : List MemFile → List ℕ → Option (List ℕ)
 content_of [] name = None
 content_of (file ∷ files) name = if bytes_eq file.name name then Some file.bytes else content_of files name
 
--- no two files have one name
-abbrev pub have_different_names : List MemFile → Bool
-have_different_names [] = true
-have_different_names (file ∷ files) =
-    not (list_any (λ other. bytes_eq other.name file.name) files) && have_different_names files
+abbrev pub file_names : List MemFile → List Text
+file_names files = map (λ (file : MemFile). file.name) files
 
 pub record ShelfState : Type 0 where
   pub files : List MemFile

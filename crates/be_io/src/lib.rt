@@ -11,6 +11,7 @@ mod shelf;
 mod sink;
 mod source;
 mod standard;
+mod writing;
 
 pub use door::{Door, DoorCount, NoDoor};
 pub use faults::{AcceptFault, Failed, LineFault, ListenFault, ShelfFault, SinkFault};
@@ -18,9 +19,10 @@ pub use gate::{Gate, NoGate};
 pub use lines::{Line, LineReader};
 pub use link::{Link, Pair};
 pub use shelf::{MemShelf, Shelf};
-pub use sink::{MemSink, Sink, write_all};
+pub use sink::{MemSink, Sink};
 pub use source::{MemSource, Source};
 pub use standard::{FileShelf, StdinSource, StdoutSink};
+pub use writing::write_all;
 
 #[cfg(test)]
 mod tests;

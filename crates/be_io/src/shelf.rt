@@ -2,8 +2,9 @@
 
 ghost use Rattle.std.specs.Prelude.{◌≡◌, ◌≤◌, ◌<◌, ℕ, ◌⊎◌, ◌||◌, List, [], ◌∷◌, ◌++◌, map, length, true, false, Option, is_none, Some, Ok, Err, IsTrue, IfOk, IfErr, OnOk, IfSome, None, MatchOption};
 ghost use Rattle.std.specs.List.Sorted.{IsStrictlyIncreasing};
+ghost use Rattle.be_base.specs.TextLists.{all_differ};
 ghost use Rattle.be_io.specs.Calls.{no_calls, is_to_fail};
-ghost use Rattle.be_io.specs.Shelf.{Asks, CountsFault, HoldsFile, ShelfState, file_of, content_of, have_different_names, is_to_fail_for, after_ask, after_failed_ask};
+ghost use Rattle.be_io.specs.Shelf.{Asks, CountsFault, HoldsFile, ShelfState, file_of, content_of, file_names, is_to_fail_for, after_ask, after_failed_ask};
 
 use crate::calls::Calls;
 use crate::faults::ShelfFault;
@@ -54,7 +55,7 @@ impl MemShelf {
     /// A shelf of these files, by name and content. The calls of these numbers fail, where the
     /// first call has the number 1.
     pub fn make(files: Vec<(String, Vec<u8>)>, fails: Vec<u64>) -> MemShelf
-        requires differ { IsTrue (have_different_names (map file_of files.items)) }
+        requires differ { IsTrue (all_differ (file_names (map file_of files.items))) }
         requires rise { IsStrictlyIncreasing fails.items }
         ensures { result ≡ record { files = map file_of files.items; asked = []; calls = no_calls fails.items } }
     {

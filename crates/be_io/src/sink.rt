@@ -4,8 +4,9 @@ ghost use Rattle.std.specs.Prelude.{◌≡◌, ◌↔◌, ℕ, ◌<◌, ◌≤�
 ghost use Rattle.std.specs.List.Sorted.{IsStrictlyIncreasing};
 ghost use Rattle.be_io.specs.Counts.{HasRisen};
 ghost use Rattle.be_io.specs.Told.{HoldsMore};
-ghost use Rattle.be_io.specs.Calls.{no_calls, is_to_fail};
-ghost use Rattle.be_io.specs.Memory.{SinkState, after_write, after_failed_write};
+ghost use Rattle.be_io.specs.Source.{SourceState, no_source};
+ghost use Rattle.be_io.specs.Calls.{is_to_fail};
+ghost use Rattle.be_io.specs.Memory.{MemSinkState, empty_sink, after_write, after_failed_write, after_refused_write};
 
 use crate::calls::Calls;
 use crate::faults::SinkFault;
@@ -20,36 +21,28 @@ pub trait Sink {
     // how many of its calls failed
     ghost write_faults: { Self → ℕ };
 
+    // how many of its calls were refused for want of memory
+    ghost refusals: { Self → ℕ };
+
+    // the source that is one object with it, where it is a link: no write changes it
+    ghost source_beside: { Self → SourceState } = { λ _. no_source };
+
     /// Takes the first of these bytes, one at least, and says how many.
     fn write(&mut self, bytes: &[u8]) -> Result<usize, SinkFault>
         requires { 0 < length bytes.now }
         ensures some { IfOk result (λ k. 0 < k) }
         ensures within { IfOk result (λ k. k ≤ length bytes.now) }
         ensures held { IfOk result (λ k. HoldsMore (held self.old) (held self.new) (take k bytes.now)) }
-        ensures sound { OnOk result (write_faults self.new ≡ write_faults self.old) }
 
-        // A refused call took nothing.
+        // A refused call took nothing. Each refusal raises its own count, and nothing else changes a count.
         ensures kept { OnErr result (held self.new ≡ held self.old) }
-        ensures failed { result ≡ Err SinkFault.Failed → HasRisen (write_faults self.old) (write_faults self.new) }
-        ensures no_memory { result ≡ Err SinkFault.NoMemory → write_faults self.new ≡ write_faults self.old };
-}
-
-/// Writes all of these bytes, or hands on the sink's refusal.
-pub fn write_all<K: Sink>(sink: &mut K, bytes: &[u8]) -> Result<(), SinkFault>
-    ensures all { OnOk result (HoldsMore (K.held sink.old) (K.held sink.new) bytes.now) }
-    ensures sound { OnOk result (K.write_faults sink.new ≡ K.write_faults sink.old) }
-
-    // A prefix was taken where the sink refused.
-    ensures prefix { OnErr result ((k : ℕ) × (k < length bytes.now)
-        × HoldsMore (K.held sink.old) (K.held sink.new) (take k bytes.now)) }
-    ensures failed { result ≡ Err SinkFault.Failed → HasRisen (K.write_faults sink.old) (K.write_faults sink.new) }
-    ensures no_memory { result ≡ Err SinkFault.NoMemory → K.write_faults sink.new ≡ K.write_faults sink.old }
-{
-    let mut from = 0;
-    while from < bytes.len() {
-        from += sink.write(&bytes[from..])?;
-    }
-    Ok(())
+        ensures sound { OnOk result ((write_faults self.new ≡ write_faults self.old)
+            × (refusals self.new ≡ refusals self.old)) }
+        ensures failed { result ≡ Err SinkFault.Failed → HasRisen (write_faults self.old) (write_faults self.new)
+            × (refusals self.new ≡ refusals self.old) }
+        ensures no_memory { result ≡ Err SinkFault.NoMemory → HasRisen (refusals self.old) (refusals self.new)
+            × (write_faults self.new ≡ write_faults self.old) }
+        ensures beside { source_beside self.new ≡ source_beside self.old };
 }
 
 /// A sink in memory, which takes each piece whole.
@@ -57,25 +50,27 @@ pub fn write_all<K: Sink>(sink: &mut K, bytes: &[u8]) -> Result<(), SinkFault>
 pub struct MemSink {
     bytes: Vec<u8>,
     calls: Calls,
+    refusals: u64,
 }
 
 impl Model for MemSink {
-    ghost use Rattle.be_io.specs.Memory.{SinkState};
+    ghost use Rattle.be_io.specs.Memory.{MemSinkState};
 
-    ghost Value = { SinkState };
+    ghost Value = { MemSinkState };
 
-    ghost view = { λ s. record { held = s.bytes.items; calls = s.calls } };
+    ghost view = { λ s. record { held = s.bytes.items; calls = s.calls; refusals = s.refusals } };
 }
 
 impl MemSink {
     /// An empty sink. The calls of these numbers fail, where the first call has the number 1.
     pub fn make(alloc: Global, fails: Vec<u64>) -> MemSink
         requires { IsStrictlyIncreasing fails.items }
-        ensures { result ≡ record { held = []; calls = no_calls fails.items } }
+        ensures { result ≡ empty_sink fails.items }
     {
         MemSink {
             bytes: Vec::new(alloc),
             calls: Calls::make(fails),
+            refusals: 0,
         }
     }
 
@@ -88,7 +83,7 @@ impl MemSink {
     pub fn take(self) -> Vec<u8>
         ensures { result.items ≡ self.held }
     {
-        let MemSink { bytes, calls: _ } = self;
+        let MemSink { bytes, .. } = self;
         bytes
     }
 }
@@ -98,21 +93,24 @@ impl Sink for MemSink {
 
     ghost write_faults = { λ s. s.calls.faults };
 
+    ghost refusals = { λ s. s.refusals };
+
     fn write(&mut self, bytes: &[u8]) -> Result<usize, SinkFault>
         requires { 0 < length bytes.now }
         ensures whole { IfOk result (λ k. k ≡ length bytes.now) }
         ensures after { OnOk result (self.new ≡ after_write self.old bytes.now) }
 
-        // It fails exactly at the calls that are to fail. A call for which memory ran out isn't counted.
+        // It fails exactly at the calls that are to fail. A call for which memory was wanting isn't one of those.
         ensures fails { (result ≡ Err SinkFault.Failed) ↔ IsTrue (is_to_fail self.old.calls) }
         ensures failed { result ≡ Err SinkFault.Failed → self.new ≡ after_failed_write self.old }
-        ensures no_memory { result ≡ Err SinkFault.NoMemory → self.new ≡ self.old }
+        ensures no_memory { result ≡ Err SinkFault.NoMemory → self.new ≡ after_refused_write self.old }
     {
         if self.calls.is_next_to_fail() {
             self.calls.add_fault();
             return Err(SinkFault::Failed);
         }
         if self.bytes.extend_from_slice(bytes).is_err() {
+            self.refusals = self.refusals.saturating_add(1);
             return Err(SinkFault::NoMemory);
         }
         self.calls.add_call();

@@ -4,8 +4,9 @@ ghost use Rattle.std.specs.Prelude.{◌≡◌, ◌↔◌, ℕ, ◌<◌, ◌++◌
 ghost use Rattle.std.specs.List.Sorted.{IsStrictlyIncreasing};
 ghost use Rattle.be_io.specs.Counts.{raised, HasRisen};
 ghost use Rattle.be_io.specs.Told.{GivesBytes};
+ghost use Rattle.be_io.specs.Sink.{SinkState, no_sink};
 ghost use Rattle.be_io.specs.Calls.{no_calls, is_to_fail};
-ghost use Rattle.be_io.specs.Memory.{SourceState, next_count, after_read, after_failed_read};
+ghost use Rattle.be_io.specs.Memory.{MemSourceState, next_count, after_read, after_failed_read};
 
 use crate::calls::Calls;
 use crate::faults::Failed;
@@ -22,12 +23,16 @@ pub trait Source {
     // how many of its calls failed
     ghost read_faults: { Self → ℕ };
 
+    // the sink that is one object with it, where it is a link: no read changes it
+    ghost sink_beside: { Self → SinkState } = { λ _. no_sink };
+
     /// Gives its next bytes into the front of the buffer, and says how many. It gives none only at its end.
     fn read(&mut self, buf: &mut [u8]) -> Result<usize, Failed>
         requires { 0 < length buf.old }
         ensures bytes { IfOk result (λ k. GivesBytes (left self.old) (left self.new) buf.new k) }
         ensures taken { IfOk result (λ k. taken self.new ≡ raised k (taken self.old)) }
         ensures sound { OnOk result (read_faults self.new ≡ read_faults self.old) }
+        ensures beside { sink_beside self.new ≡ sink_beside self.old }
 
         // A call that failed gave nothing.
         ensures failed { OnErr result (HasRisen (read_faults self.old) (read_faults self.new)) }
@@ -47,9 +52,9 @@ pub struct MemSource {
 
 impl Model for MemSource {
     ghost use Rattle.std.specs.Prelude.{◌<◌, ◌≤◌, drop, vec_len};
-    ghost use Rattle.be_io.specs.Memory.{SourceState};
+    ghost use Rattle.be_io.specs.Memory.{MemSourceState};
 
-    ghost Value = { SourceState };
+    ghost Value = { MemSourceState };
 
     ghost view = { λ s. record { left = drop s.from s.bytes.items; piece = s.piece; taken = s.taken; calls = s.calls } };
 

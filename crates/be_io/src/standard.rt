@@ -77,6 +77,9 @@ impl<R: Print> Sink for StdoutSink<R> {
 
     ghost write_faults = { λ s. s.faults };
 
+    // it asks for no memory, and so never answers that memory was wanting
+    ghost refusals = { λ _. 0 };
+
     fn write(&mut self, bytes: &[u8]) -> Result<usize, SinkFault> {
         match self.rt.write_some(bytes) {
             Ok(count) if count > 0 => Ok(count),

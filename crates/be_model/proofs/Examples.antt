@@ -1,8 +1,8 @@
 -- Worked values of the definitions.
 use Rattle.std.proofs.Common.{◌≡◌, pos, negsuc, false, [], ◌∷◌, Some, None, refl}
-use Rattle.be_model.specs.declared.conditions.Op.{Op}
-use Rattle.be_model.specs.declared.conditions.Op.TheVariants.{Lt, Le, Eq, Ne, Ge, Gt, Between, OneOf, NoneOf}
-use Rattle.be_model.specs.declared.conditions.Pred.{Pred}
+use Rattle.be_model.specs.declared.ops.Op.{Op}
+use Rattle.be_model.specs.declared.ops.Op.TheVariants.{Lt, Le, Eq, Ne, Ge, Gt, Between, OneOf, NoneOf}
+use Rattle.be_model.specs.declared.preds.Pred.{Pred}
 use Rattle.be_model.specs.Domains.{Range, bits, width, low_half, high_half}
 use Rattle.be_model.specs.Schemas.{numbered}
 use Rattle.be_model.specs.Matching.{holds, satisfies}
@@ -56,7 +56,7 @@ other_than_itself = refl
 abbrev on : Op → Pred
 on op = record { attr = numbered 0; op = op }
 
-no_price : span prices (numbered 0) (on (Gt (pos 500)) ∷ on (Lt (pos 400)) ∷ []) ≡ Some (pos 501, pos 501)
+no_price : span prices (numbered 0) (on (Gt (pos 500)) ∷ on (Lt (pos 400)) ∷ []) ≡ Some (pos 501, pos 1000)
 no_price = refl
 
 off_the_attribute : span prices (numbered 1) (on (Gt (pos 500)) ∷ []) ≡ None

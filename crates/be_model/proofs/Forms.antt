@@ -1,10 +1,11 @@
 -- Rising lists with one more element.
 use Rattle.std.proofs.Common.{◌≡◌, ◌↔◌, ℤ, ◌-◌, ◌<◌, ◌≤◌, true, ltb, ◌&&◌, List, [], ◌∷◌, ◌++◌, length, get_or, refl, sym, ap, ◌∙◌, arith}
 use Rattle.std.specs.Int.Signed.{lt_z}
-use Rattle.std.proofs.lemmas.List.{length_push}
+use Rattle.std.proofs.lemmas.List.{length_push, map_push, length-map, get_or-map}
+use Rattle.std.proofs.lemmas.List.Elements.{All-push}
 use Rattle.be_base.specs.declared.names.AttrNo.{AttrNo}
-use Rattle.be_model.specs.Forms.{AreValues, rises, attrs_rise}
-use Rattle.be_model.specs.Matching.{Assignments}
+use Rattle.be_model.specs.Forms.{AreValues, IsEvent, rises, attrs_rise}
+use Rattle.be_model.specs.Matching.{Assignments, attrs_of}
 use Rattle.be_model.proofs.Lists.{rises_push}
 use Rattle.be_model.proofs.Attributes.{and_right, and_both}
 
@@ -28,8 +29,30 @@ AreValues-push xs v d f h =
 pub AreValues-full : (xs : List ℤ) (v : ℤ) → 64 ≤ length xs → ¬ (AreValues (xs ++ v ∷ []))
 AreValues-full xs v h f = let few = f.few in omega (arith, length_push xs v)
 
--- an event with one more attribute
-pub attrs_rise-push : (e : Assignments) (item d : AttrNo × ℤ) → attrs_rise e ≡ true → 0 < length e → attrs_rise (e ++ item ∷ []) ≡ ltb (get_or e (length e - 1) d).0.0 item.0.0
-attrs_rise-push e item d f h =
-    rises_push attrs_rise (λ a b. ltb a.0.0 b.0.0) (λ _. refl) (λ _ _ _. refl) e item d h
-    ∙ ap (λ b. b && ltb (get_or e (length e - 1) d).0.0 item.0.0) f
+-- attributes with one more
+pub attrs_rise-push : (xs : List AttrNo) (a d : AttrNo) → attrs_rise xs ≡ true → 0 < length xs → attrs_rise (xs ++ a ∷ []) ≡ ltb (get_or xs (length xs - 1) d).0 a.0
+attrs_rise-push xs a d f h =
+    rises_push attrs_rise (λ b c. ltb b.0 c.0) (λ _. refl) (λ _ _ _. refl) xs a d h
+    ∙ ap (λ b. b && ltb (get_or xs (length xs - 1) d).0 a.0) f
+
+attrs_of-push : (e : Assignments) (item : AttrNo × List ℤ) → attrs_of (e ++ item ∷ []) ≡ attrs_of e ++ item.0 ∷ []
+attrs_of-push e item = map_push (λ (i : AttrNo × List ℤ). i.0) e item
+
+last_attr : (e : Assignments) (d : AttrNo × List ℤ) → 0 < length e → get_or (attrs_of e) (length (attrs_of e) - 1) d.0 ≡ (get_or e (length e - 1) d).0
+last_attr e d h =
+    let f = λ (i : AttrNo × List ℤ). i.0 in
+    ap (λ n. get_or (attrs_of e) (n - 1) d.0) (length-map e f) ∙ get_or-map f e (length e - 1) d d.0 (omega arith)
+
+-- an attribute may be put last where it is above the last
+pub attrs_rise-last : (e : Assignments) (a : AttrNo) (d : AttrNo × List ℤ) → attrs_rise (attrs_of e) ≡ true → 0 < length e → attrs_rise (attrs_of e ++ a ∷ []) ≡ ltb (get_or e (length e - 1) d).0.0 a.0
+attrs_rise-last e a d f h =
+    attrs_rise-push (attrs_of e) a d.0 f (omega (arith, length-map e (λ (i : AttrNo × List ℤ). i.0)))
+    ∙ ap (λ (b : AttrNo). ltb b.0 a.0) (last_attr e d h)
+
+-- an event with one more set
+pub IsEvent-push : (e : Assignments) (item : AttrNo × List ℤ) → IsEvent e → AreValues item.1 → attrs_rise (attrs_of e ++ item.0 ∷ []) ≡ true → IsEvent (e ++ item ∷ [])
+IsEvent-push e item f g h =
+    record {
+      rising = ap attrs_rise (attrs_of-push e item) ∙ h;
+      sets = All-push (λ (i : AttrNo × List ℤ). AreValues i.1) e item f.sets g;
+    }

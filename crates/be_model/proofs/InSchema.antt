@@ -1,18 +1,19 @@
 -- What layers above cite: attributes that a schema has, values of an event, predicates on one attribute.
-use Rattle.std.proofs.Common.{◌≡◌, ℤ, pos, negsuc, ◌≤ℤ◌, ◌<◌, Bool, true, false, eqb, cond, List, [], ◌∷◌, length, All, Option, Some, None, option_map, refl, sym, ap, subst, ◌∙◌}
-use Rattle.std.proofs.lemmas.Bool.{eqb-true}
+use Rattle.std.proofs.Common.{◌≡◌, ℤ, pos, negsuc, ◌≤ℤ◌, ◌<◌, Bool, true, false, eqb, cond, List, [], ◌∷◌, length, All, Option, Some, None, option_map, refl, ap, subst, arith}
+use Rattle.std.proofs.lemmas.Bool.{eqb-true, and_parts, or_left}
 use Rattle.std.proofs.lemmas.Option.{slice_get_within}
-use Rattle.std.proofs.lemmas.List.Elements.{All-cons, All-nil}
+use Rattle.std.proofs.lemmas.List.Elements.{All-cons, All-nil, All-head, All-tail}
+use Rattle.std.proofs.lemmas.List.Sums.{AllPass-from_list_all}
 use Rattle.be_base.specs.declared.names.AttrNo.{AttrNo}
-use Rattle.be_model.specs.declared.conditions.Pred.{Pred}
+use Rattle.be_model.specs.declared.ops.Op.{Op}
+use Rattle.be_model.specs.declared.preds.Pred.{Pred}
 use Rattle.be_model.specs.declared.schemas.Attribute.{Attribute}
-use Rattle.be_model.specs.Domains.{Range, bounds_of, is_within}
+use Rattle.be_model.specs.Domains.{Range, bounds_of, is_within, is_some_within}
 use Rattle.be_model.specs.Schemas.{Attributes, IsSchema, attribute_at, range_of, numbered, is_domain}
-use Rattle.be_model.specs.Matching.{Assignments, holds, value_of, meets, satisfies}
-use Rattle.be_model.specs.Lies.{values_in, lies_within, lies_in, pred_lies, conj_lies, item_lies, event_lies}
-use Rattle.be_model.specs.Hulls.{is_on}
-use Rattle.be_model.specs.Laws.{AllHold}
-use Rattle.be_model.proofs.Attributes.{and_left, and_right, all_at, rising_bounds, low_bounds, high_bounds}
+use Rattle.be_model.specs.Forms.{AreValues, IsEvent}
+use Rattle.be_model.specs.Matching.{Assignments, values_of, is_met, satisfies}
+use Rattle.be_model.specs.Lies.{values_in, lies_within, lies_in, pred_lies, item_lies, event_lies}
+use Rattle.be_model.proofs.Attributes.{all_at, rising_bounds, low_bounds, high_bounds}
 
 -- the attribute that a range is of
 pub attribute_of_range : (s : Attributes) (a : AttrNo) (r : Range) → range_of s a ≡ Some r → (x : Attribute) × (attribute_at s a ≡ Some x) × (bounds_of x.domain ≡ r)
@@ -46,62 +47,64 @@ range_of_pred s p h = by_option (range_of s p.attr) refl h
     by_option None e k = absurd (cc)
     by_option (Some r) e k = (r, e, k)
 
-same_attribute : (a b : AttrNo) → eqb a.0 b.0 ≡ true → a ≡ b
+pub same_attribute : (a b : AttrNo) → eqb a.0 b.0 ≡ true → a ≡ b
 same_attribute a b h = ap numbered (eqb-true a.0 b.0 h)
 
-on_lies : (s : Attributes) (a : AttrNo) (r : Range) (p : Pred) → range_of s a ≡ Some r → pred_lies s p ≡ true → is_on a p ≡ true → lies_within r (values_in p.op) ≡ true
-on_lies s a r p e h on =
-    let k : range_of s p.attr ≡ Some r = ap (range_of s) (same_attribute p.attr a on) ∙ e in
-    let l : lies_in (Some r) (values_in p.op) ≡ true = ap (λ o. lies_in o (values_in p.op)) (sym k) ∙ h in l
-
--- the predicates on an attribute have their values in its range, as the law of spans asks
-pub on_lie : (s : Attributes) (a : AttrNo) (r : Range) (conj : List Pred) → range_of s a ≡ Some r → conj_lies s conj ≡ true
-    → All (λ (p : Pred). is_on a p ≡ true → lies_within r (values_in p.op) ≡ true) conj
-on_lie s a r [] e h = All-nil (λ (p : Pred). is_on a p ≡ true → lies_within r (values_in p.op) ≡ true)
-on_lie s a r (p ∷ ps) e h =
-    All-cons (λ (q : Pred). is_on a q ≡ true → lies_within r (values_in q.op) ≡ true) p ps
-    (λ on. on_lies s a r p e (and_left (pred_lies s p) (conj_lies s ps) h) on)
-    (on_lie s a r ps e (and_right (pred_lies s p) (conj_lies s ps) h))
-
-one_holds : (e : Assignments) (a : AttrNo) (v : ℤ) (p : Pred) → value_of e a ≡ Some v → meets (value_of e p.attr) p.op ≡ true → is_on a p ≡ true → holds p.op v ≡ true
-one_holds e a v p k h on =
-    let l : value_of e p.attr ≡ Some v = ap (value_of e) (same_attribute p.attr a on) ∙ k in
-    let m : meets (Some v) p.op ≡ true = ap (λ o. meets o p.op) (sym l) ∙ h in m
-
--- all predicates on an attribute hold of the value that an event gives it, where the event satisfies the condition
-pub all_hold : (e : Assignments) (a : AttrNo) (v : ℤ) (conj : List Pred) → value_of e a ≡ Some v → satisfies e conj ≡ true → AllHold a conj v
-all_hold e a v [] k h = All-nil (λ (p : Pred). is_on a p ≡ true → holds p.op v ≡ true)
-all_hold e a v (p ∷ ps) k h =
-    All-cons (λ (q : Pred). is_on a q ≡ true → holds q.op v ≡ true) p ps
-    (λ on. one_holds e a v p k (and_left (meets (value_of e p.attr) p.op) (satisfies e ps) h) on)
-    (all_hold e a v ps k (and_right (meets (value_of e p.attr) p.op) (satisfies e ps) h))
-
 -- a condition that is satisfied has values for all its attributes
-assigned_one : (o : Option ℤ) (p : Pred) → meets o p.op ≡ true → (v : ℤ) × (o ≡ Some v)
-assigned_one None p h = absurd (cc)
-assigned_one (Some v) p h = (v, refl)
+assigned_one : (o : Option (List ℤ)) (op : Op) → is_met o op ≡ true → (vs : List ℤ) × (o ≡ Some vs)
+assigned_one None op h = absurd (cc)
+assigned_one (Some vs) op h = (vs, refl)
 
-pub all_assigned : (e : Assignments) (conj : List Pred) → satisfies e conj ≡ true → All (λ (p : Pred). (v : ℤ) × (value_of e p.attr ≡ Some v)) conj
-all_assigned e [] h = All-nil (λ (p : Pred). (v : ℤ) × (value_of e p.attr ≡ Some v))
+abbrev Given : Assignments → Pred → Type 0
+Given e p = (vs : List ℤ) × (values_of e p.attr ≡ Some vs)
+
+pub all_assigned : (e : Assignments) (conj : List Pred) → satisfies e conj ≡ true → All (λ (p : Pred). (vs : List ℤ) × (values_of e p.attr ≡ Some vs)) conj
+all_assigned e [] h = All-nil (Given e)
 all_assigned e (p ∷ ps) h =
-    All-cons (λ (q : Pred). (v : ℤ) × (value_of e q.attr ≡ Some v)) p ps
-    (assigned_one (value_of e p.attr) p (and_left (meets (value_of e p.attr) p.op) (satisfies e ps) h))
-    (all_assigned e ps (and_right (meets (value_of e p.attr) p.op) (satisfies e ps) h))
+    let parts = and_parts (is_met (values_of e p.attr) p.op) (satisfies e ps) h in
+    All-cons (Given e) p ps (assigned_one (values_of e p.attr) p.op parts.0) (all_assigned e ps parts.1)
 
-item_within : (s : Attributes) (r : Range) (item : AttrNo × ℤ) → item_lies s item ≡ true → range_of s item.0 ≡ Some r → is_within r item.1 ≡ true
-item_within s r item h k =
-    let l : lies_in (Some r) (item.1 ∷ []) ≡ true = ap (λ o. lies_in o (item.1 ∷ [])) (sym k) ∙ h in
-    and_left (is_within r item.1) true l
+-- the values of an attribute have what all sets of the event have
+values_step : (P : AttrNo → List ℤ → Type 0) (item : AttrNo × List ℤ) (a : AttrNo) (vs : List ℤ) (o : Option (List ℤ)) (b : Bool) → eqb item.0.0 a.0 ≡ b → P item.0 item.1 → (o ≡ Some vs → P a vs)
+    → cond b (Some item.1) o ≡ Some vs → P a vs
+values_step P item a vs o true e here later k =
+    let same : item.1 ≡ vs = cc in
+    subst (λ b. P b vs) (same_attribute item.0 a e) (subst (P item.0) same here)
+values_step P item a vs o false e here later k = later k
 
-first_within : (b : Bool) (r : Range) (w : ℤ) (o : Option ℤ) (v : ℤ) → (b ≡ true → is_within r w ≡ true) → (o ≡ Some v → is_within r v ≡ true)
-    → cond b (Some w) o ≡ Some v → is_within r v ≡ true
-first_within true r w o v h k m = let same : v ≡ w = cc in ap (is_within r) same ∙ h refl
-first_within false r w o v h k m = k m
+values_have : (P : AttrNo → List ℤ → Type 0) (e : Assignments) (a : AttrNo) (vs : List ℤ) → All (λ (item : AttrNo × List ℤ). P item.0 item.1) e → values_of e a ≡ Some vs → P a vs
+values_have P [] a vs h k = absurd (cc)
+values_have P (item ∷ items) a vs h k =
+    let of_item = λ (i : AttrNo × List ℤ). P i.0 i.1 in
+    values_step P item a vs (values_of items a) (eqb item.0.0 a.0) refl (All-head of_item item items h) (values_have P items a vs (All-tail of_item item items h)) k
 
--- the value that an event gives an attribute is in its range, where the event lies in the schema
-pub value_within : (s : Attributes) (e : Assignments) (a : AttrNo) (v : ℤ) (r : Range) → event_lies s e ≡ true → value_of e a ≡ Some v → range_of s a ≡ Some r → is_within r v ≡ true
-value_within s [] a v r h k l = absurd (cc)
-value_within s (item ∷ items) a v r h k l =
-    first_within (eqb item.0.0 a.0) r item.1 (value_of items a) v
-    (λ t. item_within s r item (and_left (item_lies s item) (event_lies s items) h) (ap (range_of s) (same_attribute item.0 a t) ∙ l))
-    (λ m. value_within s items a v r (and_right (item_lies s item) (event_lies s items) h) m l) k
+-- the schema has the attributes to which an event that lies in it gives values, and the values are in their ranges
+pub range_of_values : (s : Attributes) (e : Assignments) (a : AttrNo) (vs : List ℤ) → event_lies s e ≡ true → values_of e a ≡ Some vs
+    → (r : Range) × (range_of s a ≡ Some r) × (lies_within r vs ≡ true)
+range_of_values s e a vs h k =
+    by_range (range_of s a) refl (values_have (λ b ws. lies_in (range_of s b) ws ≡ true) e a vs (AllPass-from_list_all (item_lies s) e h) k)
+  where
+    by_range : (o : Option Range) → range_of s a ≡ o → lies_in o vs ≡ true → (r : Range) × (range_of s a ≡ Some r) × (lies_within r vs ≡ true)
+    by_range None e l = absurd (cc)
+    by_range (Some r) e l = (r, e, l)
+
+-- the values that an event gives an attribute are in its range, where the event lies in the schema
+pub values_within : (s : Attributes) (e : Assignments) (a : AttrNo) (vs : List ℤ) (r : Range) → event_lies s e ≡ true → values_of e a ≡ Some vs → range_of s a ≡ Some r → lies_within r vs ≡ true
+values_within s e a vs r h k l =
+    let d = range_of_values s e a vs h k in
+    let same : d.0 ≡ r = cc (d.1, l) in subst (λ x. lies_within x vs ≡ true) same d.2
+
+-- and they have the form of a set
+pub values_form : (e : Assignments) (a : AttrNo) (vs : List ℤ) → IsEvent e → values_of e a ≡ Some vs → AreValues vs
+values_form e a vs f k = values_have (λ _ ws. AreValues ws) e a vs f.sets k
+
+first_within : (r : Range) (vs : List ℤ) → 0 < length vs → lies_within r vs ≡ true → is_some_within r vs ≡ true
+first_within r [] some h = absurd (omega arith)
+first_within r (v ∷ vs) some h =
+    or_left (is_within r v) (is_some_within r vs) (and_parts (is_within r v) (lies_within r vs) h).0
+
+-- so the whole range of the attribute holds one of them
+pub whole_holds : (s : Attributes) (e : Assignments) (a : AttrNo) (vs : List ℤ) (r : Range) → IsEvent e → event_lies s e ≡ true → values_of e a ≡ Some vs → range_of s a ≡ Some r
+    → is_some_within r vs ≡ true
+whole_holds s e a vs r f h k l =
+    first_within r vs (values_form e a vs f k).some (values_within s e a vs r h k l)

@@ -2,12 +2,14 @@ pub mod Lists
 pub mod Halvings
 pub mod Attributes
 pub mod Forms
+pub mod FormTests
+pub mod EventItems
 pub mod Spans
 pub mod FoundRows
 pub mod Ranges
 pub mod InSchema
 pub mod Orders
-pub mod AssignedValues
+pub mod ReadValues
 pub mod Examples
 pub mod RowsByIds
 pub mod RangeBits

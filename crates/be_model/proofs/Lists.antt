@@ -1,7 +1,8 @@
 -- Lists: the first place that passes a test, and lists that rise.
-use Rattle.std.proofs.Common.{◌≡◌, ℕ, ◌+◌, ◌-◌, ◌<◌, suc, Bool, true, false, cond, not, ltb, ◌&&◌, ◌||◌, List, [], ◌∷◌, ◌++◌, length, get_or, map, Some, None, refl, sym, ap, ◌∙◌, arith}
+use Rattle.std.proofs.Common.{◌≡◌, ℕ, ◌+◌, ◌-◌, ◌<◌, suc, Bool, true, false, cond, not, ltb, ◌&&◌, ◌||◌, List, [], ◌∷◌, ◌++◌, length, get_or, map, find, is_some, All, Option, Some, None, refl, sym, ap, subst, ◌∙◌, arith}
 use Rattle.std.specs.List.{list_any, list_all, position, position_or_len, prefix_len}
 use Rattle.std.proofs.lemmas.Bool.Decides.{nat_tests}
+use Rattle.std.proofs.lemmas.List.Elements.{All-head, All-tail}
 
 and_assoc : (a b c : Bool) → (a && (b && c)) ≡ ((a && b) && c)
 and_assoc true b c = refl
@@ -53,6 +54,29 @@ len-map f (x ∷ xs) = ap (λ n. suc n) (len-map f xs)
 
 pub position-map : {X Y : Type 0} (f : X → Y) (p : Y → Bool) (xs : List X) → position p (map f xs) ≡ position (λ x. p (f x)) xs
 position-map f p xs = rw (prefix_len-map f (λ y. not (p y)) xs, len-map f xs) refl
+
+found_or_not : {X : Type 0} (b : Bool) (x : X) (o : Option X) → is_some (cond b (Some x) o) ≡ (b || is_some o)
+found_or_not true x o = refl
+found_or_not false x o = refl
+
+-- a search finds something where some element passes
+pub is_some-find : {X : Type 0} (p : X → Bool) (xs : List X) → is_some (find p xs) ≡ list_any p xs
+is_some-find p [] = refl
+is_some-find p (x ∷ xs) = found_or_not (p x) x (find p xs) ∙ ap (λ b. p x || b) (is_some-find p xs)
+
+found_step : {X : Type 0} (P : X → Type 0) (b : Bool) (x y : X) (o : Option X) → (b ≡ true → P x) → (o ≡ Some y → P y) → cond b (Some x) o ≡ Some y → P y
+found_step P true x y o here later h = let same : x ≡ y = cc in subst P same (here refl)
+found_step P false x y o here later h = later h
+
+-- what a search finds passes, and is one of the elements
+pub found_passes : {X : Type 0} (p : X → Bool) (xs : List X) (x : X) → find p xs ≡ Some x → p x ≡ true
+found_passes p [] x h = absurd (cc)
+found_passes p (y ∷ ys) x h = found_step (λ z. p z ≡ true) (p y) y x (find p ys) (λ e. e) (found_passes p ys x) h
+
+pub found_has : {X : Type 0} (P : X → Type 0) (p : X → Bool) (xs : List X) (x : X) → All P xs → find p xs ≡ Some x → P x
+found_has P p [] x a h = absurd (cc)
+found_has P p (y ∷ ys) x a h =
+    found_step P (p y) y x (find p ys) (λ _. All-head P y ys a) (found_has P p ys x (All-tail P y ys a)) h
 
 rises_front : {X : Type 0} (F : List X → Bool) (R : X → X → Bool) → ((x : X) → F (x ∷ []) ≡ true) → ((x y : X) (ys : List X) → F (x ∷ y ∷ ys) ≡ (R x y && F (y ∷ ys)))
     → (x : X) (xs : List X) (v d : X) → F ((x ∷ xs) ++ v ∷ []) ≡ (F (x ∷ xs) && R (get_or (x ∷ xs) (length xs) d) v)

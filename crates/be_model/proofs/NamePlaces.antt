@@ -11,7 +11,7 @@ use Rattle.std.proofs.lemmas.List.{take-append-le}
 use Rattle.std.proofs.Math.Seq.{take-length}
 use Rattle.be_base.specs.Text.{Text, IsName, same_text}
 use Rattle.be_base.proofs.SameText.{equal_from_same_text}
-use Rattle.be_model.specs.TextLists.{place_of, is_among_texts, all_differ}
+use Rattle.be_base.specs.TextLists.{place_of, is_among_texts, all_differ}
 use Rattle.be_model.specs.Places.{FindsPlaces}
 use Rattle.be_model.proofs.Lists.{position-none}
 use Rattle.be_model.proofs.Attributes.{all_differ_push}

@@ -1,25 +1,21 @@
--- The laws of hulls, spans and halves.
-use Rattle.std.proofs.Common.{◌≡◌, ◌↔◌, ◌⊎◌, inl, inr, ⊎_elim, ℕ, ℤ, pos, negsuc, ◌+ℤ◌, ◌-ℤ◌, ◌≤ℤ◌, ◌<ℤ◌, ◌+◌, ◌-◌, ◌/◌, ◌<◌, ◌≤◌, Bool, true, false, cond, not, ◌&&◌, ◌||◌, List, [], ◌∷◌, length, get_or, map, filter, All, Option, Some, None, IfSome, IsNone, option_map, option_and_then, refl, sym, ap, subst, ◌∙◌, arith}
+-- The laws of hulls and halves.
+use Rattle.std.proofs.Common.{◌≡◌, ⊎_elim, ℕ, ℤ, pos, negsuc, ◌+ℤ◌, ◌-ℤ◌, ◌≤ℤ◌, ◌<ℤ◌, ◌+◌, ◌-◌, ◌/◌, ◌<◌, ◌≤◌, Bool, true, false, not, ◌&&◌, ◌||◌, List, [], ◌∷◌, length, get_or, refl, sym, ap, subst, ◌∙◌, arith}
 use Rattle.std.specs.Int.Signed.{le_z, lt_z}
 use Rattle.std.specs.Ordering.{int_eq}
 use Rattle.std.specs.Int.{int_max, int_min}
 use Rattle.std.specs.Int.RustNames.{int_div, unsigned_abs}
-use Rattle.std.specs.List.{list_any, list_all}
+use Rattle.std.specs.List.{list_all}
 use Rattle.std.proofs.lemmas.Int.{ints, clamps}
+use Rattle.std.proofs.lemmas.Bool.{and_parts, or_cases, or_left, or_right}
 use Rattle.std.proofs.lemmas.Bool.Decides.{Decides-int_eq}
-use Rattle.std.proofs.lemmas.List.Elements.{All-head, All-tail, All-cons, All-nil}
-use Rattle.be_base.specs.declared.names.AttrNo.{AttrNo}
-use Rattle.be_model.specs.declared.conditions.Op.{Op}
-use Rattle.be_model.specs.declared.conditions.Op.TheVariants.{Lt, Le, Eq, Ne, Ge, Gt, Between, OneOf, NoneOf}
-use Rattle.be_model.specs.declared.conditions.Pred.{Pred}
-use Rattle.be_model.specs.Domains.{Range, is_within, middle}
+use Rattle.be_model.specs.declared.ops.Op.{Op}
+use Rattle.be_model.specs.declared.ops.Op.TheVariants.{Lt, Le, Eq, Ne, Ge, Gt, Between, OneOf, NoneOf}
+use Rattle.be_model.specs.Domains.{Range, is_within, is_some_within, middle}
 use Rattle.be_model.specs.Forms.{OpForm, rises}
-use Rattle.be_model.specs.Matching.{holds, is_among}
-use Rattle.be_model.specs.Hulls.{hull, first_of_values, last_of_values, is_on, hulls_on, narrow, meet, straight, span}
-use Rattle.be_model.specs.Schemas.{Attributes, range_of}
-use Rattle.be_model.specs.Lies.{conj_lies, values_in, lies_within}
-use Rattle.be_model.specs.Laws.{HullsHold, SpansHold, SpansAre, SpansLie, IsPart, AllHold, HalvesSplit, AreHalves}
-use Rattle.be_model.proofs.Spans.{span_none, IsNone-from, none_outside}
+use Rattle.be_model.specs.Matching.{is_among}
+use Rattle.be_model.specs.Hulls.{hull, first_of_values, last_of_values}
+use Rattle.be_model.specs.Lies.{values_in, lies_within}
+use Rattle.be_model.specs.Laws.{HullsHold, IsPart, HalvesSplit, AreHalves}
 
 -- a value within a range, as two orders
 pub within_parts : (r : Range) (v : ℤ) → is_within r v ≡ true → (r.0 ≤ℤ v) × (v ≤ℤ r.1)
@@ -39,6 +35,17 @@ le_test x y h = by_test (le_z x y) refl
 
 pub within_from : (r : Range) (v : ℤ) → r.0 ≤ℤ v → v ≤ℤ r.1 → is_within r v ≡ true
 within_from r v h k = ap (λ b. b && le_z v r.1) (le_test r.0 v h) ∙ le_test v r.1 k
+
+-- what a range holds, a wider one does
+pub is_within-wider : (whole part : Range) (v : ℤ) → whole.0 ≤ℤ part.0 → part.1 ≤ℤ whole.1 → is_within part v ≡ true → is_within whole v ≡ true
+is_within-wider w p v low high h =
+    let k = within_parts p v h in within_from w v (omega (arith, ints)) (omega (arith, ints))
+
+pub is_some_within-wider : (whole part : Range) (vs : List ℤ) → whole.0 ≤ℤ part.0 → part.1 ≤ℤ whole.1 → is_some_within part vs ≡ true → is_some_within whole vs ≡ true
+is_some_within-wider w p [] low high h = h
+is_some_within-wider w p (v ∷ vs) low high h =
+    ⊎_elim (λ e. or_left (is_within w v) (is_some_within w vs) (is_within-wider w p v low high e)) (λ e. or_right (is_within w v) (is_some_within w vs) (is_some_within-wider w p vs low high e))
+    (or_cases (is_within p v) (is_some_within p vs) h)
 
 lt_from : (x y : ℤ) → lt_z x y ≡ true → x <ℤ y
 lt_from x y h = omega (arith, ints)
@@ -62,14 +69,6 @@ min_below x y v h k = omega (arith, ints, clamps)
 equal_from : (x y : ℤ) → int_eq x y ≡ true → x ≡ y
 equal_from x y h = (Decides-int_eq x y).0 h
 
-or_cases : (a b : Bool) → (a || b) ≡ true → (a ≡ true) ⊎ (b ≡ true)
-or_cases true b h = inl refl
-or_cases false b h = inr h
-
-rise_parts : (a b : Bool) → (a && b) ≡ true → (a ≡ true) × (b ≡ true)
-rise_parts true b h = (refl, h)
-rise_parts false b h = absurd (cc)
-
 le_of_equal : (x v : ℤ) → x ≡ v → x ≤ℤ v
 le_of_equal x v h = omega (arith, ints)
 
@@ -81,13 +80,13 @@ first_least : (x : ℤ) (xs : List ℤ) (v : ℤ) → rises (x ∷ xs) ≡ true 
 first_least x [] v r h =
     ⊎_elim (λ e. le_of_equal x v (equal_from x v e)) (λ e. absurd (cc)) (or_cases (int_eq x v) false h)
 first_least x (y ∷ ys) v r h =
-    let k = rise_parts (lt_z x y) (rises (y ∷ ys)) r in
+    let k = and_parts (lt_z x y) (rises (y ∷ ys)) r in
     ⊎_elim (λ e. le_of_equal x v (equal_from x v e)) (λ e. step_below x y v k.0 (first_least y ys v k.1 e)) (or_cases (int_eq x v) (is_among (y ∷ ys) v) h)
 
 first_below_last : (x : ℤ) (xs : List ℤ) → rises (x ∷ xs) ≡ true → x ≤ℤ get_or (x ∷ xs) (length xs) (pos 0)
 first_below_last x [] r = le_of_equal x x refl
 first_below_last x (y ∷ ys) r =
-    let k = rise_parts (lt_z x y) (rises (y ∷ ys)) r in
+    let k = and_parts (lt_z x y) (rises (y ∷ ys)) r in
     step_below x y (get_or (y ∷ ys) (length ys) (pos 0)) k.0 (first_below_last y ys k.1)
 
 moved_le : (x v l : ℤ) → x ≡ v → x ≤ℤ l → v ≤ℤ l
@@ -98,7 +97,7 @@ last_greatest : (x : ℤ) (xs : List ℤ) (v : ℤ) → rises (x ∷ xs) ≡ tru
 last_greatest x [] v r h =
     ⊎_elim (λ e. moved_le x v x (equal_from x v e) (le_of_equal x x refl)) (λ e. absurd (cc)) (or_cases (int_eq x v) false h)
 last_greatest x (y ∷ ys) v r h =
-    let k = rise_parts (lt_z x y) (rises (y ∷ ys)) r in
+    let k = and_parts (lt_z x y) (rises (y ∷ ys)) r in
     ⊎_elim (λ e. moved_le x v (get_or (y ∷ ys) (length ys) (pos 0)) (equal_from x v e) (first_below_last x (y ∷ ys) r)) (λ e. last_greatest y ys v k.1 e) (or_cases (int_eq x v) (is_among (y ∷ ys) v) h)
 
 set_within : (xs : List ℤ) (v : ℤ) → rises xs ≡ true → is_among xs v ≡ true → is_within (first_of_values xs, last_of_values xs) v ≡ true
@@ -131,55 +130,9 @@ hulls_hold d (Between x y) v f w h =
 hulls_hold d (OneOf xs) v f w h = set_within xs v f.rising h
 hulls_hold d (NoneOf xs) v f w h = w
 
--- a value in two ranges is in what one leaves of the other
-narrow_within : (r h : Range) (v : ℤ) → is_within r v ≡ true → is_within h v ≡ true → is_within (narrow (Some r) h) v ≡ true
-narrow_within r h v a b =
-    let k = within_parts r v a in
-    let l = within_parts h v b in
-    within_from (int_max r.0 h.0, int_min r.1 h.1) v (max_above r.0 h.0 v k.0 l.0) (min_below r.1 h.1 v k.1 l.1)
-
-straight_within : (r : Range) (v : ℤ) → is_within r v ≡ true → is_within (straight r) v ≡ true
-straight_within r v w =
-    let k = within_parts r v w in by_test (lt_z r.1 r.0) refl k.0 k.1
-  where
-    by_test : (b : Bool) → lt_z r.1 r.0 ≡ b → r.0 ≤ℤ v → v ≤ℤ r.1 → is_within (cond b (r.0, r.0) r) v ≡ true
-    by_test true e h l = absurd (omega (arith, ints))
-    by_test false e h l = w
-
-meet_within : (r : Range) (hs : List Range) (v : ℤ) → is_within r v ≡ true → All (λ h. is_within h v ≡ true) hs
-    → IfSome (option_map straight (meet (Some r) hs)) (λ x. is_within x v ≡ true)
-meet_within r [] v w a = straight_within r v w
-meet_within r (h ∷ hs) v w a =
-    meet_within (narrow (Some r) h) hs v (narrow_within r h v w (All-head (λ x. is_within x v ≡ true) h hs a)) (All-tail (λ x. is_within x v ≡ true) h hs a)
-
-all_within : (hs : List Range) (v : ℤ) → All (λ h. is_within h v ≡ true) hs → IfSome (option_map straight (meet None hs)) (λ x. is_within x v ≡ true)
-all_within [] v a = tt
-all_within (h ∷ hs) v a =
-    meet_within h hs v (All-head (λ x. is_within x v ≡ true) h hs a) (All-tail (λ x. is_within x v ≡ true) h hs a)
-
-more_hulls : (d : Range) (p : Pred) (ps : List Pred) (v : ℤ) (b : Bool) → (b ≡ true → is_within (hull d p.op) v ≡ true)
-    → All (λ h. is_within h v ≡ true) (map (λ (q : Pred). hull d q.op) ps)
-    → All (λ h. is_within h v ≡ true) (map (λ (q : Pred). hull d q.op) (cond b (p ∷ ps) ps))
-more_hulls d p ps v true h a = All-cons (λ x. is_within x v ≡ true) (hull d p.op) (map (λ (q : Pred). hull d q.op) ps) (h refl) a
-more_hulls d p ps v false h a = a
-
-hulls_within : (d : Range) (a : AttrNo) (conj : List Pred) (v : ℤ) → All (λ (p : Pred). OpForm p.op) conj → is_within d v ≡ true → AllHold a conj v
-    → All (λ h. is_within h v ≡ true) (hulls_on d a conj)
-hulls_within d a [] v f w h = All-nil (λ x. is_within x v ≡ true)
-hulls_within d a (p ∷ ps) v f w h =
-    let form = λ (q : Pred). OpForm q.op in
-    let test = λ (q : Pred). is_on a q ≡ true → holds q.op v ≡ true in
-    more_hulls d p (filter (is_on a) ps) v (is_on a p)
-    (λ on. hulls_hold d p.op v (All-head form p ps f) w (All-head test p ps h on))
-    (hulls_within d a ps v (All-tail form p ps f) w (All-tail test p ps h))
-
--- the span holds every value of the range that satisfies all predicates on the attribute
-pub spans_hold : SpansHold
-spans_hold d a conj v f w h = all_within (hulls_on d a conj) v (hulls_within d a conj v f.forms w h)
-
 -- a value of a list lies within a range that holds all of them
 in_all : (d : Range) (x : ℤ) (xs : List ℤ) → list_all (is_within d) (x ∷ xs) ≡ true → (is_within d x ≡ true) × (list_all (is_within d) xs ≡ true)
-in_all d x xs h = rise_parts (is_within d x) (list_all (is_within d) xs) h
+in_all d x xs h = and_parts (is_within d x) (list_all (is_within d) xs) h
 
 last_within : (d : Range) (x : ℤ) (xs : List ℤ) → list_all (is_within d) (x ∷ xs) ≡ true → is_within d (get_or (x ∷ xs) (length xs) (pos 0)) ≡ true
 last_within d x [] h = (in_all d x [] h).0
@@ -219,70 +172,6 @@ hulls_lie d (OneOf (x ∷ xs)) f s h =
     subst (λ n. IsPart d (x, get_or (x ∷ xs) n (pos 0))) e
     (part_from d (x, get_or (x ∷ xs) (length xs) (pos 0)) k.0 (first_below_last x xs f.rising) l.1)
 hulls_lie d (NoneOf xs) f s h = part_from d d (le_of_equal d.0 d.0 refl) s (le_of_equal d.1 d.1 refl)
-
--- what hulls leave begins in the range and ends in it, but may be turned
-abbrev Ends : Range → Range → Type 0
-Ends d r = (d.0 ≤ℤ r.0) × (r.0 ≤ℤ d.1) × (r.1 ≤ℤ d.1)
-
-narrow_ends : (d r h : Range) → Ends d r → IsPart d h → Ends d (narrow (Some r) h)
-narrow_ends d r h e p =
-    let a = p.low in
-    let b = p.rising in
-    let c = p.high in
-    let m = max_bounds r.0 h.0 in
-    let n = min_bounds r.1 h.1 in
-    (omega (arith, ints), max_above r.0 h.0 d.1 e.1 (omega (arith, ints)), omega (arith, ints))
-
-straight_part : (d r : Range) → Ends d r → IsPart d (straight r)
-straight_part d r e = by_test (lt_z r.1 r.0) refl
-  where
-    by_test : (b : Bool) → lt_z r.1 r.0 ≡ b → IsPart d (cond b (r.0, r.0) r)
-    by_test true t = part_from d (r.0, r.0) e.0 (le_of_equal r.0 r.0 refl) e.1
-    by_test false t = part_from d r e.0 (omega (arith, ints)) e.2
-
-meet_part : (d r : Range) (hs : List Range) → Ends d r → All (IsPart d) hs → IfSome (option_map straight (meet (Some r) hs)) (IsPart d)
-meet_part d r [] e a = straight_part d r e
-meet_part d r (h ∷ hs) e a =
-    meet_part d (narrow (Some r) h) hs (narrow_ends d r h e (All-head (IsPart d) h hs a)) (All-tail (IsPart d) h hs a)
-
-part_ends : (d h : Range) → IsPart d h → Ends d h
-part_ends d h p =
-    let a = p.low in
-    let b = p.rising in
-    let c = p.high in (a, omega (arith, ints), c)
-
-all_part : (d : Range) (hs : List Range) → All (IsPart d) hs → IfSome (option_map straight (meet None hs)) (IsPart d)
-all_part d [] a = tt
-all_part d (h ∷ hs) a =
-    meet_part d h hs (part_ends d h (All-head (IsPart d) h hs a)) (All-tail (IsPart d) h hs a)
-
-more_parts : (d : Range) (p : Pred) (ps : List Pred) (b : Bool) → (b ≡ true → IsPart d (hull d p.op))
-    → All (IsPart d) (map (λ (q : Pred). hull d q.op) ps) → All (IsPart d) (map (λ (q : Pred). hull d q.op) (cond b (p ∷ ps) ps))
-more_parts d p ps true h a = All-cons (IsPart d) (hull d p.op) (map (λ (q : Pred). hull d q.op) ps) (h refl) a
-more_parts d p ps false h a = a
-
-hulls_parts : (d : Range) (a : AttrNo) (conj : List Pred) → All (λ (p : Pred). OpForm p.op) conj → d.0 ≤ℤ d.1
-    → All (λ (p : Pred). is_on a p ≡ true → lies_within d (values_in p.op) ≡ true) conj → All (IsPart d) (hulls_on d a conj)
-hulls_parts d a [] f s h = All-nil (IsPart d)
-hulls_parts d a (p ∷ ps) f s h =
-    let form = λ (q : Pred). OpForm q.op in
-    let test = λ (q : Pred). is_on a q ≡ true → lies_within d (values_in q.op) ≡ true in
-    more_parts d p (filter (is_on a) ps) (is_on a p)
-    (λ on. hulls_lie d p.op (All-head form p ps f) s (All-head test p ps h on))
-    (hulls_parts d a ps (All-tail form p ps f) s (All-tail test p ps h))
-
--- the span of what lies in a range is a part of the range
-pub spans_lie : SpansLie
-spans_lie d a conj f s h = all_part d (hulls_on d a conj) (hulls_parts d a conj f.forms s h)
-
-span_of_range : (s : Attributes) (a : AttrNo) (conj : List Pred) (r : Option Range) → range_of s a ≡ r → conj_lies s conj ≡ true
-    → (IsNone (option_and_then (λ d. span d a conj) r) ↔ (list_any (is_on a) conj ≡ false))
-span_of_range s a conj None e h = (λ _. none_outside s a conj h e, λ _. refl)
-span_of_range s a conj (Some d) e h = IsNone-from (span d a conj) (list_any (is_on a) conj) (span_none d a conj)
-
--- there is no span exactly where no predicate is on the attribute
-pub spans_are : SpansAre
-spans_are s a conj h = span_of_range s a conj (range_of s a) refl h
 
 as_count : (z : ℤ) → pos 0 <ℤ z → (n : ℕ) × (z ≡ pos n) × (1 ≤ n)
 as_count (pos n) h = (n, refl, omega (arith, ints))

@@ -2,7 +2,7 @@
 use Rattle.std.specs.Prelude.{ℕ, ℤ, ◌+◌, ◌*◌, ◌≤◌, Bool, List, length, Option, Some, None, if◌then◌else◌}
 use Rattle.std.specs.List.{list_all, sum_by, count_by}
 use Rattle.be_base.specs.declared.names.AttrNo.{AttrNo}
-use Rattle.be_model.specs.declared.conditions.Pred.{Pred}
+use Rattle.be_model.specs.declared.preds.Pred.{Pred}
 use Rattle.be_model.specs.declared.changes.Row.{Row}
 use Rattle.be_model.specs.declared.costs.Cost.{Cost}
 use Rattle.be_model.specs.Domains.{Range, width, bits}
@@ -19,7 +19,7 @@ abbrev pub bits_at : Attributes → AttrNo → ℕ
 bits_at s a = bits_of (range_of s a)
 
 -- the ranges of the item's attribute on the way to a row that has the attribute
-abbrev pub ranges_to : Attributes → Row → AttrNo × ℤ → ℕ
+abbrev pub ranges_to : Attributes → Row → AttrNo × List ℤ → ℕ
 ranges_to s row item = if has item.0 row then 1 + bits_at s item.0 else 0
 
 -- the ranges of all attributes that both the row and the event have

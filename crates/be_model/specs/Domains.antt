@@ -1,6 +1,7 @@
 -- Domains: ranges of whole numbers, and how they are halved.
-pub use Rattle.be_model.specs.TextLists.{place_of}
-use Rattle.std.specs.Prelude.{ℕ, ℤ, pos, ◌+ℤ◌, ◌-ℤ◌, ◌+◌, ◌-◌, ◌/◌, ◌&&◌, zero, suc, Bool, length, nat_le, int_le, int_div, unsigned_abs, Option, Some, None, option_map, if◌then◌else◌}
+pub use Rattle.be_base.specs.TextLists.{place_of}
+use Rattle.std.specs.Prelude.{ℕ, ℤ, pos, ◌+ℤ◌, ◌-ℤ◌, ◌+◌, ◌-◌, ◌/◌, ◌&&◌, zero, suc, Bool, List, length, nat_le, int_le, int_div, unsigned_abs, Option, Some, None, option_map, if◌then◌else◌}
+use Rattle.std.specs.List.{list_any}
 use Rattle.be_base.specs.Text.{Text}
 use Rattle.be_base.specs.Numbers.{int_of}
 use Rattle.be_model.specs.declared.schemas.Domain.{Domain}
@@ -17,6 +18,10 @@ bounds_of (Sym words) = (pos 0, pos (length words - 1))
 
 abbrev pub is_within : Range → ℤ → Bool
 is_within r v = int_le r.0 v && int_le v r.1
+
+-- the range holds at least one of the values
+abbrev pub is_some_within : Range → List ℤ → Bool
+is_some_within r vs = list_any (is_within r) vs
 
 abbrev pub width : Range → ℕ
 width r = unsigned_abs ((r.1 -ℤ r.0) +ℤ pos 1)

@@ -1,9 +1,12 @@
 -- The forms of sets, conjunctions and events.
-use Rattle.std.specs.Prelude.{◌≡◌, ℤ, ◌<◌, ◌≤◌, ◌&&◌, Bool, true, List, [], ◌∷◌, length, nat_lt, int_lt, All, if◌then◌else◌}
-use Rattle.be_model.specs.declared.conditions.Op.{Op}
-use Rattle.be_model.specs.declared.conditions.Op.TheVariants.{Lt, Le, Eq, Ne, Ge, Gt, Between, OneOf, NoneOf}
-use Rattle.be_model.specs.declared.conditions.Pred.{Pred}
-use Rattle.be_model.specs.Matching.{Assignments}
+use Rattle.std.specs.Prelude.{◌≡◌, ℤ, ◌<◌, ◌≤◌, ◌&&◌, Bool, true, List, [], ◌∷◌, length, nat_le, nat_lt, int_lt, All, if◌then◌else◌}
+use Rattle.std.specs.List.{list_all}
+use Rattle.be_base.specs.declared.names.AttrNo.{AttrNo}
+use Rattle.be_base.specs.declared.limits.TheConstants.{PREDICATES, SET_VALUES}
+use Rattle.be_model.specs.declared.ops.Op.{Op}
+use Rattle.be_model.specs.declared.ops.Op.TheVariants.{Lt, Le, Eq, Ne, Ge, Gt, Between, OneOf, NoneOf}
+use Rattle.be_model.specs.declared.preds.Pred.{Pred}
+use Rattle.be_model.specs.Matching.{Assignments, attrs_of}
 
 -- each value is below the next
 abbrev pub rises : List ℤ → Bool
@@ -19,8 +22,12 @@ put_value v (x ∷ xs) = if int_lt v x then v ∷ x ∷ xs else (if int_lt x v t
 -- 1 to 64 rising values
 pub record AreValues (xs : List ℤ) : Type 0 where
   pub some : 0 < length xs
-  pub few : length xs ≤ 64
+  pub few : length xs ≤ SET_VALUES
   pub rising : rises xs ≡ true
+
+-- the same as a test
+abbrev pub is_values : List ℤ → Bool
+is_values xs = nat_lt 0 (length xs) && nat_le (length xs) SET_VALUES && rises xs
 
 -- the values of a set rise
 abbrev pub OpForm : Op → Type 0
@@ -34,13 +41,34 @@ OpForm (Ge x) = Unit {0}
 OpForm (Gt x) = Unit {0}
 OpForm (Between x y) = Unit {0}
 
+-- the same as a test
+abbrev pub has_op_form : Op → Bool
+has_op_form (OneOf xs) = is_values xs
+has_op_form (NoneOf xs) = is_values xs
+has_op_form (Lt x) = true
+has_op_form (Le x) = true
+has_op_form (Eq x) = true
+has_op_form (Ne x) = true
+has_op_form (Ge x) = true
+has_op_form (Gt x) = true
+has_op_form (Between x y) = true
+
 -- at most 32 predicates
 pub record IsConj (conj : List Pred) : Type 0 where
-  pub few : length conj ≤ 32
+  pub few : length conj ≤ PREDICATES
   pub forms : All (λ (p : Pred). OpForm p.op) conj
 
+-- the same as a test
+abbrev pub is_conj : List Pred → Bool
+is_conj conj = nat_le (length conj) PREDICATES && list_all (λ (p : Pred). has_op_form p.op) conj
+
 -- each attribute is below the next, so each stands once
-abbrev pub attrs_rise : Assignments → Bool
+abbrev pub attrs_rise : List AttrNo → Bool
 attrs_rise [] = true
-attrs_rise (item ∷ []) = true
-attrs_rise (item ∷ next ∷ items) = nat_lt item.0.0 next.0.0 && attrs_rise (next ∷ items)
+attrs_rise (a ∷ []) = true
+attrs_rise (a ∷ b ∷ more) = nat_lt a.0 b.0 && attrs_rise (b ∷ more)
+
+-- sets of values, rising by attribute
+pub record IsEvent (e : Assignments) : Type 0 where
+  pub rising : attrs_rise (attrs_of e) ≡ true
+  pub sets : All (λ (item : AttrNo × List ℤ). AreValues item.1) e

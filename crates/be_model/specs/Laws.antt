@@ -1,15 +1,15 @@
 -- What hulls, spans, halves and numbers of halvings are good for.
-use Rattle.std.specs.Prelude.{◌≡◌, ◌↔◌, ℕ, ℤ, ◌+◌, ◌/◌, ◌≤◌, ◌<ℤ◌, ◌≤ℤ◌, ◌||◌, ◌&&◌, true, false, List, All, IfSome, IsNone}
+use Rattle.std.specs.Prelude.{◌≡◌, ◌↔◌, ℕ, ℤ, ◌+◌, ◌/◌, ◌≤◌, ◌<ℤ◌, ◌≤ℤ◌, ◌||◌, ◌&&◌, true, false, List, Some, IfSome, IsNone}
 use Rattle.std.specs.List.{list_any}
 use Rattle.be_base.specs.declared.names.AttrNo.{AttrNo}
-use Rattle.be_model.specs.declared.conditions.Op.{Op}
-use Rattle.be_model.specs.declared.conditions.Pred.{Pred}
-use Rattle.be_model.specs.Domains.{Range, is_within, width, low_half, high_half, bits}
-use Rattle.be_model.specs.Schemas.{Attributes}
+use Rattle.be_model.specs.declared.ops.Op.{Op}
+use Rattle.be_model.specs.declared.preds.Pred.{Pred}
+use Rattle.be_model.specs.Domains.{Range, is_within, is_some_within, width, low_half, high_half, bits}
+use Rattle.be_model.specs.Schemas.{Attributes, IsSchema, range_of}
 use Rattle.be_model.specs.Forms.{OpForm, IsConj}
-use Rattle.be_model.specs.Matching.{holds}
-use Rattle.be_model.specs.Lies.{values_in, lies_within, conj_lies}
-use Rattle.be_model.specs.Hulls.{hull, is_on, span, span_in}
+use Rattle.be_model.specs.Matching.{Assignments, holds, values_of, satisfies}
+use Rattle.be_model.specs.Lies.{conj_lies, event_lies}
+use Rattle.be_model.specs.Hulls.{hull, is_on, span_in}
 
 -- a range that isn't empty, inside another
 pub record IsPart (whole part : Range) : Type 0 where
@@ -22,19 +22,23 @@ abbrev pub HullsHold : Type 0
 HullsHold =
     (range : Range) (op : Op) (v : ℤ) → OpForm op → is_within range v ≡ true → holds op v ≡ true → is_within (hull range op) v ≡ true
 
--- each predicate on the attribute holds of the value
-abbrev pub AllHold : AttrNo → List Pred → ℤ → Type 0
-AllHold a conj v = All (λ (p : Pred). is_on a p ≡ true → holds p.op v ≡ true) conj
+-- the span on the attribute is there, and holds at least one of the values that the event gives the attribute
+pub record SpanHolds (s : Attributes) (e : Assignments) (a : AttrNo) (conj : List Pred) : Type 0 where
+  pub range : Range
+  pub span : span_in s a conj ≡ Some range
+  pub values : List ℤ
+  pub given : values_of e a ≡ Some values
+  pub held : is_some_within range values ≡ true
 
--- the span holds every value of the range that satisfies all predicates on the attribute
+-- on each attribute of a condition, the span holds a value of each event that satisfies the condition
 abbrev pub SpansHold : Type 0
 SpansHold =
-    (range : Range) (a : AttrNo) (conj : List Pred) (v : ℤ) → IsConj conj → is_within range v ≡ true → AllHold a conj v → IfSome (span range a conj) (λ r. is_within r v ≡ true)
+    (s : Attributes) (e : Assignments) (a : AttrNo) (conj : List Pred) → IsConj conj → event_lies s e ≡ true → satisfies e conj ≡ true → list_any (is_on a) conj ≡ true → SpanHolds s e a conj
 
--- the span of what lies in a range is a part of the range
+-- spans are parts of domains
 abbrev pub SpansLie : Type 0
 SpansLie =
-    (range : Range) (a : AttrNo) (conj : List Pred) → IsConj conj → range.0 ≤ℤ range.1 → All (λ (p : Pred). is_on a p ≡ true → lies_within range (values_in p.op) ≡ true) conj → IfSome (span range a conj) (IsPart range)
+    (s : Attributes) (a : AttrNo) (conj : List Pred) (domain : Range) → IsSchema s → IsConj conj → conj_lies s conj ≡ true → range_of s a ≡ Some domain → IfSome (span_in s a conj) (IsPart domain)
 
 -- there is no span exactly where no predicate is on the attribute
 abbrev pub SpansAre : Type 0

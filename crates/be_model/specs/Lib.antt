@@ -1,4 +1,3 @@
-pub mod TextLists
 pub mod Places
 pub mod Domains
 pub mod Schemas
@@ -8,9 +7,9 @@ pub mod Lies
 pub mod Forms
 pub mod Rows
 pub mod Laws
-pub mod Assigned
 pub mod Entries
 pub mod Texts
 pub mod Costs
 pub mod ByIds
 pub mod Bounds
+pub mod Letters

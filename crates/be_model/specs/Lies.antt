@@ -2,9 +2,9 @@
 use Rattle.std.specs.Prelude.{ℤ, Bool, true, false, List, [], ◌∷◌, Option, Some, None}
 use Rattle.std.specs.List.{list_all}
 use Rattle.be_base.specs.declared.names.AttrNo.{AttrNo}
-use Rattle.be_model.specs.declared.conditions.Op.{Op}
-use Rattle.be_model.specs.declared.conditions.Op.TheVariants.{Lt, Le, Eq, Ne, Ge, Gt, Between, OneOf, NoneOf}
-use Rattle.be_model.specs.declared.conditions.Pred.{Pred}
+use Rattle.be_model.specs.declared.ops.Op.{Op}
+use Rattle.be_model.specs.declared.ops.Op.TheVariants.{Lt, Le, Eq, Ne, Ge, Gt, Between, OneOf, NoneOf}
+use Rattle.be_model.specs.declared.preds.Pred.{Pred}
 use Rattle.be_model.specs.declared.changes.Row.{Row}
 use Rattle.be_model.specs.Entries.{Entry, subscribed, unsubscribed, left}
 use Rattle.be_model.specs.Domains.{Range, is_within}
@@ -38,9 +38,10 @@ pred_lies s p = lies_in (range_of s p.attr) (values_in p.op)
 abbrev pub conj_lies : Attributes → List Pred → Bool
 conj_lies s conj = list_all (pred_lies s) conj
 
-abbrev pub item_lies : Attributes → AttrNo × ℤ → Bool
-item_lies s item = lies_in (range_of s item.0) (item.1 ∷ [])
+abbrev pub item_lies : Attributes → AttrNo × List ℤ → Bool
+item_lies s item = lies_in (range_of s item.0) item.1
 
+-- the schema has the event's attributes, and their values are in their domains
 abbrev pub event_lies : Attributes → Assignments → Bool
 event_lies s e = list_all (item_lies s) e
 

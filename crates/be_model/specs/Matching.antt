@@ -1,17 +1,21 @@
--- When a value meets a comparison, and when an event satisfies a condition.
-use Rattle.std.specs.Prelude.{ℤ, ◌==◌, Bool, false, not, ◌&&◌, List, [], ◌∷◌, filter, Option, Some, None, int_lt, int_le, if◌then◌else◌}
+-- When a value and a set of values meet a comparison, and when an event satisfies a condition.
+use Rattle.std.specs.Prelude.{ℤ, ◌==◌, Bool, false, not, ◌&&◌, List, [], ◌∷◌, filter, map, Option, Some, None, int_lt, int_le, if◌then◌else◌}
 use Rattle.std.specs.List.{list_any, list_all}
 use Rattle.std.specs.Ordering.{int_eq}
 use Rattle.std.specs.Option.{is_some}
 use Rattle.be_base.specs.declared.names.AttrNo.{AttrNo}
-use Rattle.be_model.specs.declared.conditions.Op.{Op}
-use Rattle.be_model.specs.declared.conditions.Op.TheVariants.{Lt, Le, Eq, Ne, Ge, Gt, Between, OneOf, NoneOf}
-use Rattle.be_model.specs.declared.conditions.Pred.{Pred}
+use Rattle.be_model.specs.declared.ops.Op.{Op}
+use Rattle.be_model.specs.declared.ops.Op.TheVariants.{Lt, Le, Eq, Ne, Ge, Gt, Between, OneOf, NoneOf}
+use Rattle.be_model.specs.declared.preds.Pred.{Pred}
 use Rattle.be_model.specs.declared.changes.Row.{Row}
 
--- an event, as the values that it assigns
+-- an event, as the sets of values that it gives to attributes
 abbrev pub Assignments : Type 0
-Assignments = List (AttrNo × ℤ)
+Assignments = List (AttrNo × List ℤ)
+
+-- the attributes that have values
+abbrev pub attrs_of : Assignments → List AttrNo
+attrs_of e = map (λ (item : AttrNo × List ℤ). item.0) e
 
 abbrev pub is_among : List ℤ → ℤ → Bool
 is_among xs v = list_any (λ x. int_eq x v) xs
@@ -28,22 +32,26 @@ holds (Between x y) v = int_le x v && int_le v y
 holds (OneOf xs) v = is_among xs v
 holds (NoneOf xs) v = not (is_among xs v)
 
--- the value that an event assigns to an attribute
-abbrev pub value_of : Assignments → AttrNo → Option ℤ
-value_of [] a = None
-value_of (item ∷ items) a = if item.0.0 == a.0 then Some item.1 else value_of items a
+-- whether at least one value of the set meets the comparison
+abbrev pub meets : Op → List ℤ → Bool
+meets op vs = list_any (holds op) vs
+
+-- the set of values that an event gives to an attribute
+abbrev pub values_of : Assignments → AttrNo → Option (List ℤ)
+values_of [] a = None
+values_of (item ∷ items) a = if item.0.0 == a.0 then Some item.1 else values_of items a
 
 abbrev pub is_assigned : Assignments → AttrNo → Bool
-is_assigned e a = is_some (value_of e a)
+is_assigned e a = is_some (values_of e a)
 
--- a predicate on an attribute without a value doesn't hold
-abbrev pub meets : Option ℤ → Op → Bool
-meets None op = false
-meets (Some v) op = holds op v
+-- a comparison of an attribute without values isn't met
+abbrev pub is_met : Option (List ℤ) → Op → Bool
+is_met None op = false
+is_met (Some vs) op = meets op vs
 
--- whether the event assigns each predicate's attribute, and the predicate holds of that value
+-- for every predicate the event gives its attribute a set, of which at least one value meets the comparison
 abbrev pub satisfies : Assignments → List Pred → Bool
-satisfies e conj = list_all (λ (p : Pred). meets (value_of e p.attr) p.op) conj
+satisfies e conj = list_all (λ (p : Pred). is_met (values_of e p.attr) p.op) conj
 
 -- the rows that the event satisfies
 abbrev pub satisfied : Assignments → List Row → List Row

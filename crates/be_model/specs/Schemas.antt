@@ -1,6 +1,6 @@
 -- Schemas: which attributes there are.
-pub use Rattle.be_model.specs.TextLists.{is_among_texts, all_differ}
-use Rattle.std.specs.Prelude.{◌≡◌, ℕ, pos, negsuc, ◌≤◌, ◌&&◌, not, Bool, true, false, List, [], ◌∷◌, length, map, nat_le, int_le, Option, option_map, Result, Ok, Err, slice_get, codes}
+pub use Rattle.be_base.specs.TextLists.{is_among_texts, all_differ}
+use Rattle.std.specs.Prelude.{◌≡◌, ℕ, ℤ, pos, negsuc, ◌≤◌, ◌&&◌, not, Bool, true, false, List, [], ◌∷◌, length, map, nat_le, int_le, Option, option_and_then, option_map, Result, Ok, Err, slice_get, codes}
 use Rattle.std.specs.List.{list_all}
 use Rattle.be_base.specs.Text.{Text, name_of}
 use Rattle.be_base.specs.declared.names.NameFault.{NameFault}
@@ -8,7 +8,7 @@ use Rattle.be_base.specs.declared.names.AttrNo.{AttrNo}
 use Rattle.be_model.specs.declared.schemas.Domain.{Domain}
 use Rattle.be_model.specs.declared.schemas.Domain.TheVariants.{Int, Sym}
 use Rattle.be_model.specs.declared.schemas.Attribute.{Attribute}
-use Rattle.be_model.specs.Domains.{Range, bounds_of, place_of}
+use Rattle.be_model.specs.Domains.{Range, bounds_of, place_of, value_of_word}
 
 -- a schema, as its attributes in order
 abbrev pub Attributes : Type 0
@@ -53,6 +53,10 @@ attribute_at s a = slice_get s a.0
 -- the range of an attribute that the schema has
 abbrev pub range_of : Attributes → AttrNo → Option Range
 range_of s a = option_map (λ (x : Attribute). bounds_of x.domain) (attribute_at s a)
+
+-- the value of the word in the attribute's domain
+abbrev pub value_at : Attributes → AttrNo → Text → Option ℤ
+value_at s a text = option_and_then (λ (x : Attribute). value_of_word x.domain text) (attribute_at s a)
 
 -- the text was read as a name
 abbrev pub is_name : Result Text NameFault → Bool

@@ -5,7 +5,7 @@ ghost use Rattle.be_model.specs.Forms.{IsConj};
 ghost use Rattle.be_model.specs.Lies.{row_lies};
 ghost use Rattle.be_model.specs.Rows.{session_of};
 
-use crate::conditions::Conj;
+use crate::conjs::Conj;
 use crate::schemas::Schema;
 use be_base::{Id, Name, SessionNo};
 use std::sync::Arc;

@@ -1,32 +1,33 @@
-//! Events: values of attributes.
+//! Events: sets of values of attributes.
 
-ghost use Rattle.std.specs.Prelude.{◌≡◌, ◌↔◌, [], ◌∷◌, ◌++◌, true, nat_le, length, OnOk, OnErr};
-ghost use Rattle.be_model.specs.Forms.{attrs_rise};
-ghost use Rattle.be_model.specs.Matching.{value_of};
+ghost use Rattle.std.specs.Prelude.{◌≡◌, [], ◌∷◌, ◌++◌, true, nat_le, length, option_copied, OnOk, OnErr, IfOk};
+ghost use Rattle.be_model.specs.Forms.{attrs_rise, IsEvent};
+ghost use Rattle.be_model.specs.Matching.{attrs_of, values_of};
 ghost use Rattle.be_model.specs.Lies.{item_lies, event_lies};
 
 use crate::schemas::Schema;
+use crate::values::Values;
 use be_base::{AttrNo, NoMemory};
 use std::alloc::Global;
 use std::marker::Model;
 
-/// Values of attributes, rising by attribute, each once.
+/// Sets of values of attributes, rising by attribute, each once.
 #[derive(Drop)]
 pub struct Event {
-    items: Vec<(AttrNo, i64)>,
+    items: Vec<(AttrNo, Values)>,
 }
 
 impl Model for Event {
-    ghost use Rattle.std.specs.Prelude.{◌≡◌, ℤ, List, true};
+    ghost use Rattle.std.specs.Prelude.{ℤ, List};
     ghost use Rattle.be_base.specs.declared.names.AttrNo.{AttrNo};
 
-    ghost Value = { List (AttrNo × ℤ) };
+    ghost Value = { List (AttrNo × List ℤ) };
 
-    ghost use Rattle.be_model.specs.Forms.{attrs_rise};
+    ghost use Rattle.be_model.specs.Forms.{IsEvent};
 
     ghost view = { λ e. e.items.items };
 
-    ghost invariant = { λ e. attrs_rise e.items.items ≡ true };
+    ghost invariant = { λ e. IsEvent e.items.items };
 }
 
 impl Event {
@@ -39,25 +40,27 @@ impl Event {
         }
     }
 
-    /// Puts an attribute's value last.
-    pub fn push(&mut self, item: (AttrNo, i64)) -> Result<(), NoMemory>
-        requires { attrs_rise (self.old ++ item ∷ []) ≡ true }
+    /// Puts an attribute with its values last.
+    pub fn push(&mut self, item: (AttrNo, Values)) -> Result<(), NoMemory>
+        requires { attrs_rise (attrs_of self.old ++ item.0 ∷ []) ≡ true }
         ensures put { OnOk result (self.new ≡ self.old ++ item ∷ []) }
         ensures refused { OnErr result (self.new ≡ self.old) }
     {
+        // A slice shows the form of the values.
+        let _ = item.1.as_slice();
         match self.items.push(item) {
             Ok(()) => Ok(()),
             Err(_) => Err(NoMemory),
         }
     }
 
-    /// Whether the item may be put last.
-    pub fn accepts(&self, item: (AttrNo, i64)) -> bool
-        ensures { result ≡ attrs_rise (self.now ++ item ∷ []) }
+    /// Whether the attribute may be put last.
+    pub fn accepts(&self, a: AttrNo) -> bool
+        ensures { result ≡ attrs_rise (attrs_of self.now ++ a ∷ []) }
     {
         match self.items.as_slice() {
             [] => true,
-            [.., last] => last.0.0 < item.0.0,
+            [.., last] => last.0.0 < a.0,
         }
     }
 
@@ -73,45 +76,53 @@ impl Event {
         self.items.len() <= 0
     }
 
-    pub fn items(&self) -> &[(AttrNo, i64)]
+    pub fn items(&self) -> &[(AttrNo, Values)]
         ensures items { result.now ≡ self.now }
-        ensures form { attrs_rise self.now ≡ true }
+        ensures form { IsEvent self.now }
     {
         self.items.as_slice()
     }
 
-    /// The value of an attribute.
-    pub fn value(&self, a: AttrNo) -> Option<i64>
-        ensures { result ≡ value_of self.now a }
+    /// The values of an attribute, found without a scan.
+    pub fn values(&self, a: AttrNo) -> Option<&Values>
+        ensures { option_copied result ≡ values_of self.now a }
     {
-        value_in(self.items.as_slice(), a)
+        let items = self.items.as_slice();
+        match items.binary_search_by_key(&a.0, |item| item.0.0) {
+            Ok(place) => Some(&items[place].1),
+            Err(_) => None,
+        }
     }
 
-    /// Whether the schema has each attribute, and its value is in the domain.
+    /// Whether the schema has each attribute, and its values are in the domain.
     pub fn lies(&self, s: &Schema) -> bool
         ensures lies { result ≡ event_lies s.now self.now }
-        ensures form { attrs_rise self.now ≡ true }
+        ensures form { IsEvent self.now }
     {
         self.items.iter().all(|item| item_lies(item, s))
     }
-}
 
-fn value_in(items: &[(AttrNo, i64)], a: AttrNo) -> Option<i64>
-    ensures { result ≡ value_of items.now a }
-{
-    for item in items {
-        if item.0.0 == a.0 {
-            return Some(item.1);
+    /// A copy.
+    pub fn copy(&self) -> Result<Event, NoMemory>
+        ensures { IfOk result (λ e. e ≡ self.now) }
+    {
+        let items = self.items.as_slice();
+        let mut copies = Vec::with_capacity(*self.items.allocator(), items.len())?;
+        for item in items {
+            match copies.push((item.0, item.1.copy()?)) {
+                Ok(()) => {}
+                Err(_) => return Err(NoMemory),
+            }
         }
+        Ok(Event { items: copies })
     }
-    None
 }
 
-fn item_lies(item: &(AttrNo, i64), s: &Schema) -> bool
+fn item_lies(item: &(AttrNo, Values), s: &Schema) -> bool
     ensures { result ≡ item_lies s.now item.now }
 {
     match s.range(item.0) {
-        Some((lo, hi)) => lo <= item.1 && item.1 <= hi,
+        Some(range) => item.1.are_within(range),
         None => false,
     }
 }

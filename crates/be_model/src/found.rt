@@ -130,7 +130,7 @@ impl Found {
 #[cfg(test)]
 mod tests {
     use super::*;
-    use crate::conditions::Conj;
+    use crate::conjs::Conj;
     use be_base::{Id, Name, SessionNo};
     use std::test::Fail;
 

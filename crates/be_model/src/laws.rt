@@ -8,12 +8,12 @@ pub fn hulls_hold()
     ensures { HullsHold }
 {}
 
-/// A span holds every value of the domain that satisfies all predicates on its attribute.
+/// A span holds at least one of the values of its attribute in each event that satisfies the condition.
 pub fn spans_hold()
     ensures { SpansHold }
 {}
 
-/// A span isn't empty and lies in the domain.
+/// A span isn't empty and is a part of the domain.
 pub fn spans_lie()
     ensures { SpansLie }
 {}

@@ -1,19 +1,22 @@
 //! Schemas, conditions, events, rows and changes, and when an event satisfies a condition.
 #![tactic(auto)]
 
-mod assigned;
 mod changes;
-mod conditions;
+mod conjs;
 mod costs;
 mod events;
 mod found;
 mod laws;
+mod letters;
+mod ops;
 mod paths;
+mod preds;
 mod schemas;
 mod texts;
+mod values;
 
 pub use changes::{Change, Row};
-pub use conditions::{Conj, DomFault, Op, Pred, Values, check_conj};
+pub use conjs::{Conj, DomFault, check_conj};
 pub use costs::Cost;
 pub use events::Event;
 pub use found::Found;
@@ -21,5 +24,9 @@ pub use laws::{
     halves_split, halvings_count, hulls_hold, names_are_found, spans_are, spans_hold, spans_lie,
     values_are_read, values_are_words,
 };
+pub use letters::{EventText, Letter};
+pub use ops::Op;
 pub use paths::{Hop, Path};
+pub use preds::Pred;
 pub use schemas::{Attribute, Domain, Names, Schema, is_reserved};
+pub use values::Values;

@@ -1,10 +1,9 @@
 //! Values and names of a schema as texts.
 
-ghost use Rattle.std.specs.Prelude.{◌≡◌, ◌<◌, ◌++◌, true, length, Some, OnOk, OnErr};
+ghost use Rattle.std.specs.Prelude.{◌≡◌, ◌<◌, ◌++◌, ◌∷◌, [], true, length, Some, OnOk, OnErr};
 ghost use Rattle.be_base.specs.Text.{IsName, IsWord};
 ghost use Rattle.be_model.specs.Domains.{bounds_of, is_within, value_of_word};
-ghost use Rattle.be_model.specs.Schemas.{is_domain, attribute_named};
-ghost use Rattle.be_model.specs.Assigned.{value_at};
+ghost use Rattle.be_model.specs.Schemas.{is_domain, attribute_named, value_at};
 ghost use Rattle.be_model.specs.Lies.{item_lies};
 ghost use Rattle.be_model.specs.Texts.{value_text, value_text_at, name_at};
 
@@ -38,7 +37,7 @@ impl Domain {
 impl Schema {
     /// Puts the text of an attribute's value last.
     pub fn write_value(&self, a: AttrNo, v: i64, text: &mut Vec<u8>) -> Result<(), NoMemory>
-        requires { item_lies self.now (a, v) ≡ true }
+        requires { item_lies self.now (a, v ∷ []) ≡ true }
         ensures written { OnOk result (text.new.items ≡ text.old.items ++ value_text_at self.now a v) }
         ensures refused { OnErr result (text.new.items ≡ text.old.items) }
         ensures word { IsWord (value_text_at self.now a v) }

@@ -1,4 +1,4 @@
-use Rattle.be_model.proofs.Ranges.{spans_hold}
+use Rattle.be_model.proofs.Spans.{spans_hold}
 use Rattle.be_model.proofs.laws.spans_hold.Goals as goal
 
 pub returns : goal.returns

@@ -12,6 +12,7 @@ loop-len-init g c = record {
   bound = c.requires.bound;
   faults = refl;
   taken = omega arith;
+  beside = refl;
 }
 
 pub close-requires-clause-counted : goal.close-requires-clause-counted
@@ -67,4 +68,5 @@ loop-len-preserved g c =
       bound = omega (arith, c.in_ok-fill.ensures.bound, after, c.skip.ensures.taken);
       faults = c.in_ok-fill.ensures.sound ∙ c.loop-len.invariant.faults;
       taken = omega (arith, c.in_ok-fill.ensures.taken, c.loop-len.invariant.taken, before, after, c.skip.ensures.taken);
+      beside = c.fill.ensures.beside ∙ c.loop-len.invariant.beside;
     }

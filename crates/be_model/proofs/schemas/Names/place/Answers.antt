@@ -1,6 +1,6 @@
 use Rattle.std.proofs.Common.{◌≡◌, sym}
 use Rattle.be_base.proofs.NameForms.{IsName-from_name_of}
-use Rattle.be_model.specs.TextLists.{place_of}
+use Rattle.be_base.specs.TextLists.{place_of}
 use Rattle.be_model.proofs.NamePlaces.{no_place, place_within}
 use Rattle.be_model.proofs.schemas.Names.place.Goals as goal
 

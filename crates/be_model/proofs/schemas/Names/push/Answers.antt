@@ -1,6 +1,6 @@
 use Rattle.std.proofs.Common.{◌≡◌, [], ◌∷◌, ◌++◌, length, sym, subst, List, arith}
 use Rattle.be_base.specs.Text.{Text}
-use Rattle.be_model.specs.TextLists.{place_of}
+use Rattle.be_base.specs.TextLists.{place_of}
 use Rattle.be_model.specs.Places.{FindsPlaces}
 use Rattle.be_model.proofs.NamePlaces.{put_known, put_new, finds_kept, taken_out}
 use Rattle.be_model.proofs.schemas.Names.push.Goals as goal

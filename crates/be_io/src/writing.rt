@@ -1,0 +1,20 @@
+//! Writing whole texts.
+
+ghost use Rattle.std.specs.Prelude.{◌≡◌};
+ghost use Rattle.be_io.specs.Sink.{Wrote};
+ghost use Rattle.be_io.specs.Outside.{sink_state};
+
+use crate::faults::SinkFault;
+use crate::sink::Sink;
+
+/// Writes all of these bytes, or hands on the sink's refusal.
+pub fn write_all<K: Sink>(sink: &mut K, bytes: &[u8]) -> Result<(), SinkFault>
+    ensures wrote { Wrote (sink_state K.Sink sink.old) (sink_state K.Sink sink.new) bytes.now result }
+    ensures beside { K.source_beside sink.new ≡ K.source_beside sink.old }
+{
+    let mut from = 0;
+    while from < bytes.len() {
+        from += sink.write(&bytes[from..])?;
+    }
+    Ok(())
+}
