@@ -26,7 +26,7 @@ abbrev bits_left : NodeRange → ℕ
 bits_left None = 0
 bits_left (Some r) = bits (width r.1)
 
-abbrev unused_ranges : Attributes → List AttrNo → Row → AttrNo × ℤ → ℕ
+abbrev unused_ranges : Attributes → List AttrNo → Row → AttrNo × List ℤ → ℕ
 unused_ranges s used row item = cond (is_used used item.0) 0 (ranges_to s row item)
 
 abbrev unused_shared : Attributes → Assignments → List AttrNo → Row → ℕ
@@ -40,7 +40,7 @@ pub share_at_root : (s : Attributes) (e : Assignments) (row : Row) → share s e
 share_at_root s e row = omega (arith, sum_by-le-sum_by (unused_ranges s [] row) (ranges_to s row) e (λ item. omega arith))
 
 -- one more attribute is used
-more_used : (s : Attributes) (a : AttrNo) (used : List AttrNo) (row : Row) (item : AttrNo × ℤ) → unused_ranges s (a ∷ used) row item ≤ unused_ranges s used row item
+more_used : (s : Attributes) (a : AttrNo) (used : List AttrNo) (row : Row) (item : AttrNo × List ℤ) → unused_ranges s (a ∷ used) row item ≤ unused_ranges s used row item
 more_used s a used row item = by_tests (eqb a.0 item.0.0) (is_used used item.0) (ranges_to s row item)
   where
     by_tests : (x y : Bool) (n : ℕ) → cond (x || y) 0 n ≤ cond y 0 n
@@ -51,7 +51,7 @@ more_used s a used row item = by_tests (eqb a.0 item.0.0) (is_used used item.0) 
 turned : (n m : ℕ) → eqb n m ≡ true → eqb m n ≡ true
 turned n m h = grind (arith, nat_tests)
 
-used_now : (s : Attributes) (a : AttrNo) (used : List AttrNo) (row : Row) (item : AttrNo × ℤ) → eqb item.0.0 a.0 ≡ true → unused_ranges s (a ∷ used) row item ≡ 0
+used_now : (s : Attributes) (a : AttrNo) (used : List AttrNo) (row : Row) (item : AttrNo × List ℤ) → eqb item.0.0 a.0 ≡ true → unused_ranges s (a ∷ used) row item ≡ 0
 used_now s a used row item same =
     ap (λ b. cond (b || is_used used item.0) 0 (ranges_to s row item)) (turned item.0.0 a.0 same)
 
@@ -59,7 +59,7 @@ unused_still : (s : Attributes) (a : AttrNo) (used : List AttrNo) (row : Row) �
 unused_still s a used row unused has_it v =
     ap (λ b. cond b 0 (ranges_to s row (a, v))) unused ∙ ap (λ b. cond b (1 + bits_at s a) 0) has_it
 
-on_attr : (s : Attributes) (a : AttrNo) (used : List AttrNo) (row : Row) (item : AttrNo × ℤ) → eqb item.0.0 a.0 ≡ true → is_used used a ≡ false → has a row ≡ true → unused_ranges s used row item ≡ 1 + bits_at s a
+on_attr : (s : Attributes) (a : AttrNo) (used : List AttrNo) (row : Row) (item : AttrNo × List ℤ) → eqb item.0.0 a.0 ≡ true → is_used used a ≡ false → has a row ≡ true → unused_ranges s used row item ≡ 1 + bits_at s a
 on_attr s a used row item same unused has_it =
     ap (λ n. unused_ranges s used row (numbered n, item.1)) (eqb-true item.0.0 a.0 same) ∙ unused_still s a used row unused has_it item.1
 

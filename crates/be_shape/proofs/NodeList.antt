@@ -10,8 +10,9 @@ use Rattle.be_model.specs.declared.changes.Row.{Row}
 use Rattle.be_model.specs.declared.paths.Hop.{Hop}
 use Rattle.be_model.specs.declared.paths.Hop.TheVariants.{Part, Low, High}
 use Rattle.be_model.specs.Schemas.{Attributes}
+use Rattle.be_model.specs.Forms.{attrs_rise}
 use Rattle.be_shape.specs.Plain.{Plain, node, Parts, no_part, part, Half, no_half, half, parts_under}
-use Rattle.be_shape.specs.Shape.{Known, nothing, in_part, in_low, in_high, everywhere, is_placed_at, is_settled_at, is_settled, attrs_of, attrs_rise}
+use Rattle.be_shape.specs.Shape.{Known, nothing, in_part, in_low, in_high, everywhere, is_placed_at, is_settled_at, is_settled, attrs_of}
 use Rattle.be_shape.specs.Paths.{part_on, in_half, child, walk}
 use Rattle.be_shape.specs.Children.{roots_of, root_of, children, known_below}
 use Rattle.be_shape.specs.NodeList.{NodeAt, node_at, nodes_from, nodes_in_parts, nodes_in_half, nodes, known_along, HoldsAtNodes, PathsLead, IsSettledBut}

@@ -8,8 +8,9 @@ use Rattle.be_model.specs.declared.paths.Hop.{Hop}
 use Rattle.be_model.specs.declared.paths.Hop.TheVariants.{Part, Low, High}
 use Rattle.be_model.specs.Schemas.{Attributes, numbered}
 use Rattle.be_model.specs.Rows.{has}
+use Rattle.be_model.specs.Forms.{attrs_rise}
 use Rattle.be_shape.specs.Plain.{Plain, node, Parts, no_part, part, Half, no_half, half, rows_below, parts_under}
-use Rattle.be_shape.specs.Shape.{NodeRange, Known, known, in_part, in_low, in_high, everywhere, spans_inside, is_used, attrs_of, attrs_rise, parts_fit, can_split, is_here, is_placed_at}
+use Rattle.be_shape.specs.Shape.{NodeRange, Known, known, in_part, in_low, in_high, everywhere, spans_inside, is_used, attrs_of, parts_fit, can_split, is_here, is_placed_at}
 use Rattle.be_shape.specs.Children.{roots_of, root_of, children, known_below, is_open, may_pass}
 use Rattle.be_shape.specs.Paths.{part_on, in_half, child, range_below}
 use Rattle.be_shape.specs.Ranges.{may_step, StandsIn}
