@@ -11,7 +11,7 @@ use Rattle.be_base.specs.declared.names.AttrNo.{AttrNo}
 use Rattle.be_model.specs.declared.changes.Row.{Row}
 use Rattle.be_model.specs.Domains.{Range, width, bits}
 use Rattle.be_model.specs.Schemas.{Attributes, range_of, numbered}
-use Rattle.be_model.specs.Matching.{Assignments, value_of, is_assigned}
+use Rattle.be_model.specs.Matching.{Assignments, values_of, is_assigned}
 use Rattle.be_model.specs.Rows.{has}
 use Rattle.be_model.specs.Bounds.{bits_of, bits_at, ranges_to, shared}
 use Rattle.be_model.proofs.Attributes.{and_left, and_right}
@@ -55,7 +55,7 @@ used_now : (s : Attributes) (a : AttrNo) (used : List AttrNo) (row : Row) (item 
 used_now s a used row item same =
     ap (λ b. cond (b || is_used used item.0) 0 (ranges_to s row item)) (turned item.0.0 a.0 same)
 
-unused_still : (s : Attributes) (a : AttrNo) (used : List AttrNo) (row : Row) → is_used used a ≡ false → has a row ≡ true → (v : ℤ) → unused_ranges s used row (a, v) ≡ 1 + bits_at s a
+unused_still : (s : Attributes) (a : AttrNo) (used : List AttrNo) (row : Row) → is_used used a ≡ false → has a row ≡ true → (v : List ℤ) → unused_ranges s used row (a, v) ≡ 1 + bits_at s a
 unused_still s a used row unused has_it v =
     ap (λ b. cond b 0 (ranges_to s row (a, v))) unused ∙ ap (λ b. cond b (1 + bits_at s a) 0) has_it
 
@@ -69,7 +69,7 @@ part_takes s [] a used row unused has_it given = absurd (cc)
 part_takes s (item ∷ e) a used row unused has_it given =
     by_test (eqb item.0.0 a.0) refl given (λ g. part_takes s e a used row unused has_it g)
   where
-    by_test : (b : Bool) → eqb item.0.0 a.0 ≡ b → is_some (cond b (Some item.1) (value_of e a)) ≡ true
+    by_test : (b : Bool) → eqb item.0.0 a.0 ≡ b → is_some (cond b (Some item.1) (values_of e a)) ≡ true
         → (is_assigned e a ≡ true → unused_shared s e (a ∷ used) row + (1 + bits_at s a) ≤ unused_shared s e used row)
         → unused_shared s (item ∷ e) (a ∷ used) row + (1 + bits_at s a) ≤ unused_shared s (item ∷ e) used row
     by_test true same g more =

@@ -1,11 +1,10 @@
 -- A search visits no more nodes than the rows below can pay for.
-use Rattle.std.proofs.Common.{◌≡◌, ℕ, ◌+◌, ◌≤◌, Bool, true, false, not, cond, ◌&&◌, List, [], ◌∷◌, ◌++◌, length, refl, sym, ap, ◌∙◌, subst, arith, length-append}
+use Rattle.std.proofs.Common.{◌≡◌, ℕ, ◌+◌, ◌≤◌, Bool, true, false, cond, List, [], ◌∷◌, length, refl, sym, ap, ◌∙◌, subst, arith, length-append}
 use Rattle.std.specs.List.{sum_by, list_all, flat_map, AllByRecursion}
 use Rattle.std.proofs.lemmas.List.Sums.{sum_by-append, sum_by-le-sum_by}
 use Rattle.be_model.specs.declared.changes.Row.{Row}
 use Rattle.be_model.specs.Schemas.{Attributes}
-use Rattle.be_model.specs.Matching.{Assignments, is_assigned}
-use Rattle.be_model.specs.Rows.{has}
+use Rattle.be_model.specs.Matching.{Assignments}
 use Rattle.be_model.specs.Bounds.{shared, visits_bound}
 use Rattle.be_shape.specs.Plain.{Plain, rows_below, leaf_of}
 use Rattle.be_shape.specs.Shape.{Known, nothing, everywhere, is_placed_at, is_pruned_at, is_some}

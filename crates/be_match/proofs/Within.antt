@@ -6,7 +6,7 @@ use Rattle.std.proofs.lemmas.List.Sorted.{length_permutation, sum_by-IsPermutati
 use Rattle.be_model.specs.declared.changes.Row.{Row}
 use Rattle.be_model.specs.declared.costs.Cost.{Cost}
 use Rattle.be_model.specs.Schemas.{Attributes, IsSchema}
-use Rattle.be_model.specs.Forms.{attrs_rise}
+use Rattle.be_model.specs.Forms.{IsEvent}
 use Rattle.be_model.specs.Matching.{Assignments, satisfies, satisfied}
 use Rattle.be_model.specs.Lies.{event_lies}
 use Rattle.be_model.specs.ByIds.{rows_of, ids_differ}
@@ -28,7 +28,7 @@ use Rattle.be_match.proofs.TestedBound.{tested_within, tested_below}
 -- a tree, and an event that lies in its schema
 pub record IsSearched (s : Attributes) (e : Assignments) (n : Plain) : Type 0 where
   pub schema : IsSchema s
-  pub rises : attrs_rise e ≡ true
+  pub form : IsEvent e
   pub lies : event_lies s e ≡ true
   pub rows : rows_lie s n ≡ true
   pub placed : is_placed s n ≡ true
@@ -36,9 +36,9 @@ pub record IsSearched (s : Attributes) (e : Assignments) (n : Plain) : Type 0 wh
   pub settled : is_settled s n ≡ true
 
 -- what the type of a tree keeps, and an event that lies in its schema
-pub searched : (t : Tree) (e : Assignments) → IsSchema (arc_value t.schema) → attrs_rise e ≡ true → event_lies (arc_value t.schema) e ≡ true → IsSearched (arc_value t.schema) e (plain t.root)
+pub searched : (t : Tree) (e : Assignments) → IsSchema (arc_value t.schema) → IsEvent e → event_lies (arc_value t.schema) e ≡ true → IsSearched (arc_value t.schema) e (plain t.root)
 searched t e f r l =
-    record { schema = f; rises = r; lies = l; rows = t.lie; placed = t.placed; pruned = t.pruned; settled = t.settled }
+    record { schema = f; form = r; lies = l; rows = t.lie; placed = t.placed; pruned = t.pruned; settled = t.settled }
 
 placed_everywhere : (s : Attributes) (n : Plain) → is_placed s n ≡ true → everywhere (is_placed_at s) s nothing n ≡ true
 placed_everywhere s n h = and_left (everywhere (is_placed_at s) s nothing n) (ids_differ (rows_below n)) h
@@ -87,5 +87,5 @@ pub countable : (s : Attributes) (e : Assignments) (n : Plain) → IsSearched s 
 countable s e n t =
     let few = few_rows s n t.rows t.placed in
     let v = visits_few s e n t in
-    let w = few_visits s e (rows_below n) t.schema t.rises t.lies few in
+    let w = few_visits s e (rows_below n) t.schema t.form.rising t.lies few in
     record { few = omega (arith, v, w); few_rows = omega (arith, tested_below s e n, few) }

@@ -3,11 +3,10 @@
 ghost use Rattle.std.specs.Prelude.{◌≡◌, ◌+◌, ◌<◌, ◌^◌, true, ◌∷◌, [], length};
 ghost use Rattle.be_model.specs.Costs.{cost};
 ghost use Rattle.be_model.specs.Matching.{is_assigned};
-ghost use Rattle.be_model.specs.Lies.{event_lies};
 ghost use Rattle.be_shape.specs.Plain.{plain, parts_as, half_as, part_as, parts_of};
-ghost use Rattle.be_shape.specs.Ranges.{is_bounded};
+ghost use Rattle.be_shape.specs.Ranges.{is_bounded, is_rising};
 ghost use Rattle.be_shape.specs.Search.{visited, visited_in_parts, visited_in_half};
-ghost use Rattle.be_match.specs.Leaves.{AreCountable, cost_of_leaves, may_enter};
+ghost use Rattle.be_match.specs.Leaves.{AreCountable, cost_of_leaves};
 
 use be_base::AttrNo;
 use be_model::{Cost, Event, Schema};
@@ -17,8 +16,7 @@ use be_shape::{Leaf, Node, NodeRange, Part, holds_value, lower_range, upper_rang
 #[cycle(costs)]
 pub(crate) fn node_cost(n: &Node, s: &Schema, e: &Event, range: NodeRange) -> Cost
     requires bounded { is_bounded range ≡ true }
-    requires entered { may_enter e.now range ≡ true }
-    requires lies { event_lies s.now e.now ≡ true }
+    requires rising { is_rising range ≡ true }
     requires countable { AreCountable (visited s.now e.now range (plain n.now)) }
     ensures { result ≡ cost_of_leaves (visited s.now e.now range (plain n.now)) }
 {
@@ -30,7 +28,6 @@ pub(crate) fn node_cost(n: &Node, s: &Schema, e: &Event, range: NodeRange) -> Co
 
 #[cycle(costs)]
 fn parts_cost(parts: &[Part], s: &Schema, e: &Event) -> Cost
-    requires lies { event_lies s.now e.now ≡ true }
     requires countable { AreCountable (visited_in_parts s.now e.now (parts_as parts.now)) }
     ensures { result ≡ cost_of_leaves (visited_in_parts s.now e.now (parts_as parts.now)) }
 {
@@ -43,7 +40,6 @@ fn parts_cost(parts: &[Part], s: &Schema, e: &Event) -> Cost
 
 #[cycle(costs)]
 fn part_cost(part: &Part, s: &Schema, e: &Event) -> Cost
-    requires lies { event_lies s.now e.now ≡ true }
     requires countable { AreCountable (visited_in_parts s.now e.now (parts_of (part_as part.now ∷ []))) }
     ensures { result ≡ cost_of_leaves (visited_in_parts s.now e.now (parts_of (part_as part.now ∷ []))) }
 {
@@ -57,7 +53,6 @@ fn part_cost(part: &Part, s: &Schema, e: &Event) -> Cost
 #[cycle(costs)]
 fn half_cost(half: &Option<Box<Node>>, s: &Schema, e: &Event, range: NodeRange) -> Cost
     requires bounded { is_bounded range ≡ true }
-    requires lies { event_lies s.now e.now ≡ true }
     requires countable { AreCountable (visited_in_half s.now e.now range (half_as half.now)) }
     ensures { result ≡ cost_of_leaves (visited_in_half s.now e.now range (half_as half.now)) }
 {
@@ -77,7 +72,7 @@ fn half_cost(half: &Option<Box<Node>>, s: &Schema, e: &Event, range: NodeRange) 
 pub(crate) fn enters_part(a: AttrNo, e: &Event) -> bool
     ensures { result ≡ is_assigned e.now a }
 {
-    e.value(a).is_some()
+    e.values(a).is_some()
 }
 
 // The cost of a node whose parts and halves cost so much.

@@ -1,6 +1,6 @@
 -- A node and the nodes right below it: what is recursive over parts and halves, said once over the list of children,
 -- and the induction over trees.
-use Rattle.std.proofs.Common.{◌≡◌, Bool, true, false, cond, ◌&&◌, List, [], ◌∷◌, ◌++◌, Some, refl, sym, ap, ◌∙◌}
+use Rattle.std.proofs.Common.{◌≡◌, Bool, true, false, ◌&&◌, List, [], ◌∷◌, ◌++◌, refl, sym, ap, ◌∙◌}
 use Rattle.std.specs.List.{list_all, flat_map, AllByRecursion}
 use Rattle.std.proofs.lemmas.Bool.{and_parts, and_from}
 use Rattle.std.proofs.lemmas.List.{append_assoc, append-nil}
@@ -8,7 +8,7 @@ use Rattle.std.proofs.lemmas.List.Concat.{flat_map-append}
 use Rattle.std.proofs.lemmas.List.Folds.{list_all-append}
 use Rattle.be_model.specs.declared.changes.Row.{Row}
 use Rattle.be_model.specs.declared.paths.Hop.{Hop}
-use Rattle.be_model.specs.declared.paths.Hop.TheVariants.{Part, Low, High}
+use Rattle.be_model.specs.declared.paths.Hop.TheVariants.{Low, High}
 use Rattle.be_model.specs.Schemas.{Attributes}
 use Rattle.be_shape.specs.Plain.{Plain, node, Parts, no_part, part, Half, no_half, half, rows_below, rows_in_parts, rows_in_half, leaf_of}
 use Rattle.be_shape.specs.Shape.{Known, in_part, in_low, in_high, everywhere, in_all_parts, in_a_half}

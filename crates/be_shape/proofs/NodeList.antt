@@ -1,6 +1,6 @@
 -- All nodes of a tree: what holds everywhere holds of each, and the path of each leads to it.
-use Rattle.std.proofs.Common.{◌≡◌, ◌≢◌, ◌<◌, ◌≤◌, ◌+◌, ℕ, Bool, true, false, cond, eqb, ltb, ◌&&◌, List, [], ◌∷◌, ◌++◌, Some, option_and_then, refl, sym, ap, ◌∙◌, subst, arith}
-use Rattle.std.specs.List.{list_all, flat_map, All, AllByRecursion}
+use Rattle.std.proofs.Common.{◌≡◌, ◌≢◌, ◌<◌, ◌≤◌, ◌+◌, ℕ, Bool, true, cond, ltb, ◌&&◌, List, [], ◌∷◌, ◌++◌, Some, option_and_then, refl, sym, ap, ◌∙◌, subst, arith}
+use Rattle.std.specs.List.{list_all, flat_map, AllByRecursion}
 use Rattle.std.proofs.lemmas.Bool.{and_parts, ltb-true, eq-eqb, ne_eqb}
 use Rattle.std.proofs.lemmas.List.{append_assoc, append-nil}
 use Rattle.std.proofs.lemmas.List.Elements.{All-from_recursion, All-weaker}
@@ -13,10 +13,10 @@ use Rattle.be_model.specs.Schemas.{Attributes}
 use Rattle.be_model.specs.Forms.{attrs_rise}
 use Rattle.be_shape.specs.Plain.{Plain, node, Parts, no_part, part, Half, no_half, half, parts_under}
 use Rattle.be_shape.specs.Shape.{Known, nothing, in_part, in_low, in_high, everywhere, is_placed_at, is_settled_at, is_settled, attrs_of}
-use Rattle.be_shape.specs.Paths.{part_on, in_half, child, walk}
+use Rattle.be_shape.specs.Paths.{part_on, child, walk}
 use Rattle.be_shape.specs.Children.{roots_of, root_of, children, known_below}
 use Rattle.be_shape.specs.NodeList.{NodeAt, node_at, nodes_from, nodes_in_parts, nodes_in_half, nodes, known_along, HoldsAtNodes, PathsLead, IsSettledBut}
-use Rattle.be_shape.proofs.Children.{Each-append, Each-weaker, Each-from_test, in_trees, where_known, Levels, below, everywhere_is, over_children_is}
+use Rattle.be_shape.proofs.Children.{Each-append, Each-weaker, Each-from_test, in_trees, where_known, below, everywhere_is, over_children_is}
 use Rattle.be_shape.proofs.Placed.{placed}
 
 -- the nodes below a child

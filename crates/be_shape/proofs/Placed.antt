@@ -1,5 +1,5 @@
 -- Where a node is placed: by its children, from what is placed at it and below, and back.
-use Rattle.std.proofs.Common.{◌≡◌, Bool, true, false, not, cond, eqb, ◌&&◌, ◌||◌, List, [], ◌∷◌, ◌++◌, Some, None, refl, sym, ap, ◌∙◌, subst, arith}
+use Rattle.std.proofs.Common.{◌≡◌, Bool, true, false, not, cond, eqb, ◌&&◌, ◌||◌, List, ◌∷◌, ◌++◌, Some, refl, ap, subst}
 use Rattle.std.specs.List.{list_all, AllByRecursion}
 use Rattle.std.proofs.lemmas.Bool.{eqb-true, and_parts, and_from}
 use Rattle.be_base.specs.declared.names.AttrNo.{AttrNo}
@@ -10,7 +10,7 @@ use Rattle.be_model.specs.Schemas.{Attributes, numbered}
 use Rattle.be_model.specs.Rows.{has}
 use Rattle.be_model.specs.Forms.{attrs_rise}
 use Rattle.be_shape.specs.Plain.{Plain, node, Parts, no_part, part, Half, no_half, half, rows_below, parts_under}
-use Rattle.be_shape.specs.Shape.{NodeRange, Known, known, in_part, in_low, in_high, everywhere, spans_inside, is_used, attrs_of, parts_fit, can_split, is_here, is_placed_at}
+use Rattle.be_shape.specs.Shape.{NodeRange, Known, known, in_low, in_high, everywhere, spans_inside, is_used, attrs_of, parts_fit, can_split, is_here, is_placed_at}
 use Rattle.be_shape.specs.Children.{roots_of, root_of, children, known_below, is_open, may_pass}
 use Rattle.be_shape.specs.Paths.{part_on, in_half, child, range_below}
 use Rattle.be_shape.specs.Ranges.{may_step, StandsIn}

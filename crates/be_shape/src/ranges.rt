@@ -63,7 +63,9 @@ fn middle(lo: i64, hi: i64) -> i64
 
 /// Whether the range holds at least one of the event's values of its attribute.
 pub fn holds_value(range: NodeRange, e: &Event) -> bool
-    ensures { result ≡ holds_value e.now range }
+    ensures value { result ≡ holds_value e.now range }
+    // An empty range holds none.
+    ensures rising { result ≡ true → is_rising range ≡ true }
 {
     match range {
         Some((a, ends)) => match e.values(a) {

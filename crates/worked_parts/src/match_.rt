@@ -4,9 +4,9 @@ ghost use Rattle.std.specs.Prelude.{◌≡◌, IfOk};
 ghost use Rattle.std.specs.Arc.{arc_value};
 ghost use Rattle.be_model.specs.Rows.{id_of};
 
-use be_base::{AttrNo, Id, Name, NoMemory, SessionNo};
+use be_base::{AttrNo, Id, Name, SET_VALUES, SessionNo};
 use be_match::{cost_of, find_in};
-use be_model::{Conj, Cost, Domain, Event, Found, Op, Pred, Row, Schema};
+use be_model::{Conj, Cost, Domain, Event, Found, Op, Pred, Row, Schema, Values};
 use be_shape::Tree;
 use std::alloc::Global;
 use std::sync::Arc;
@@ -40,11 +40,19 @@ fn row(alloc: Global, id: u64, least: i64) -> Result<Arc<Row>, Fail>
     Ok(Arc::new(alloc, row)?)
 }
 
-fn price(alloc: Global, value: i64) -> Result<Event, Fail> {
+fn prices_event(alloc: Global, prices: &[i64]) -> Result<Event, Fail> {
     let mut event = Event::make(alloc);
-    let item = (AttrNo(0), value);
-    if event.accepts(item) {
-        event.push(item)?;
+    let [first, more @ ..] = prices else {
+        return Ok(event);
+    };
+    let mut values = Values::one(alloc, *first)?;
+    for price in more {
+        if values.as_slice().len() < SET_VALUES {
+            values.insert(*price)?;
+        }
+    }
+    if event.accepts(AttrNo(0)) {
+        event.push((AttrNo(0), values))?;
     }
     Ok(event)
 }
@@ -63,24 +71,40 @@ fn three_rows(alloc: Global) -> Result<Tree, Fail> {
     Ok(tree)
 }
 
+// The ids of the rows that an event of these prices finds, with the cost of the search.
+fn found_by(alloc: Global, tree: &Tree, prices: &[i64]) -> Result<(Vec<u64>, Cost), Fail> {
+    let event = prices_event(alloc, prices)?;
+    let mut found = Found::make(alloc);
+    let mut ids = Vec::new(alloc);
+    let mut cost = Cost::none();
+    if event.lies(&tree.schema) {
+        cost = find_in(tree, &event, &mut found)?;
+        if cost != cost_of(tree, &event) {
+            return Ok((ids, Cost::none()));
+        }
+    }
+    for row in found.rows() {
+        ids.push(row.id.0)?;
+    }
+    Ok((ids, cost))
+}
+
 #[test]
-fn two_of_three_rows_are_found(rt: HostRuntime) -> Result<(), Fail> {
+fn rows_are_found_by_sets_of_prices(rt: HostRuntime) -> Result<(), Fail> {
     let alloc = rt.alloc();
     let tree = three_rows(alloc)?;
     assert_eq!(rt; tree.len(), 3);
-    let event = price(alloc, 7)?;
-    let mut found = Found::make(alloc);
-    assert!(rt; event.lies(&tree.schema));
-    if event.lies(&tree.schema) {
-        let want = Cost {
-            visits: 1,
-            tested: 3,
-        };
-        assert_eq!(rt; find_in(&tree, &event, &mut found)?, want);
-        assert_eq!(rt; cost_of(&tree, &event), want);
-    }
-    let rows = found.rows();
-    assert_eq!(rt; rows.len(), 2);
-    assert_eq!(rt; (rows[0].id.0, rows[1].id.0), (1, 3));
+    let want = Cost {
+        visits: 1,
+        tested: 3,
+    };
+    let two = found_by(alloc, &tree, &[7])?;
+    assert!(rt; two.0.as_slice() == [1, 3].as_slice() && two.1 == want);
+    let all = found_by(alloc, &tree, &[2, 11])?;
+    assert!(rt; all.0.as_slice() == [1, 2, 3].as_slice() && all.1 == want);
+    let none = found_by(alloc, &tree, &[0, 1, 2])?;
+    assert!(rt; none.0.is_empty() && none.1 == want);
+    let unassigned = found_by(alloc, &tree, &[])?;
+    assert!(rt; unassigned.0.is_empty() && unassigned.1 == want);
     Ok(())
 }

@@ -1,44 +1,44 @@
-use Rattle.std.proofs.Common.{rules, ap₂, ◌++◌, drop, ◌≡◌, true, ◌∷◌, [], ◌+◌, length, sym, ap, ◌∙◌, subst, arith}
-use Rattle.std.specs.Option.{is_some}
+use Rattle.std.proofs.Common.{rules, ap₂, ◌++◌, drop, ◌≡◌, true, ◌∷◌, [], ◌+◌, sym, ap, ◌∙◌, subst, arith}
 use Rattle.be_shape.specs.declared.nodes.Node.TheViews.{out-Node, out-Part, the_lemmas}
 use Rattle.be_shape.specs.Plain.{plain, parts_as, half_as, part_as, parts_of}
 use Rattle.be_shape.specs.Shape.{whole, lower, upper}
 use Rattle.be_shape.specs.Search.{visited, visited_in_parts, visited_in_half, all_of}
 use Rattle.be_model.specs.Matching.{satisfied, is_assigned}
 use Rattle.be_model.specs.Costs.{cost}
-use Rattle.be_match.specs.Leaves.{AreCountable, FindsSome, may_enter}
-use Rattle.be_match.proofs.Fronts.{front_on, on_refusal, put_levels, put_step, satisfied_leaves, some_first, some_from, some_in_node}
-use Rattle.be_match.proofs.Sizes.{node_visited, visited_from, may_enter_whole, part_countable, parts_sizes, node_costs, parts_countable, low_countable, high_countable}
+use Rattle.be_match.specs.Leaves.{AreCountable, FindsSome}
+use Rattle.be_base.proofs.Beginnings.{BeginsWith-along}
+use Rattle.be_match.proofs.Fronts.{on_refusal, put_levels, put_step, satisfied_leaves, some_first, some_from, some_in_node}
+use Rattle.be_match.proofs.Sizes.{node_visited, visited_from, part_countable, parts_sizes, node_costs, parts_countable, low_countable, high_countable}
 use Rattle.be_match.proofs.searches.+searches.Goals as goal
 
 pub search_node-search_parts-requires : goal.search_node-search_parts-requires
 search_node-search_parts-requires t c =
-    (search (rules, the_lemmas), (c.requires.lies, subst (λ ps. AreCountable (visited_in_parts c.args.s.now c.args.e.now (parts_as ps))) (sym c.as_slice.ensures.value) (parts_countable c.args.s.now c.args.e.now c.args.range c.args.n.now c.requires.countable)))
+    (search (rules, the_lemmas), subst (λ ps. AreCountable (visited_in_parts c.args.s.now c.args.e.now (parts_as ps))) (sym c.as_slice.ensures.value) (parts_countable c.args.s.now c.args.e.now c.args.range c.args.n.now c.requires.countable))
 
 pub search_node-search_half-requires : goal.search_node-search_half-requires
 search_node-search_half-requires t c =
-    (search (rules, the_lemmas), (c.lower_range.ensures.bounded, (c.requires.lies, subst (λ r. AreCountable (visited_in_half c.args.s.now c.args.e.now r (half_as (out-Node c.args.n.now).low))) (sym c.lower_range.ensures.range) (low_countable c.args.s.now c.args.e.now c.args.range c.args.n.now c.requires.countable))))
+    (search (rules, the_lemmas), (c.lower_range.ensures.bounded, subst (λ r. AreCountable (visited_in_half c.args.s.now c.args.e.now r (half_as (out-Node c.args.n.now).low))) (sym c.lower_range.ensures.range) (low_countable c.args.s.now c.args.e.now c.args.range c.args.n.now c.requires.countable)))
 
 pub search_node-search_half-requires-2 : goal.search_node-search_half-requires-2
 search_node-search_half-requires-2 t c =
-    (search (rules, the_lemmas), (c.upper_range.ensures.bounded, (c.requires.lies, subst (λ r. AreCountable (visited_in_half c.args.s.now c.args.e.now r (half_as (out-Node c.args.n.now).high))) (sym c.upper_range.ensures.range) (high_countable c.args.s.now c.args.e.now c.args.range c.args.n.now c.requires.countable))))
+    (search (rules, the_lemmas), (c.upper_range.ensures.bounded, subst (λ r. AreCountable (visited_in_half c.args.s.now c.args.e.now r (half_as (out-Node c.args.n.now).high))) (sym c.upper_range.ensures.range) (high_countable c.args.s.now c.args.e.now c.args.range c.args.n.now c.requires.countable)))
 
 pub search_node-joined-requires-clause-visits : goal.search_node-joined-requires-clause-visits
 search_node-joined-requires-clause-visits t c =
     let z = node_costs c.args.s.now c.args.e.now c.args.range c.args.n.now c.in_ok-parts.parts c.in_ok-low.low c.in_ok-high.high c.as_slice.result.now c.lower_range.result c.upper_range.result c.as_slice.ensures.value c.lower_range.ensures.range c.upper_range.ensures.range
-        c.in_ok-parts.ensures.cost c.in_ok-low.ensures.cost c.in_ok-high.ensures.cost in
+    c.in_ok-parts.ensures.cost c.in_ok-low.ensures.cost c.in_ok-high.ensures.cost in
     omega (arith, z.visits, c.requires.countable.few)
 
 pub search_node-joined-requires-clause-tested : goal.search_node-joined-requires-clause-tested
 search_node-joined-requires-clause-tested t c =
     let z = node_costs c.args.s.now c.args.e.now c.args.range c.args.n.now c.in_ok-parts.parts c.in_ok-low.low c.in_ok-high.high c.as_slice.result.now c.lower_range.result c.upper_range.result c.as_slice.ensures.value c.lower_range.ensures.range c.upper_range.ensures.range
-        c.in_ok-parts.ensures.cost c.in_ok-low.ensures.cost c.in_ok-high.ensures.cost in
+    c.in_ok-parts.ensures.cost c.in_ok-low.ensures.cost c.in_ok-high.ensures.cost in
     omega (arith, z.tested, c.requires.countable.few_rows)
 
 pub search_node-returns-clause-cost : goal.search_node-returns-clause-cost
 search_node-returns-clause-cost t c =
     let z = node_costs c.args.s.now c.args.e.now c.args.range c.args.n.now c.in_ok-parts.parts c.in_ok-low.low c.in_ok-high.high c.as_slice.result.now c.lower_range.result c.upper_range.result c.as_slice.ensures.value c.lower_range.ensures.range c.upper_range.ensures.range
-        c.in_ok-parts.ensures.cost c.in_ok-low.ensures.cost c.in_ok-high.ensures.cost in
+    c.in_ok-parts.ensures.cost c.in_ok-low.ensures.cost c.in_ok-high.ensures.cost in
     c.joined.ensures ∙ ap₂ cost z.visits z.tested
 
 pub search_part-search_node-requires : goal.search_part-search_node-requires
@@ -47,14 +47,14 @@ search_part-search_node-requires t c =
     let e = c.args.e.now in
     let p = c.args.part.now in
     let h : is_assigned e (out-Part p).attr ≡ true = sym c.enters_part.ensures ∙ c.if-enters_part.true in
-    (search (rules, the_lemmas), (c.whole_range.ensures.bounded, (subst (λ r. may_enter e r ≡ true) (sym c.whole_range.ensures.range) (may_enter_whole s e (out-Part p).attr c.requires.lies h), (c.requires.lies, subst (λ r. AreCountable (visited s e r (plain c.deref.result.now))) (sym c.whole_range.ensures.range) (subst (λ n. AreCountable (visited s e (whole s (out-Part p).attr) (plain n))) (sym c.deref.ensures) (part_countable s e p h c.requires.countable))))))
+    (search (rules, the_lemmas), (c.whole_range.ensures.bounded, (c.whole_range.ensures.rising, subst (λ r. AreCountable (visited s e r (plain c.deref.result.now))) (sym c.whole_range.ensures.range) (subst (λ n. AreCountable (visited s e (whole s (out-Part p).attr) (plain n))) (sym c.deref.ensures) (part_countable s e p h c.requires.countable)))))
 
 pub search_parts-search_part-requires : goal.search_parts-search_part-requires
 search_parts-search_part-requires t c =
     let k = c.requires.countable in
     let i = c.loop-part.invariant in
     let z = parts_sizes c.args.s.now c.args.e.now c.args.parts.now c.loop-part.part-index c.part-item.result (omega (arith, c.loop-part-test.true)) c.part-item.is in
-    (search (rules, the_lemmas), (c.requires.lies, record { few = omega (arith, z.visits, k.few, i.0); few_rows = omega (arith, z.tested, k.few_rows, i.1) }))
+    (search (rules, the_lemmas), record { few = omega (arith, z.visits, k.few, i.0); few_rows = omega (arith, z.tested, k.few_rows, i.1) })
 
 pub search_node-returns-clause-put : goal.search_node-returns-clause-put
 search_node-returns-clause-put t c =
@@ -100,7 +100,7 @@ search_parts-loop-part-preserved t c =
       omega (arith, z.tested, i.1, ap (λ x. x.tested) c.in_ok-search_part.ensures.cost, ap (λ x. x.tested) c.plus-cost.ensures),
       put_step was is (satisfied e (all_of (visited_in_parts s e (parts_as (drop n ps))))) (satisfied e (all_of first)) (satisfied e (all_of rest))
           (c.args.found.now.rows ++ satisfied e (all_of (visited_in_parts s e (parts_as ps)))) i.2 two c.in_ok-search_part.ensures.put,
-      front_on c.args.found.now.rows was is i.3 c.in_ok-search_part.ensures.front,
+      BeginsWith-along is was c.args.found.now.rows c.in_ok-search_part.ensures.front i.3,
       omega (arith, i.4, c.in_ok-search_part.ensures.room),
     )
 

@@ -2,7 +2,8 @@ use Rattle.std.proofs.Common.{◌+◌, ◌++◌, ◌∷◌, [], drop, arith}
 use Rattle.std.specs.Arc.{arc_value}
 use Rattle.be_model.specs.Matching.{satisfied}
 use Rattle.be_match.specs.Leaves.{FindsSome}
-use Rattle.be_match.proofs.Fronts.{front_on, on_refusal, put_step, satisfied_at, some_first, some_from}
+use Rattle.be_base.proofs.Beginnings.{BeginsWith-along}
+use Rattle.be_match.proofs.Fronts.{on_refusal, put_step, satisfied_at, some_first, some_from}
 use Rattle.be_match.proofs.searches.search_leaf.Goals as goal
 
 pub loop-place-preserved : goal.loop-place-preserved
@@ -15,7 +16,7 @@ loop-place-preserved c =
     let is = c.test.new.found.rows in (
       put_step was is (satisfied e (drop i rows)) (satisfied e (x ∷ [])) (satisfied e (drop (i + 1) rows)) (c.args.found.now.rows ++ satisfied e rows) c.loop-place.invariant.0
           (satisfied_at e rows i x c.row.ensures) c.in_ok-test.ensures.put,
-      front_on c.args.found.now.rows was is c.loop-place.invariant.1 c.in_ok-test.ensures.front,
+      BeginsWith-along is was c.args.found.now.rows c.in_ok-test.ensures.front c.loop-place.invariant.1,
       omega (arith, c.loop-place.invariant.2, c.in_ok-test.ensures.room),
     )
 
