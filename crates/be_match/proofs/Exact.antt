@@ -127,7 +127,7 @@ none_in_half s e (Some r) rows el ms si h k = none_in_range s e r rows el ms si 
 
 -- no row below a step that a search doesn't enter is satisfied
 none_passed : (s : Attributes) (e : Assignments) (hop : Hop) (k : Known) (rows : List Row) → event_lies s e ≡ true → list_all (may_stand s) rows ≡ true
-    → is_open hop k ≡ true → list_all (may_pass s hop k) rows ≡ true → enters s e k.range hop ≡ false → satisfied e rows ≡ []
+    → is_open hop k ≡ true → list_all (may_pass s hop k.range) rows ≡ true → enters s e k.range hop ≡ false → satisfied e rows ≡ []
 none_passed s e (Part a) k rows el ms may pass out = none_in_part e a rows out pass
 none_passed s e Low k rows el ms may pass out =
     none_in_half s e (lower k.range) rows el ms pass (lower_is k.range may) out
@@ -148,14 +148,14 @@ chosen : (e : Assignments) (b : Bool) (v : List (List Row)) (rows : List Row) �
 chosen e true v rows h k = h refl
 chosen e false v rows h k = sym (k refl)
 
-in_child : (s : Attributes) (e : Assignments) (k : Known) (x : Hop × Plain) → event_lies s e ≡ true → is_open x.0 k ≡ true → list_all (may_pass s x.0 k) (rows_below x.1) ≡ true
+in_child : (s : Attributes) (e : Assignments) (k : Known) (x : Hop × Plain) → event_lies s e ≡ true → is_open x.0 k ≡ true → list_all (may_pass s x.0 k.range) (rows_below x.1) ≡ true
     → IsExact s e (known_below s x.0 k) x.1 → list_all (may_stand s) (rows_below x.1) ≡ true → satisfied e (all_of (visited_of s e k.range x)) ≡ satisfied e (rows_below x.1)
 in_child s e k x el may pass claim ms =
     chosen e (enters s e k.range x.0) (visited s e (range_below s x.0 k.range) x.1) (rows_below x.1) (λ _. ap (λ r. satisfied e (all_of (visited s e r x.1))) (sym (range_known s x.0 k)) ∙ claim ms)
     (none_passed s e x.0 k (rows_below x.1) el ms may pass)
 
 in_children : (s : Attributes) (e : Assignments) (k : Known) (xs : List (Hop × Plain)) → event_lies s e ≡ true → AllByRecursion (λ (x : Hop × Plain). is_open x.0 k ≡ true) xs
-    → AllByRecursion (λ (x : Hop × Plain). list_all (may_pass s x.0 k) (rows_below x.1) ≡ true) xs → AllByRecursion (λ (x : Hop × Plain). IsExact s e (known_below s x.0 k) x.1) xs
+    → AllByRecursion (λ (x : Hop × Plain). list_all (may_pass s x.0 k.range) (rows_below x.1) ≡ true) xs → AllByRecursion (λ (x : Hop × Plain). IsExact s e (known_below s x.0 k) x.1) xs
     → list_all (may_stand s) (flat_map rows_of xs) ≡ true → satisfied e (all_of (flat_map (visited_of s e k.range) xs)) ≡ satisfied e (flat_map rows_of xs)
 in_children s e k [] el may pass claims ms = refl
 in_children s e k (x ∷ xs) el may pass claims ms =

@@ -105,7 +105,7 @@ high_share : (s : Attributes) (e : Assignments) (k : Known) (row : Row) → can_
 high_share s e k row h = omega (arith, high_left k.range h)
 
 -- below a step that is entered, a row that may pass has a share that is less
-pub share_below : (s : Attributes) (e : Assignments) (hop : Hop) (k : Known) (row : Row) → is_open hop k ≡ true → enters s e k.range hop ≡ true → may_pass s hop k row ≡ true → share s e (known_below s hop k) row + 1 ≤ share s e k row
+pub share_below : (s : Attributes) (e : Assignments) (hop : Hop) (k : Known) (row : Row) → is_open hop k ≡ true → enters s e k.range hop ≡ true → may_pass s hop k.range row ≡ true → share s e (known_below s hop k) row + 1 ≤ share s e k row
 share_below s e (Part a) k row may entered passed =
     part_share s e k a row (not-true (is_used k.used a) may) entered passed
 share_below s e Low k row may entered passed = low_share s e k row may

@@ -29,12 +29,12 @@ abbrev IsPaid : Attributes → Assignments → Known → Plain → Type 0
 IsPaid s e k n = everywhere is_pruned_at s k n ≡ true → length (visited s e k.range n) ≤ 1 + sum_by (share s e k) (rows_below n)
 
 in_children : (s : Attributes) (e : Assignments) (k : Known) (xs : List (Hop × Plain)) → AllByRecursion (λ (x : Hop × Plain). is_open x.0 k ≡ true) xs
-    → AllByRecursion (λ (x : Hop × Plain). list_all (may_pass s x.0 k) (rows_below x.1) ≡ true) xs → list_all holds_rows xs ≡ true → AllByRecursion (λ (x : Hop × Plain). below is_pruned_at s k x ≡ true) xs
+    → AllByRecursion (λ (x : Hop × Plain). list_all (may_pass s x.0 k.range) (rows_below x.1) ≡ true) xs → list_all holds_rows xs ≡ true → AllByRecursion (λ (x : Hop × Plain). below is_pruned_at s k x ≡ true) xs
     → AllByRecursion (λ (x : Hop × Plain). IsPaid s e (known_below s x.0 k) x.1) xs → length (flat_map (visited_of s e k.range) xs) ≤ sum_by (share s e k) (flat_map rows_of xs)
 in_children s e k [] may pass hold pruned claims = omega arith
 in_children s e k (x ∷ xs) may pass hold pruned claims =
     let h = and_parts (is_some (rows_below x.1)) (list_all holds_rows xs) hold in
-    let first = paid (enters s e k.range x.0) (visited s e (range_below s x.0 k.range) x.1) (sum_by (share s e (known_below s x.0 k)) (rows_below x.1)) (sum_by (share s e k) (rows_below x.1)) (λ _. subst (λ r. length (visited s e r x.1) ≤ 1 + sum_by (share s e (known_below s x.0 k)) (rows_below x.1)) (range_known s x.0 k) (claims.0 pruned.0)) (λ entered. rows_pay (share s e (known_below s x.0 k)) (share s e k) (may_pass s x.0 k) (rows_below x.1) pass.0 (λ row passed. share_below s e x.0 k row may.0 entered passed) h.0) in
+    let first = paid (enters s e k.range x.0) (visited s e (range_below s x.0 k.range) x.1) (sum_by (share s e (known_below s x.0 k)) (rows_below x.1)) (sum_by (share s e k) (rows_below x.1)) (λ _. subst (λ r. length (visited s e r x.1) ≤ 1 + sum_by (share s e (known_below s x.0 k)) (rows_below x.1)) (range_known s x.0 k) (claims.0 pruned.0)) (λ entered. rows_pay (share s e (known_below s x.0 k)) (share s e k) (may_pass s x.0 k.range) (rows_below x.1) pass.0 (λ row passed. share_below s e x.0 k row may.0 entered passed) h.0) in
     omega (arith, first, in_children s e k xs may.1 pass.1 h.1 pruned.1 claims.1, length-append (visited_of s e k.range x) (flat_map (visited_of s e k.range) xs), sum_by-append (share s e k) (rows_below x.1) (flat_map rows_of xs))
 
 within : (s : Attributes) (e : Assignments) (k : Known) (n : Plain) → everywhere (is_placed_at s) s k n ≡ true → IsPaid s e k n

@@ -35,7 +35,7 @@ pruned_is k (node rows parts low high) =
 
 -- drawn: no row of the leaf may pass to a child
 abbrev pub passes_one : Attributes → Known → List (Hop × Plain) → Row → Bool
-passes_one s k xs row = list_any (λ (x : Hop × Plain). may_pass s x.0 k row) xs
+passes_one s k xs row = list_any (λ (x : Hop × Plain). may_pass s x.0 k.range row) xs
 
 passes_part : (s : Attributes) (k : Known) (parts : Parts) (row : Row) → list_any (λ a. has a row) (attrs_of parts) ≡ passes_one s k (roots_of parts) row
 passes_part s k no_part row = refl
@@ -56,7 +56,7 @@ passes_high s k (half n) row = or_false (spans_inside s (in_high k).range row)
 passes_is : (s : Attributes) (k : Known) (rows : List Row) (parts : Parts) (low high : Half) (row : Row)
     → (list_any (λ a. has a row) (attrs_of parts) || fits_half s (in_low k) low row || fits_half s (in_high k) high row) ≡ passes_one s k (children (node rows parts low high)) row
 passes_is s k rows parts low high row =
-    let p = λ (x : Hop × Plain). may_pass s x.0 k row in
+    let p = λ (x : Hop × Plain). may_pass s x.0 k.range row in
     ap (λ b. b || fits_half s (in_low k) low row || fits_half s (in_high k) high row) (passes_part s k parts row) ∙ ap (λ b. list_any p (roots_of parts) || b || fits_half s (in_high k) high row) (passes_low s k low row)
     ∙ ap (λ b. list_any p (roots_of parts) || list_any p (root_of Low low) || b) (passes_high s k high row)
     ∙ sym (list_any-append p (roots_of parts ++ root_of Low low) (root_of High high) ∙ ap (λ b. b || list_any p (root_of High high)) (list_any-append p (roots_of parts) (root_of Low low)))

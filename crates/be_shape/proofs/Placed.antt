@@ -20,14 +20,14 @@ abbrev Open : Known → Hop × Plain → Type 0
 Open k x = is_open x.0 k ≡ true
 
 abbrev Passes : Attributes → Known → Hop × Plain → Type 0
-Passes s k x = list_all (may_pass s x.0 k) (rows_below x.1) ≡ true
+Passes s k x = list_all (may_pass s x.0 k.range) (rows_below x.1) ≡ true
 
 -- where a node is placed, by its children: their steps may be made, and the rows below them may pass
 pub record Placed (s : Attributes) (k : Known) (n : Plain) : Type 0 where
   pub rise : attrs_rise (attrs_of (parts_under n)) ≡ true
   pub inside : list_all (spans_inside s k.range) (rows_below n) ≡ true
   pub open_steps : AllByRecursion (λ (x : Hop × Plain). is_open x.0 k ≡ true) (children n)
-  pub pass : AllByRecursion (λ (x : Hop × Plain). list_all (may_pass s x.0 k) (rows_below x.1) ≡ true) (children n)
+  pub pass : AllByRecursion (λ (x : Hop × Plain). list_all (may_pass s x.0 k.range) (rows_below x.1) ≡ true) (children n)
 
 -- what is said of the halves, of the low or of the high one
 abbrev Splits : Known → Half → Type 0
