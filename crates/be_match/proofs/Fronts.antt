@@ -1,33 +1,14 @@
 -- Lists that grow, and what is satisfied in a list.
-use Rattle.std.proofs.Common.{◌≡◌, ℕ, ◌+◌, ◌<◌, ◌≤◌, Bool, true, false, cond, List, [], ◌∷◌, ◌++◌, length, take, drop, get_or, slice_get, Some, zero, suc, refl, sym, ap, ◌∙◌, arith, length-append}
-use Rattle.std.proofs.lemmas.List.{append_assoc, append-nil, drop_more}
+use Rattle.std.proofs.Common.{◌≡◌, ℕ, ◌+◌, ◌<◌, Bool, true, false, cond, List, [], ◌∷◌, ◌++◌, Ok, Err, Result, OnErr, length, drop, get_or, slice_get, Some, zero, suc, refl, sym, ap, ◌∙◌, arith, length-append}
+use Rattle.std.proofs.lemmas.List.{append_assoc, drop_more}
 use Rattle.std.proofs.lemmas.Option.{slice_get_within}
 use Rattle.be_model.specs.declared.changes.Row.{Row}
 use Rattle.be_model.specs.Matching.{Assignments, satisfies, satisfied}
 use Rattle.be_shape.specs.Search.{all_of}
-use Rattle.be_match.specs.Leaves.{BeginsWith}
+use Rattle.be_base.specs.Lists.{BeginsWith}
+use Rattle.be_base.proofs.Beginnings.{BeginsWith-length}
+use Rattle.be_match.specs.Leaves.{FindsSome}
 use Rattle.be_match.proofs.Sizes.{all_of_append}
-
-pub front_same : (xs : List Row) → BeginsWith xs xs
-front_same xs = record { more = []; is = sym (append-nil xs) }
-
-pub front_more : (xs ys zs : List Row) → ys ≡ xs ++ zs → BeginsWith xs ys
-front_more xs ys zs h = record { more = zs; is = h }
-
-pub front_on : (xs ys zs : List Row) → BeginsWith xs ys → BeginsWith ys zs → BeginsWith xs zs
-front_on xs ys zs a b =
-    record { more = a.more ++ b.more; is = b.is ∙ ap (λ l. l ++ b.more) a.is ∙ append_assoc xs a.more b.more }
-
-pub front_length : (xs ys : List Row) → BeginsWith xs ys → length xs ≤ length ys
-front_length xs ys a = omega (arith, ap length a.is, length-append xs a.more)
-
-take_front : (xs ys : List Row) → take (length xs) (xs ++ ys) ≡ xs
-take_front [] ys = refl
-take_front (x ∷ xs) ys = ap (λ l. x ∷ l) (take_front xs ys)
-
--- the front is what is left where the rest is cut off
-pub front_taken : (xs ys : List Row) → BeginsWith xs ys → take (length xs) ys ≡ xs
-front_taken xs ys a = ap (take (length xs)) a.is ∙ take_front xs a.more
 
 kept_step : (e : Assignments) (b : Bool) (x : Row) (xs ys : List Row) → cond b (x ∷ (xs ++ ys)) (xs ++ ys) ≡ cond b (x ∷ xs) xs ++ ys
 kept_step e true x xs ys = refl
@@ -63,6 +44,44 @@ put_levels e r0 r1 r2 r3 r4 leaf p l h a b c d =
     let all : satisfied e (all_of (leaf ∷ p ++ l ++ h)) ≡ x ++ ((y ++ z) ++ w) =
     satisfied_append e leaf (all_of (p ++ l ++ h)) ∙ ap (λ q. x ++ q) (satisfied_leaves e (p ++ l) h ∙ ap (λ q. q ++ w) (satisfied_leaves e p l)) in
     put_on r0 r1 r4 x ((y ++ z) ++ w) a (put_on r1 r3 r4 (y ++ z) w (put_on r1 r2 r3 y z b c) d) ∙ ap (λ q. r0 ++ q) (sym all)
+
+-- where something is found in the leaf, in the parts or in a half, it is found in the node
+pub record SomeInNode (e : Assignments) (leaf : List Row) (p l h : List (List Row)) : Type 0 where
+  pub here : FindsSome e leaf → FindsSome e (all_of (leaf ∷ p ++ l ++ h))
+  pub in_parts : FindsSome e (all_of p) → FindsSome e (all_of (leaf ∷ p ++ l ++ h))
+  pub in_low : FindsSome e (all_of l) → FindsSome e (all_of (leaf ∷ p ++ l ++ h))
+  pub in_high : FindsSome e (all_of h) → FindsSome e (all_of (leaf ∷ p ++ l ++ h))
+
+pub some_in_node : (e : Assignments) (leaf : List Row) (p l h : List (List Row)) → SomeInNode e leaf p l h
+some_in_node e leaf p l h =
+    let n = length (satisfied e leaf) in
+    let a = length (satisfied e (all_of p)) in
+    let b = length (satisfied e (all_of l)) in
+    let c = length (satisfied e (all_of h)) in
+    let all : length (satisfied e (all_of (leaf ∷ p ++ l ++ h))) ≡ n + (a + b + c) =
+    omega (
+      arith,
+      ap length (satisfied_append e leaf (all_of (p ++ l ++ h))),
+      length-append (satisfied e leaf) (satisfied e (all_of (p ++ l ++ h))),
+      ap length (satisfied_leaves e (p ++ l) h),
+      length-append (satisfied e (all_of (p ++ l))) (satisfied e (all_of h)),
+      ap length (satisfied_leaves e p l),
+      length-append (satisfied e (all_of p)) (satisfied e (all_of l)),
+    ) in
+    record { here = λ t. omega arith; in_parts = λ t. omega arith; in_low = λ t. omega arith; in_high = λ t. omega arith }
+
+-- what holds, holds where something is refused
+pub on_refusal : {A B : Type 0} (r : Result A B) (P : Type 0) → P → OnErr r P
+on_refusal (Ok x) P h = tt
+on_refusal (Err x) P h = h
+
+pub some_first : (all first rest : List Row) → all ≡ first ++ rest → 0 < length first → 0 < length all
+some_first all first rest h l = omega (arith, ap length h, length-append first rest)
+
+-- where something is found from a place on, it is found in all
+pub some_from : (was found all rest : List Row) → found ++ rest ≡ was ++ all → BeginsWith found was → 0 < length rest → 0 < length all
+some_from was found all rest h front l =
+    omega (arith, ap length h, length-append found rest, length-append was all, BeginsWith-length found was front)
 
 -- what was put, and what is still to be put, one step on
 pub put_step : (found put a b c all : List Row) → found ++ a ≡ all → a ≡ b ++ c → put ≡ found ++ b → put ++ c ≡ all

@@ -1,22 +1,18 @@
 -- The leaves that a search visits, one level at a time, and how many they are.
-use Rattle.std.proofs.Common.{◌≡◌, ℕ, ℤ, ◌+◌, ◌<◌, true, cond, List, [], ◌∷◌, ◌++◌, length, drop, get_or, Option, Some, None, option_map, subst, refl, sym, ap, ◌∙◌, arith, length-append}
+use Rattle.std.proofs.Common.{◌≡◌, ℕ, ◌+◌, ◌<◌, true, cond, List, [], ◌∷◌, ◌++◌, length, drop, get_or, subst, refl, sym, ap, ◌∙◌, arith, length-append}
 use Rattle.std.proofs.lemmas.List.{append_assoc, append-nil, drop_more}
-use Rattle.std.specs.Option.{is_some}
-use Rattle.be_base.specs.declared.names.AttrNo.{AttrNo}
 use Rattle.be_model.specs.declared.changes.Row.{Row}
-use Rattle.be_model.specs.Domains.{Range}
-use Rattle.be_model.specs.Schemas.{Attributes, range_of}
-use Rattle.be_model.specs.Matching.{Assignments, value_of, is_assigned}
-use Rattle.be_model.specs.Lies.{event_lies}
-use Rattle.be_model.proofs.InSchema.{value_within}
+use Rattle.be_model.specs.Schemas.{Attributes}
+use Rattle.be_model.specs.Matching.{Assignments, is_assigned}
+use Rattle.be_model.specs.declared.costs.Cost.{Cost}
 use Rattle.be_shape.specs.declared.nodes.Node.{Node}
 use Rattle.be_shape.specs.declared.nodes.Part.{Part}
 use Rattle.be_shape.specs.declared.nodes.Node.TheViews.{out-Node, out-Part}
 use Rattle.be_shape.specs.Plain.{plain, part_as, parts_of, parts_as, half_as}
 use Rattle.be_shape.specs.Shape.{NodeRange, whole, lower, upper}
-use Rattle.be_shape.specs.Search.{value_inside, visited, visited_in_parts, visited_in_half, all_of}
+use Rattle.be_shape.specs.Search.{visited, visited_in_parts, visited_in_half, all_of}
 use Rattle.be_shape.proofs.Plains.{plain_out, part_out}
-use Rattle.be_match.specs.Leaves.{AreCountable, may_enter}
+use Rattle.be_match.specs.Leaves.{AreCountable, cost_of_leaves}
 
 -- the rows of two lists of leaves
 pub all_of_append : (xs ys : List (List Row)) → all_of (xs ++ ys) ≡ all_of xs ++ all_of ys
@@ -51,6 +47,24 @@ node_sizes s e r n =
     record {
       visits = ap length (node_visited s e r n) ∙ sum_leaves x a b c;
       tested = ap (λ leaves. length (all_of leaves)) (node_visited s e r n) ∙ sum_rows x a b c;
+    }
+
+-- what a node costs, from what its parts and halves cost
+pub record NodeCosts (s : Attributes) (e : Assignments) (r : NodeRange) (n : Node) (p l h : Cost) : Type 0 where
+  pub visits : 1 + p.visits + l.visits + h.visits ≡ length (visited s e r (plain n))
+  pub tested : length (out-Node n).leaf + p.tested + l.tested + h.tested ≡ length (all_of (visited s e r (plain n)))
+
+pub node_costs : (s : Attributes) (e : Assignments) (r : NodeRange) (n : Node) (p l h : Cost) (ps : List Part) (low high : NodeRange) → ps ≡ (out-Node n).parts.items → low ≡ lower r → high ≡ upper r
+    → p ≡ cost_of_leaves (visited_in_parts s e (parts_as ps)) → l ≡ cost_of_leaves (visited_in_half s e low (half_as (out-Node n).low)) → h ≡ cost_of_leaves (visited_in_half s e high (half_as (out-Node n).high))
+    → NodeCosts s e r n p l h
+node_costs s e r n p l h ps low high eps el eh ep eq er =
+    let z = node_sizes s e r n in
+    let a = ep ∙ ap (λ q. cost_of_leaves (visited_in_parts s e (parts_as q))) eps in
+    let b = eq ∙ ap (λ q. cost_of_leaves (visited_in_half s e q (half_as (out-Node n).low))) el in
+    let c = er ∙ ap (λ q. cost_of_leaves (visited_in_half s e q (half_as (out-Node n).high))) eh in
+    record {
+      visits = omega (arith, z.visits, ap (λ q. q.visits) a, ap (λ q. q.visits) b, ap (λ q. q.visits) c);
+      tested = omega (arith, z.tested, ap (λ q. q.tested) a, ap (λ q. q.tested) b, ap (λ q. q.tested) c);
     }
 
 -- what a search of parts visits: what it visits in the first, and in the others
@@ -96,15 +110,6 @@ parts_sizes s e ps i p l is =
     let b = visited_in_parts s e (parts_as (drop (i + 1) ps)) in
     let v = visited_from s e ps i p l is in
     record { visits = ap length v ∙ length-append a b; tested = ap (λ leaves. length (all_of leaves)) v ∙ rows_append a b }
-
--- the root of a part whose attribute has a value may be entered
-pub may_enter_whole : (s : Attributes) (e : Assignments) (a : AttrNo) → event_lies s e ≡ true → is_assigned e a ≡ true → may_enter e (whole s a) ≡ true
-may_enter_whole s e a lies h = by_cases (value_of e a) (range_of s a) refl refl h
-  where
-    by_cases : (o : Option ℤ) (d : Option Range) → value_of e a ≡ o → range_of s a ≡ d → is_some o ≡ true → may_enter e (option_map (λ r. (a, r)) d) ≡ true
-    by_cases None d k l t = absurd (cc)
-    by_cases (Some v) None k l t = refl
-    by_cases (Some v) (Some r) k l t = ap (value_inside r) k ∙ value_within s e a v r lies k l
 
 -- what is counted in a part
 pub part_countable : (s : Attributes) (e : Assignments) (p : Part) → is_assigned e (out-Part p).attr ≡ true → AreCountable (visited_in_parts s e (parts_of (part_as p ∷ [])))

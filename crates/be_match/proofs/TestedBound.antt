@@ -1,20 +1,27 @@
 -- A search tests at most 16 rows at each node, and rows whose every attribute is assigned.
-use Rattle.std.proofs.Common.{◌≡◌, ℕ, ◌+◌, ◌*◌, ◌≤◌, Bool, true, false, cond, eqb, leb, ◌||◌, List, [], ◌∷◌, ◌++◌, length, refl, ap, ◌∙◌, sym, arith, length-append}
-use Rattle.std.specs.List.{count_by, list_all}
+use Rattle.std.proofs.Common.{◌≡◌, ℕ, ◌+◌, ◌*◌, ◌≤◌, Bool, true, false, cond, eqb, leb, ◌||◌, List, [], ◌∷◌, ◌++◌, length, None, refl, ap, ◌∙◌, sym, subst, arith, length-append}
+use Rattle.std.specs.List.{count_by, list_all, flat_map, AllByRecursion}
 use Rattle.std.proofs.lemmas.Bool.{eqb-true}
 use Rattle.std.proofs.lemmas.Bool.Decides.{nat_tests}
 use Rattle.std.proofs.lemmas.List.Sums.{sum_by-cons, sum_by-append}
 use Rattle.be_base.specs.declared.names.AttrNo.{AttrNo}
-use Rattle.be_model.specs.declared.conditions.Pred.{Pred}
+use Rattle.be_model.specs.declared.preds.Pred.{Pred}
 use Rattle.be_model.specs.declared.changes.Row.{Row}
 use Rattle.be_model.specs.Schemas.{Attributes, numbered}
 use Rattle.be_model.specs.Matching.{Assignments, is_assigned}
 use Rattle.be_model.specs.Bounds.{is_covered, tested_bound}
 use Rattle.be_model.proofs.Attributes.{and_left, and_right, and_both}
-use Rattle.be_shape.specs.Plain.{Plain, node, Parts, no_part, part, Half, no_half, half, rows_below, rows_in_parts, rows_in_half}
-use Rattle.be_shape.specs.Shape.{whole, Known, nothing, in_part, in_low, in_high, everywhere, in_all_parts, in_a_half, is_used, is_settled_at, is_stuck, is_between}
-use Rattle.be_shape.specs.Search.{holds_value, visited, visited_in_parts, visited_in_half, visits, tested, all_of}
-use Rattle.be_shape.proofs.Placed.{levels}
+use Rattle.be_shape.specs.Plain.{Plain, node, rows_below, leaf_of}
+use Rattle.be_shape.specs.Shape.{NodeRange, Known, nothing, everywhere, is_used, is_settled_at, is_stuck, is_between}
+use Rattle.be_shape.specs.Search.{enters, visited, visits, tested, all_of}
+use Rattle.std.proofs.lemmas.Bool.{and_from}
+use Rattle.be_model.specs.declared.paths.Hop.{Hop}
+use Rattle.be_model.specs.declared.paths.Hop.TheVariants.{Part, Low, High}
+use Rattle.be_shape.specs.Children.{children, known_below}
+use Rattle.be_shape.specs.Paths.{range_below}
+use Rattle.be_shape.proofs.Children.{in_trees, where_known, rows_of, rows_are}
+use Rattle.be_shape.proofs.Visited.{visited_of, visited_is}
+use Rattle.be_match.proofs.Exact.{range_known}
 use Rattle.be_match.proofs.Sizes.{rows_append}
 
 -- a used attribute is assigned
@@ -61,33 +68,36 @@ either : (b : Bool) (v : List (List Row)) (n : ℕ) → (b ≡ true → length (
 either true v n h = h refl
 either false v n h = omega arith
 
-mutual
-  within : (s : Attributes) (e : Assignments) (k : Known) (n : Plain) → everywhere (is_settled_at s) s k n ≡ true → list_all (is_assigned e) k.used ≡ true
-      → length (all_of (visited s e k.range n)) ≤ 16 * length (visited s e k.range n) + count_by (is_covered e) (rows_below n)
-  within s e k (node rows parts low high) settled given =
-      let f : Row → ℕ = λ x. cond (is_covered e x) 1 0 in
-      let l = levels (is_settled_at s) s k rows parts low high settled in
-      let a = visited_in_parts s e parts in
-      let b = visited_in_half s e (in_low k).range low in
-      let c = visited_in_half s e (in_high k).range high in
-      omega (arith, leaf_within s e k rows given l.here, within_parts s e k parts l.in_parts given, within_half s e (in_low k) low l.in_lower given, within_half s e (in_high k) high l.in_upper given, length-append (a ++ b) c, length-append a b, length-append rows (all_of (a ++ b ++ c)), rows_append (a ++ b) c, rows_append a b, sum_by-append f (rows ++ rows_in_parts parts ++ rows_in_half low) (rows_in_half high), sum_by-append f (rows ++ rows_in_parts parts) (rows_in_half low), sum_by-append f rows (rows_in_parts parts))
+abbrev IsTested : Attributes → Assignments → Known → Plain → Type 0
+IsTested s e k n = list_all (is_assigned e) k.used ≡ true → length (all_of (visited s e k.range n)) ≤ 16 * length (visited s e k.range n) + count_by (is_covered e) (rows_below n)
 
-  within_parts : (s : Attributes) (e : Assignments) (k : Known) (parts : Parts) → in_all_parts (is_settled_at s) s k parts ≡ true → list_all (is_assigned e) k.used ≡ true
-      → length (all_of (visited_in_parts s e parts)) ≤ 16 * length (visited_in_parts s e parts) + count_by (is_covered e) (rows_in_parts parts)
-  within_parts s e k no_part settled given = omega arith
-  within_parts s e k (part a root more) settled given =
-      let f : Row → ℕ = λ x. cond (is_covered e x) 1 0 in
-      let v = cond (is_assigned e a) (visited s e (whole s a) root) [] in
-      let w = visited_in_parts s e more in
-      let first = either (is_assigned e a) (visited s e (whole s a) root) (count_by (is_covered e) (rows_below root)) (λ h. within s e (in_part s a k) root (and_left (everywhere (is_settled_at s) s (in_part s a k) root) (in_all_parts (is_settled_at s) s k more) settled) (and_both (is_assigned e a) (list_all (is_assigned e) k.used) h given)) in
-      let others = within_parts s e k more (and_right (everywhere (is_settled_at s) s (in_part s a k) root) (in_all_parts (is_settled_at s) s k more) settled) given in
-      omega (arith, first, others, length-append v w, rows_append v w, sum_by-append f (rows_below root) (rows_in_parts more))
+-- where a step is entered, the attributes that are used below it are assigned
+given_below : (s : Attributes) (e : Assignments) (hop : Hop) (k : Known) → list_all (is_assigned e) k.used ≡ true → enters s e k.range hop ≡ true → list_all (is_assigned e) (known_below s hop k).used ≡ true
+given_below s e (Part a) k given h = and_from (is_assigned e a) (list_all (is_assigned e) k.used) h given
+given_below s e Low k given h = given
+given_below s e High k given h = given
 
-  within_half : (s : Attributes) (e : Assignments) (k : Known) (h : Half) → in_a_half (is_settled_at s) s k h ≡ true → list_all (is_assigned e) k.used ≡ true
-      → length (all_of (visited_in_half s e k.range h)) ≤ 16 * length (visited_in_half s e k.range h) + count_by (is_covered e) (rows_in_half h)
-  within_half s e k no_half settled given = omega arith
-  within_half s e k (half n) settled given =
-      either (holds_value e k.range) (visited s e k.range n) (count_by (is_covered e) (rows_below n)) (λ _. within s e k n settled given)
+in_children : (s : Attributes) (e : Assignments) (k : Known) (xs : List (Hop × Plain)) → list_all (is_assigned e) k.used ≡ true → AllByRecursion (λ (x : Hop × Plain). IsTested s e (known_below s x.0 k) x.1) xs
+    → length (all_of (flat_map (visited_of s e k.range) xs)) ≤ 16 * length (flat_map (visited_of s e k.range) xs) + count_by (is_covered e) (flat_map rows_of xs)
+in_children s e k [] given claims = omega arith
+in_children s e k (x ∷ xs) given claims =
+    let f : Row → ℕ = λ y. cond (is_covered e y) 1 0 in
+    let v = visited_of s e k.range x in
+    let w = flat_map (visited_of s e k.range) xs in
+    let first = either (enters s e k.range x.0) (visited s e (range_below s x.0 k.range) x.1) (count_by (is_covered e) (rows_below x.1)) (λ h. subst (λ r. length (all_of (visited s e r x.1)) ≤ 16 * length (visited s e r x.1) + count_by (is_covered e) (rows_below x.1)) (range_known s x.0 k) (claims.0 (given_below s e x.0 k given h))) in
+    omega (arith, first, in_children s e k xs given claims.1, length-append v w, rows_append v w, sum_by-append f (rows_below x.1) (flat_map rows_of xs))
+
+settled_here : (s : Attributes) (e : Assignments) (k : Known) (n : Plain) → is_settled_at s k n ≡ true → list_all (is_assigned e) k.used ≡ true → length (leaf_of n) ≤ 16 + count_by (is_covered e) (leaf_of n)
+settled_here s e k (node rows parts low high) h given = leaf_within s e k rows given h
+
+within : (s : Attributes) (e : Assignments) (k : Known) (n : Plain) → everywhere (is_settled_at s) s k n ≡ true → IsTested s e k n
+within s e =
+    where_known (is_settled_at s) s (IsTested s e)
+    (λ k n l claims given. let f : Row → ℕ = λ y. cond (is_covered e y) 1 0 in
+    let w = flat_map (visited_of s e k.range) (children n) in
+    subst (λ v. length (all_of v) ≤ 16 * length v + count_by (is_covered e) (rows_below n)) (sym (visited_is s e k.range n))
+    (subst (λ rows. length (leaf_of n ++ all_of w) ≤ 16 * length (leaf_of n ∷ w) + count_by (is_covered e) rows) (sym (rows_are n))
+    (omega (arith, settled_here s e k n l.here given, in_children s e k (children n) given claims, length-append (leaf_of n) (all_of w), sum_by-append f (leaf_of n) (flat_map rows_of (children n))))))
 
 pub tested_within : (s : Attributes) (e : Assignments) (n : Plain) → everywhere (is_settled_at s) s nothing n ≡ true → tested s e n ≤ tested_bound e (visits s e n) (rows_below n)
 tested_within s e n settled = within s e nothing n settled refl
@@ -97,23 +107,17 @@ none_or_all : (b : Bool) (v : List (List Row)) (n : ℕ) → length (all_of v) �
 none_or_all true v n h = h
 none_or_all false v n h = omega arith
 
-mutual
-  below : (s : Attributes) (e : Assignments) (k : Known) (n : Plain) → length (all_of (visited s e k.range n)) ≤ length (rows_below n)
-  below s e k (node rows parts low high) =
-      let a = visited_in_parts s e parts in
-      let b = visited_in_half s e (in_low k).range low in
-      let c = visited_in_half s e (in_high k).range high in
-      omega (arith, below_parts s e k parts, below_half s e (in_low k) low, below_half s e (in_high k) high, length-append rows (all_of (a ++ b ++ c)), rows_append (a ++ b) c, rows_append a b, length-append (rows ++ rows_in_parts parts ++ rows_in_half low) (rows_in_half high), length-append (rows ++ rows_in_parts parts) (rows_in_half low), length-append rows (rows_in_parts parts))
+few_in_children : (s : Attributes) (e : Assignments) (r : NodeRange) (xs : List (Hop × Plain)) → AllByRecursion (λ (x : Hop × Plain). (q : NodeRange) → length (all_of (visited s e q x.1)) ≤ length (rows_below x.1)) xs
+    → length (all_of (flat_map (visited_of s e r) xs)) ≤ length (flat_map rows_of xs)
+few_in_children s e r [] claims = omega arith
+few_in_children s e r (x ∷ xs) claims =
+    omega (arith, none_or_all (enters s e r x.0) (visited s e (range_below s x.0 r) x.1) (length (rows_below x.1)) (claims.0 (range_below s x.0 r)), few_in_children s e r xs claims.1, rows_append (visited_of s e r x) (flat_map (visited_of s e r) xs), length-append (rows_below x.1) (flat_map rows_of xs))
 
-  below_parts : (s : Attributes) (e : Assignments) (k : Known) (parts : Parts) → length (all_of (visited_in_parts s e parts)) ≤ length (rows_in_parts parts)
-  below_parts s e k no_part = omega arith
-  below_parts s e k (part a root more) =
-      let v = visited s e (whole s a) root in
-      omega (arith, none_or_all (is_assigned e a) v (length (rows_below root)) (below s e (in_part s a k) root), below_parts s e k more, rows_append (cond (is_assigned e a) v []) (visited_in_parts s e more), length-append (rows_below root) (rows_in_parts more))
-
-  below_half : (s : Attributes) (e : Assignments) (k : Known) (h : Half) → length (all_of (visited_in_half s e k.range h)) ≤ length (rows_in_half h)
-  below_half s e k no_half = omega arith
-  below_half s e k (half n) = none_or_all (holds_value e k.range) (visited s e k.range n) (length (rows_below n)) (below s e k n)
+few_tested : (s : Attributes) (e : Assignments) (n : Plain) (r : NodeRange) → length (all_of (visited s e r n)) ≤ length (rows_below n)
+few_tested s e =
+    in_trees (λ n. (r : NodeRange) → length (all_of (visited s e r n)) ≤ length (rows_below n))
+    (λ n claims r. let w = flat_map (visited_of s e r) (children n) in
+    omega (arith, ap (λ v. length (all_of v)) (visited_is s e r n), ap length (rows_are n), few_in_children s e r (children n) claims, length-append (leaf_of n) (all_of w), length-append (leaf_of n) (flat_map rows_of (children n))))
 
 pub tested_below : (s : Attributes) (e : Assignments) (n : Plain) → tested s e n ≤ length (rows_below n)
-tested_below s e n = below s e nothing n
+tested_below s e n = few_tested s e n None

@@ -6,7 +6,7 @@ use Rattle.std.proofs.lemmas.List.Sorted.{length_permutation, sum_by-IsPermutati
 use Rattle.be_model.specs.declared.changes.Row.{Row}
 use Rattle.be_model.specs.declared.costs.Cost.{Cost}
 use Rattle.be_model.specs.Schemas.{Attributes, IsSchema}
-use Rattle.be_model.specs.Forms.{attrs_rise}
+use Rattle.be_model.specs.Forms.{IsEvent}
 use Rattle.be_model.specs.Matching.{Assignments, satisfies, satisfied}
 use Rattle.be_model.specs.Lies.{event_lies}
 use Rattle.be_model.specs.ByIds.{rows_of, ids_differ}
@@ -14,11 +14,13 @@ use Rattle.be_model.specs.Bounds.{IsWithinBound, shared, visits_bound, is_covere
 use Rattle.be_model.proofs.Attributes.{and_left}
 use Rattle.be_model.proofs.FewItems.{few_visits}
 use Rattle.be_model.proofs.RowsByIds.{rows_permuted, filter_permuted}
-use Rattle.be_shape.specs.Plain.{Plain, node, rows_below, contents}
+use Rattle.std.specs.Arc.{arc_value}
+use Rattle.be_shape.specs.declared.trees.Tree.{Tree}
+use Rattle.be_shape.specs.Plain.{Plain, node, plain, rows_below, contents}
 use Rattle.be_shape.specs.Shape.{nothing, everywhere, is_placed_at, is_placed, is_pruned, is_settled, rows_lie}
 use Rattle.be_shape.specs.Search.{visited, visits, tested, all_of}
 use Rattle.be_shape.proofs.RowCounts.{few_rows}
-use Rattle.be_match.specs.Leaves.{AreCountable}
+use Rattle.be_match.specs.Leaves.{AreCountable, FindsSome}
 use Rattle.be_match.proofs.Exact.{exact}
 use Rattle.be_match.proofs.VisitsBound.{visits_within}
 use Rattle.be_match.proofs.TestedBound.{tested_within, tested_below}
@@ -26,12 +28,17 @@ use Rattle.be_match.proofs.TestedBound.{tested_within, tested_below}
 -- a tree, and an event that lies in its schema
 pub record IsSearched (s : Attributes) (e : Assignments) (n : Plain) : Type 0 where
   pub schema : IsSchema s
-  pub rises : attrs_rise e ≡ true
+  pub form : IsEvent e
   pub lies : event_lies s e ≡ true
   pub rows : rows_lie s n ≡ true
   pub placed : is_placed s n ≡ true
   pub pruned : is_pruned s n ≡ true
   pub settled : is_settled s n ≡ true
+
+-- what the type of a tree keeps, and an event that lies in its schema
+pub searched : (t : Tree) (e : Assignments) → IsSchema (arc_value t.schema) → IsEvent e → event_lies (arc_value t.schema) e ≡ true → IsSearched (arc_value t.schema) e (plain t.root)
+searched t e f r l =
+    record { schema = f; form = r; lies = l; rows = t.lie; placed = t.placed; pruned = t.pruned; settled = t.settled }
 
 placed_everywhere : (s : Attributes) (n : Plain) → is_placed s n ≡ true → everywhere (is_placed_at s) s nothing n ≡ true
 placed_everywhere s n h = and_left (everywhere (is_placed_at s) s nothing n) (ids_differ (rows_below n)) h
@@ -39,6 +46,11 @@ placed_everywhere s n h = and_left (everywhere (is_placed_at s) s nothing n) (id
 -- all that is satisfied stands in the visited leaves
 pub all_found : (s : Attributes) (e : Assignments) (n : Plain) → IsSearched s e n → satisfied e (all_of (visited s e None n)) ≡ satisfied e (rows_below n)
 all_found s e n t = exact s e nothing n t.lies (placed_everywhere s n t.placed) t.rows
+
+-- where a search finds something, there is something to find
+pub some_in_tree : (s : Attributes) (e : Assignments) (n : Plain) → IsSearched s e n → FindsSome e (all_of (visited s e None n)) → FindsSome e (rows_of (contents n))
+some_in_tree s e n t h =
+    omega (arith, h, ap length (all_found s e n t), length_permutation (satisfied e (rows_below n)) (satisfied e (rows_of (contents n))) (filter_permuted (λ (row : Row). satisfies e row.conj) (rows_below n)))
 
 visits_few : (s : Attributes) (e : Assignments) (n : Plain) → IsSearched s e n → visits s e n ≤ visits_bound s e (rows_below n)
 visits_few s e n t = visits_within s e n (placed_everywhere s n t.placed) t.pruned
@@ -75,5 +87,5 @@ pub countable : (s : Attributes) (e : Assignments) (n : Plain) → IsSearched s 
 countable s e n t =
     let few = few_rows s n t.rows t.placed in
     let v = visits_few s e n t in
-    let w = few_visits s e (rows_below n) t.schema t.rises t.lies few in
+    let w = few_visits s e (rows_below n) t.schema t.form.rising t.lies few in
     record { few = omega (arith, v, w); few_rows = omega (arith, tested_below s e n, few) }

@@ -1,12 +1,11 @@
 -- Lists of leaves, and lists that grow.
-use Rattle.std.specs.Prelude.{◌≡◌, ◌+◌, ◌^◌, ◌<◌, ◌≤◌, List, ◌++◌, length, Bool, true, Some, None}
+use Rattle.std.specs.Prelude.{◌+◌, ◌^◌, ◌<◌, ◌≤◌, List, length}
 use Rattle.be_model.specs.declared.changes.Row.{Row}
-use Rattle.be_model.specs.Matching.{Assignments}
+use Rattle.be_model.specs.Matching.{Assignments, satisfied}
 use Rattle.be_model.specs.declared.costs.Cost.{Cost}
 use Rattle.be_model.specs.Costs.{cost}
 use Rattle.be_model.specs.Rows.{FoundRows}
-use Rattle.be_shape.specs.Shape.{NodeRange}
-use Rattle.be_shape.specs.Search.{all_of, holds_value}
+use Rattle.be_shape.specs.Search.{all_of}
 
 -- what a visit of these leaves costs
 abbrev pub cost_of_leaves : List (List Row) → Cost
@@ -17,16 +16,10 @@ pub record AreCountable (leaves : List (List Row)) : Type 0 where
   pub few : length leaves < 2 ^ 64
   pub few_rows : length (all_of leaves) < 2 ^ 64
 
--- the rows of a list, and then more
-pub record BeginsWith (front rows : List Row) : Type 0 where
-  pub more : List Row
-  pub is : rows ≡ front ++ more
-
 -- the rows and the room for more together are no less
 abbrev pub KeepsRoom : FoundRows → FoundRows → Type 0
 KeepsRoom before after = length before.rows + before.spare ≤ length after.rows + after.spare
 
--- a search is at the root, or in a range that holds the event's value
-abbrev pub may_enter : Assignments → NodeRange → Bool
-may_enter e None = true
-may_enter e (Some r) = holds_value e (Some r)
+-- the event satisfies some of the rows
+abbrev pub FindsSome : Assignments → List Row → Type 0
+FindsSome e rows = 0 < length (satisfied e rows)

@@ -7,7 +7,7 @@ ghost use Rattle.be_model.specs.ByIds.{FindsIn, rows_of};
 ghost use Rattle.be_model.specs.Bounds.{IsWithinBound};
 ghost use Rattle.be_shape.specs.Plain.{plain, contents};
 ghost use Rattle.be_shape.specs.Search.{visits, tested};
-ghost use Rattle.be_match.specs.Leaves.{KeepsRoom};
+ghost use Rattle.be_match.specs.Leaves.{FindsSome, KeepsRoom};
 
 use crate::counts::node_cost;
 use crate::searches::search_node;
@@ -23,6 +23,8 @@ pub fn find_in(t: &Tree, e: &Event, found: &mut Found) -> Result<Cost, NoMemory>
     ensures visits { IfOk result (λ cost. cost.visits ≡ visits (arc_value t.now.schema) e.now (plain t.now.root)) }
     ensures tested { IfOk result (λ cost. cost.tested ≡ tested (arc_value t.now.schema) e.now (plain t.now.root)) }
     ensures bound { IfOk result (λ cost. IsWithinBound (arc_value t.now.schema) e.now (rows_of (contents (plain t.now.root))) cost) }
+    // It is refused only where there is something to find.
+    ensures some { OnErr result (FindsSome e.now (rows_of (contents (plain t.now.root)))) }
     ensures refused { OnErr result (found.new.rows ≡ found.old.rows) }
     ensures room { OnErr result (found.old.spare ≤ found.new.spare) }
     // Each found row takes up no more than its own place.

@@ -4,7 +4,5 @@
 mod counts;
 mod finds;
 mod searches;
-#[cfg(test)]
-mod tests;
 
 pub use finds::{cost_of, find_in};

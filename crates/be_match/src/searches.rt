@@ -1,14 +1,15 @@
 //! The search for the rows that an event satisfies.
 
-ghost use Rattle.std.specs.Prelude.{◌≡◌, ◌++◌, ◌∷◌, [], true, OnOk, IfOk};
+ghost use Rattle.std.specs.Prelude.{◌≡◌, ◌++◌, ◌∷◌, [], true, OnOk, OnErr, IfOk};
 ghost use Rattle.std.specs.Arc.{arc_value};
-ghost use Rattle.be_model.specs.Lies.{event_lies};
 ghost use Rattle.be_shape.specs.Plain.{plain, parts_as, half_as, part_as, parts_of};
-ghost use Rattle.be_shape.specs.Ranges.{is_bounded};
+ghost use Rattle.be_shape.specs.Ranges.{is_bounded, is_rising};
 ghost use Rattle.be_shape.specs.Search.{visited, visited_in_parts, visited_in_half, all_of};
 ghost use Rattle.be_model.specs.Matching.{satisfied};
-ghost use Rattle.be_match.specs.Leaves.{AreCountable, BeginsWith, KeepsRoom, cost_of_leaves, may_enter};
+ghost use Rattle.be_base.specs.Lists.{BeginsWith};
+ghost use Rattle.be_match.specs.Leaves.{AreCountable, FindsSome, KeepsRoom, cost_of_leaves};
 
+use crate::counts::{enters_part, joined};
 use be_base::NoMemory;
 use be_model::{Cost, Event, Found, Row, Schema};
 use be_shape::{Leaf, Node, NodeRange, Part, holds_value, lower_range, upper_range, whole_range};
@@ -24,32 +25,28 @@ pub(crate) fn search_node(
     found: &mut Found,
 ) -> Result<Cost, NoMemory>
     requires bounded { is_bounded range ≡ true }
-    requires entered { may_enter e.now range ≡ true }
-    requires lies { event_lies s.now e.now ≡ true }
+    requires rising { is_rising range ≡ true }
     requires countable { AreCountable (visited s.now e.now range (plain n.now)) }
     ensures put { OnOk result (found.new.rows ≡ found.old.rows ++ satisfied e.now (all_of (visited s.now e.now range (plain n.now)))) }
+    ensures refused { OnErr result (FindsSome e.now (all_of (visited s.now e.now range (plain n.now)))) }
     ensures cost { IfOk result (λ cost. cost ≡ cost_of_leaves (visited s.now e.now range (plain n.now))) }
-    ensures front { BeginsWith found.old.rows found.new.rows }
+    ensures front { BeginsWith found.new.rows found.old.rows }
     ensures room { KeepsRoom found.old found.new }
 {
     search_leaf(&n.leaf, e, found)?;
-    let own = Cost {
-        visits: 1,
-        tested: n.leaf.len() as u64,
-    };
     let parts = search_parts(n.parts.as_slice(), s, e, found)?;
     let low = search_half(&n.low, s, e, lower_range(range), found)?;
     let high = search_half(&n.high, s, e, upper_range(range), found)?;
-    Ok(own.plus(parts).plus(low).plus(high))
+    Ok(joined(&n.leaf, parts, low, high))
 }
 
 #[cycle(searches)]
 fn search_parts(parts: &[Part], s: &Schema, e: &Event, found: &mut Found) -> Result<Cost, NoMemory>
-    requires lies { event_lies s.now e.now ≡ true }
     requires countable { AreCountable (visited_in_parts s.now e.now (parts_as parts.now)) }
     ensures put { OnOk result (found.new.rows ≡ found.old.rows ++ satisfied e.now (all_of (visited_in_parts s.now e.now (parts_as parts.now)))) }
+    ensures refused { OnErr result (FindsSome e.now (all_of (visited_in_parts s.now e.now (parts_as parts.now)))) }
     ensures cost { IfOk result (λ cost. cost ≡ cost_of_leaves (visited_in_parts s.now e.now (parts_as parts.now))) }
-    ensures front { BeginsWith found.old.rows found.new.rows }
+    ensures front { BeginsWith found.new.rows found.old.rows }
     ensures room { KeepsRoom found.old found.new }
 {
     let mut cost = Cost::none();
@@ -61,14 +58,14 @@ fn search_parts(parts: &[Part], s: &Schema, e: &Event, found: &mut Found) -> Res
 
 #[cycle(searches)]
 fn search_part(part: &Part, s: &Schema, e: &Event, found: &mut Found) -> Result<Cost, NoMemory>
-    requires lies { event_lies s.now e.now ≡ true }
     requires countable { AreCountable (visited_in_parts s.now e.now (parts_of (part_as part.now ∷ []))) }
     ensures put { OnOk result (found.new.rows ≡ found.old.rows ++ satisfied e.now (all_of (visited_in_parts s.now e.now (parts_of (part_as part.now ∷ []))))) }
+    ensures refused { OnErr result (FindsSome e.now (all_of (visited_in_parts s.now e.now (parts_of (part_as part.now ∷ []))))) }
     ensures cost { IfOk result (λ cost. cost ≡ cost_of_leaves (visited_in_parts s.now e.now (parts_of (part_as part.now ∷ [])))) }
-    ensures front { BeginsWith found.old.rows found.new.rows }
+    ensures front { BeginsWith found.new.rows found.old.rows }
     ensures room { KeepsRoom found.old found.new }
 {
-    if e.value(part.attr).is_some() {
+    if enters_part(part.attr, e) {
         search_node(&part.root, s, e, whole_range(s, part.attr), found)
     } else {
         Ok(Cost::none())
@@ -84,11 +81,11 @@ fn search_half(
     found: &mut Found,
 ) -> Result<Cost, NoMemory>
     requires bounded { is_bounded range ≡ true }
-    requires lies { event_lies s.now e.now ≡ true }
     requires countable { AreCountable (visited_in_half s.now e.now range (half_as half.now)) }
     ensures put { OnOk result (found.new.rows ≡ found.old.rows ++ satisfied e.now (all_of (visited_in_half s.now e.now range (half_as half.now)))) }
+    ensures refused { OnErr result (FindsSome e.now (all_of (visited_in_half s.now e.now range (half_as half.now)))) }
     ensures cost { IfOk result (λ cost. cost ≡ cost_of_leaves (visited_in_half s.now e.now range (half_as half.now))) }
-    ensures front { BeginsWith found.old.rows found.new.rows }
+    ensures front { BeginsWith found.new.rows found.old.rows }
     ensures room { KeepsRoom found.old found.new }
 {
     match half {
@@ -106,7 +103,8 @@ fn search_half(
 // Appends the rows of a leaf that the event satisfies.
 fn search_leaf(leaf: &Leaf, e: &Event, found: &mut Found) -> Result<(), NoMemory>
     ensures put { OnOk result (found.new.rows ≡ found.old.rows ++ satisfied e.now leaf.now) }
-    ensures front { BeginsWith found.old.rows found.new.rows }
+    ensures refused { OnErr result (FindsSome e.now leaf.now) }
+    ensures front { BeginsWith found.new.rows found.old.rows }
     ensures room { KeepsRoom found.old found.new }
 {
     for place in 0..leaf.len() {
@@ -118,7 +116,8 @@ fn search_leaf(leaf: &Leaf, e: &Event, found: &mut Found) -> Result<(), NoMemory
 // Appends the row where the event satisfies it.
 fn test(row: &Arc<Row>, e: &Event, found: &mut Found) -> Result<(), NoMemory>
     ensures put { OnOk result (found.new.rows ≡ found.old.rows ++ satisfied e.now (arc_value row.now ∷ [])) }
-    ensures front { BeginsWith found.old.rows found.new.rows }
+    ensures refused { OnErr result (FindsSome e.now (arc_value row.now ∷ [])) }
+    ensures front { BeginsWith found.new.rows found.old.rows }
     ensures room { KeepsRoom found.old found.new }
 {
     if row.conj.satisfied_by(e) {

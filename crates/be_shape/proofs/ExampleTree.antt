@@ -2,9 +2,9 @@
 use Rattle.std.proofs.Common.{◌≡◌, ℕ, true, false, List, [], ◌∷◌, ◌++◌, map, Some, None, refl}
 use Rattle.std.specs.Prelude.{pos, codes}
 use Rattle.be_base.specs.declared.names.AttrNo.{AttrNo}
-use Rattle.be_model.specs.declared.conditions.Op.{Op}
-use Rattle.be_model.specs.declared.conditions.Op.TheVariants.{Eq, Ne, Ge, Between}
-use Rattle.be_model.specs.declared.conditions.Pred.{Pred}
+use Rattle.be_model.specs.declared.ops.Op.{Op}
+use Rattle.be_model.specs.declared.ops.Op.TheVariants.{Eq, Ne, Ge, Between}
+use Rattle.be_model.specs.declared.preds.Pred.{Pred}
 use Rattle.be_model.specs.declared.changes.Row.{Row}
 use Rattle.be_model.specs.declared.paths.Hop.TheVariants.{Part, Low, High}
 use Rattle.be_model.specs.declared.schemas.Domain.TheVariants.{Int}
@@ -121,10 +121,14 @@ abbrev pub nothing_given : Assignments
 nothing_given = []
 
 abbrev pub one_price : Assignments
-one_price = (price, pos 1) ∷ []
+one_price = (price, pos 1 ∷ []) ∷ []
 
 abbrev pub one_sale : Assignments
-one_sale = (price, pos 1) ∷ (side, pos 0) ∷ []
+one_sale = (price, pos 1 ∷ []) ∷ (side, pos 0 ∷ []) ∷ []
+
+-- values in both halves
+abbrev pub two_prices : Assignments
+two_prices = (price, pos 0 ∷ pos 3 ∷ []) ∷ []
 
 visits_of_none : visits schema nothing_given tree ≡ 1
 visits_of_none = refl
@@ -143,6 +147,15 @@ visits_of_sale = refl
 
 tests_of_sale : tested schema one_sale tree ≡ 4
 tests_of_sale = refl
+
+visits_of_two : visits schema two_prices tree ≡ 4
+visits_of_two = refl
+
+tests_of_two : tested schema two_prices tree ≡ 4
+tests_of_two = refl
+
+found_by_two : map id_of (satisfied two_prices (rows_of (contents tree))) ≡ 2 ∷ 7 ∷ 9 ∷ []
+found_by_two = refl
 
 found_by_price : map id_of (satisfied one_price (rows_of (contents tree))) ≡ 4 ∷ 7 ∷ []
 found_by_price = refl

@@ -1,5 +1,6 @@
 -- The rows of a leaf whose places are no blanks.
-use Rattle.std.proofs.Common.{◌≡◌, ℕ, ◌<◌, zero, suc, arith, slice_get, get_or, sym, true, List, [], ◌∷◌, ◌++◌, length, Option, Some, None, refl, ap}
+use Rattle.std.proofs.Common.{◌≡◌, ℕ, ◌<◌, zero, suc, arith, slice_get, get_or, sym, true, List, [], ◌∷◌, ◌++◌, length, Option, Some, None, IsSome, refl, ap}
+use Rattle.std.specs.List.{remove}
 use Rattle.be_model.specs.declared.changes.Row.{Row}
 use Rattle.be_shape.specs.Leaves.{rows_of_places, are_rows}
 
@@ -33,3 +34,22 @@ not_blank [] i k h l e n = absurd (omega arith)
 not_blank (Some row ∷ places) zero k h l e n = absurd (cc)
 not_blank (Some row ∷ places) (suc i) k h l e n = not_blank places i k h (omega arith) e n
 not_blank (None ∷ places) i k h l e n = absurd (cc)
+
+pub row_some : (places : List (Option Row)) (i : ℕ) (k : Option Row) → are_rows places ≡ true → i < length places → k ≡ get_or places i k → IsSome k
+row_some places i (Some row) h l e = refl
+row_some places i None h l e = absurd (not_blank places i None h l e refl)
+
+-- a row less
+pub rows_taken : (places : List (Option Row)) (i : ℕ) → are_rows places ≡ true → rows_of_places (remove places i) ≡ remove (rows_of_places places) i
+rows_taken [] zero h = refl
+rows_taken [] (suc i) h = refl
+rows_taken (Some row ∷ places) zero h = refl
+rows_taken (Some row ∷ places) (suc i) h = ap (λ rows. row ∷ rows) (rows_taken places i h)
+rows_taken (None ∷ places) i h = absurd (cc)
+
+pub are_rows_taken : (places : List (Option Row)) (i : ℕ) → are_rows places ≡ true → are_rows (remove places i) ≡ true
+are_rows_taken [] zero h = refl
+are_rows_taken [] (suc i) h = refl
+are_rows_taken (Some row ∷ places) zero h = h
+are_rows_taken (Some row ∷ places) (suc i) h = are_rows_taken places i h
+are_rows_taken (None ∷ places) i h = absurd (cc)

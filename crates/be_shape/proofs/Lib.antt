@@ -6,3 +6,7 @@ pub mod RowCounts
 pub mod Placed
 pub mod ExampleTree
 pub mod NewIds
+pub mod Children
+pub mod NodeList
+pub mod Visited
+pub mod Levels

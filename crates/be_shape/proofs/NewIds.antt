@@ -1,6 +1,5 @@
 -- Ids that no row has.
-use Rattle.std.proofs.Common.{◌≡◌, ℕ, ◌==◌, ◌||◌, Bool, true, false, cond, List, [], ◌∷◌, Option, Some, None, refl}
-use Rattle.be_model.specs.declared.changes.Row.{Row}
+use Rattle.std.proofs.Common.{◌≡◌, ℕ, ◌==◌, ◌||◌, Bool, true, false, cond, [], ◌∷◌, Some, None, refl}
 use Rattle.be_model.specs.ByIds.{ByIds, row_at, has_id}
 
 pub nowhere : (id : ℕ) (m : ByIds) → has_id id m ≡ false → row_at id m ≡ None

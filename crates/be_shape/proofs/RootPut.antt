@@ -1,53 +1,26 @@
 -- A tree whose root has a row more in its leaf, and nothing else.
-use Rattle.std.proofs.Common.{◌≡◌, ℕ, ℤ, ◌<◌, ◌≤◌, Bool, true, false, not, eqb, leb, ltb, ◌&&◌, ◌||◌, List, [], ◌∷◌, ◌++◌, length, All, None, refl, sym, ap, ◌∙◌, subst, arith, length-append}
+use Rattle.std.proofs.Common.{◌≡◌, ℕ, ◌<◌, ◌≤◌, Bool, true, false, not, eqb, leb, ltb, ◌&&◌, ◌||◌, List, [], ◌∷◌, ◌++◌, length, None, refl, sym, ap, ◌∙◌, subst, arith, length-append}
 use Rattle.std.specs.List.{list_any, list_all}
 use Rattle.std.proofs.lemmas.Bool.Decides.{nat_tests}
 use Rattle.std.proofs.lemmas.List.{append-nil}
-use Rattle.std.proofs.lemmas.List.Elements.{All-head, All-tail}
-use Rattle.be_model.specs.declared.conditions.Op.{Op}
-use Rattle.be_model.specs.declared.conditions.Op.TheVariants.{Lt, Le, Eq, Ne, Ge, Gt, Between, OneOf, NoneOf}
-use Rattle.be_model.specs.declared.conditions.Pred.{Pred}
 use Rattle.be_model.specs.declared.changes.Row.{Row}
-use Rattle.be_model.specs.Forms.{IsConj, OpForm, AreValues, rises}
+use Rattle.be_model.specs.Forms.{IsConj, is_conj}
 use Rattle.be_model.specs.Schemas.{Attributes}
 use Rattle.be_model.specs.Lies.{row_lies}
 use Rattle.be_model.specs.Rows.{id_of}
 use Rattle.be_model.specs.ByIds.{put_by_id, by_ids, has_id, ids_differ}
+use Rattle.be_base.specs.declared.limits.TheConstants.{LEAF_ROWS, LOG_CHANGES}
+use Rattle.be_model.proofs.FormTests.{is_conj-from_IsConj}
 use Rattle.be_model.proofs.RowsByIds.{put_last, has_by_ids}
 use Rattle.be_model.proofs.Attributes.{and_left, and_right, and_both}
 use Rattle.be_shape.specs.Plain.{Plain, node, no_part, part, no_half, half, rows_below, leaf_of, parts_under, with_row, contents}
-use Rattle.be_shape.specs.Shape.{nothing, everywhere, in_a_half, in_low, in_high, is_placed_at, is_stuck, spans_inside, is_placed, is_drawn, is_pruned, is_settled, has_form, op_has_form, set_has_form, may_stand, rows_lie}
+use Rattle.be_shape.specs.Shape.{nothing, everywhere, in_a_half, in_low, in_high, is_placed_at, is_stuck, spans_inside, is_placed, is_drawn, is_pruned, is_settled, may_stand, rows_lie}
 
--- the form of a condition, as a test
 is_at_most : (n m : ℕ) → n ≤ m → leb n m ≡ true
 is_at_most n m h = grind (arith, nat_tests)
 
 is_less : (n m : ℕ) → n < m → ltb n m ≡ true
 is_less n m h = grind (arith, nat_tests)
-
-set_form : (xs : List ℤ) → AreValues xs → set_has_form xs ≡ true
-set_form xs h =
-    and_both (ltb 0 (length xs)) (leb (length xs) 64 && rises xs) (is_less 0 (length xs) h.some) (and_both (leb (length xs) 64) (rises xs) (is_at_most (length xs) 64 h.few) h.rising)
-
-op_form : (op : Op) → OpForm op → op_has_form op ≡ true
-op_form (OneOf xs) h = set_form xs h
-op_form (NoneOf xs) h = set_form xs h
-op_form (Lt x) h = refl
-op_form (Le x) h = refl
-op_form (Eq x) h = refl
-op_form (Ne x) h = refl
-op_form (Ge x) h = refl
-op_form (Gt x) h = refl
-op_form (Between x y) h = refl
-
-forms : (conj : List Pred) → All (λ (p : Pred). OpForm p.op) conj → list_all (λ (p : Pred). op_has_form p.op) conj ≡ true
-forms [] h = refl
-forms (p ∷ ps) h =
-    and_both (op_has_form p.op) (list_all (λ (q : Pred). op_has_form q.op) ps) (op_form p.op (All-head (λ (q : Pred). OpForm q.op) p ps h)) (forms ps (All-tail (λ (q : Pred). OpForm q.op) p ps h))
-
-pub conj_has_form : (conj : List Pred) → IsConj conj → has_form conj ≡ true
-conj_has_form conj h =
-    and_both (leb (length conj) 32) (list_all (λ (p : Pred). op_has_form p.op) conj) (is_at_most (length conj) 32 h.few) (forms conj h.forms)
 
 -- a test of a list with one more row
 all_put : (p : Row → Bool) (rows : List Row) (x : Row) → list_all p rows ≡ true → p x ≡ true → list_all p (rows ++ x ∷ []) ≡ true
@@ -108,7 +81,7 @@ first_true true b h = refl
 first_true false b h = absurd (cc)
 
 -- rows in one leaf alone
-one_leaf : (s : Attributes) (rows : List Row) → length rows ≤ 16 → list_all (may_stand s) rows ≡ true → ids_differ rows ≡ true → IsRoot s (node rows no_part no_half no_half)
+one_leaf : (s : Attributes) (rows : List Row) → length rows ≤ LEAF_ROWS → list_all (may_stand s) rows ≡ true → ids_differ rows ≡ true → IsRoot s (node rows no_part no_half no_half)
 one_leaf s rows few may differ =
     let e = sym (alone rows) in
     record {
@@ -116,15 +89,15 @@ one_leaf s rows few may differ =
       placed = and_both (everywhere (is_placed_at s) s nothing (node rows no_part no_half no_half)) (ids_differ (rows_below (node rows no_part no_half no_half))) (four_true (list_all (spans_inside s None) (rows_below (node rows no_part no_half no_half))) (all_true (rows_below (node rows no_part no_half no_half)))) (subst (λ r. ids_differ r ≡ true) e differ);
       drawn = three_true (list_all (λ _. true) rows) (all_true rows);
       pruned = refl;
-      settled = three_true (leb (length rows) 16 || list_all (is_stuck s nothing) rows) (first_true (leb (length rows) 16) (list_all (is_stuck s nothing) rows) (is_at_most (length rows) 16 few));
+      settled = three_true (leb (length rows) LEAF_ROWS || list_all (is_stuck s nothing) rows) (first_true (leb (length rows) LEAF_ROWS) (list_all (is_stuck s nothing) rows) (is_at_most (length rows) LEAF_ROWS few));
     }
 
 no_way : {A : Type 0} (d l h i : Bool) → (d && false && true && l && h && i) ≡ true → A
 no_way true l h i k = absurd (cc)
 no_way false l h i k = absurd (cc)
 
--- a root without parts may have a row more, where its leaf has fewer than 16
-pub put_fits : (s : Attributes) (n : Plain) (x : Row) → rows_lie s n ≡ true → is_placed s n ≡ true → parts_under n ≡ no_part → length (leaf_of n) < 16
+-- a root without parts may have a row more, where its leaf has fewer than LEAF_ROWS
+pub put_fits : (s : Attributes) (n : Plain) (x : Row) → rows_lie s n ≡ true → is_placed s n ≡ true → parts_under n ≡ no_part → length (leaf_of n) < LEAF_ROWS
     → has_id (id_of x) (contents n) ≡ false → may_stand s x ≡ true → IsRoot s (with_row x n)
 put_fits s (node rows (part a r more) low high) x lie placed np few new may = absurd (cc)
 put_fits s (node rows no_part (half n) high) x lie placed np few new may =
@@ -133,14 +106,14 @@ put_fits s (node rows no_part no_half (half n)) x lie placed np few new may =
     no_way (list_all (spans_inside s None) (rows_below (node rows no_part no_half (half n)))) true (in_a_half (is_placed_at s) s (in_high nothing) (half n)) (ids_differ (rows_below (node rows no_part no_half (half n)))) placed
 put_fits s (node rows no_part no_half no_half) x lie placed np few new may =
     let e = alone rows in
-    let l : length (rows ++ x ∷ []) ≤ 16 = omega (arith, length-append rows (x ∷ []), few) in
+    let l : length (rows ++ x ∷ []) ≤ LEAF_ROWS = omega (arith, length-append rows (x ∷ []), few) in
     one_leaf s (rows ++ x ∷ []) l (all_put (may_stand s) rows x (subst (λ r. list_all (may_stand s) r ≡ true) e lie) may)
     (differ_put rows x (subst (λ r. ids_differ r ≡ true) e (and_right (everywhere (is_placed_at s) s nothing (node rows no_part no_half no_half)) (ids_differ (rows_below (node rows no_part no_half no_half))) placed))
     (subst (λ r. list_any (λ other. eqb (id_of other) (id_of x)) r ≡ false) e (sym (has_by_ids (id_of x) (rows_below (node rows no_part no_half no_half))) ∙ new)))
 
-pub may_stand_from : (s : Attributes) (x : Row) → IsConj x.conj → row_lies s x ≡ true → id_of x < 281474976710656 → may_stand s x ≡ true
+pub may_stand_from : (s : Attributes) (x : Row) → IsConj x.conj → row_lies s x ≡ true → id_of x < LOG_CHANGES → may_stand s x ≡ true
 may_stand_from s x f l h =
-    and_both (has_form x.conj) (row_lies s x && ltb (id_of x) 281474976710656) (conj_has_form x.conj f) (and_both (row_lies s x) (ltb (id_of x) 281474976710656) l (is_less (id_of x) 281474976710656 h))
+    and_both (is_conj x.conj) (row_lies s x && ltb (id_of x) LOG_CHANGES) (is_conj-from_IsConj x.conj f) (and_both (row_lies s x) (ltb (id_of x) LOG_CHANGES) l (is_less (id_of x) LOG_CHANGES h))
 
 -- the same of a node that is seen so
 pub root_facts : (s : Attributes) (n : Plain) (x : Row) (m : Plain) → m ≡ with_row x n → IsRoot s (with_row x n) → IsRoot s m

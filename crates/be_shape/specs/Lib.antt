@@ -5,3 +5,5 @@ pub mod Search
 pub mod Ranges
 pub mod Paths
 pub mod Contents
+pub mod Children
+pub mod NodeList

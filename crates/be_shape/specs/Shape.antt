@@ -1,11 +1,10 @@
 -- The shape of a tree: what holds at each node.
-use Rattle.std.specs.Prelude.{ℤ, ◌==◌, ◌&&◌, ◌||◌, Bool, true, false, not, List, [], ◌∷◌, length, nat_le, nat_lt, int_le, int_lt, Option, Some, None, option_map}
+use Rattle.std.specs.Prelude.{◌==◌, ◌&&◌, ◌||◌, Bool, true, false, not, List, [], ◌∷◌, length, nat_le, nat_lt, int_le, int_lt, Option, Some, None, option_map}
 use Rattle.std.specs.List.{list_any, list_all}
 use Rattle.be_base.specs.declared.names.AttrNo.{AttrNo}
-use Rattle.be_model.specs.declared.conditions.Op.{Op}
-use Rattle.be_model.specs.declared.conditions.Op.TheVariants.{Lt, Le, Eq, Ne, Ge, Gt, Between, OneOf, NoneOf}
-use Rattle.be_model.specs.declared.conditions.Pred.{Pred}
-use Rattle.be_model.specs.Forms.{rises}
+use Rattle.be_model.specs.declared.preds.Pred.{Pred}
+use Rattle.be_base.specs.declared.limits.TheConstants.{LEAF_ROWS, LOG_CHANGES}
+use Rattle.be_model.specs.Forms.{attrs_rise, is_conj}
 use Rattle.be_model.specs.declared.changes.Row.{Row}
 use Rattle.be_model.specs.Domains.{Range, low_half, high_half}
 use Rattle.be_model.specs.Schemas.{Attributes, range_of}
@@ -82,11 +81,6 @@ abbrev pub attrs_of : Parts → List AttrNo
 attrs_of no_part = []
 attrs_of (part a root more) = a ∷ attrs_of more
 
-abbrev pub attrs_rise : List AttrNo → Bool
-attrs_rise [] = true
-attrs_rise (a ∷ []) = true
-attrs_rise (a ∷ b ∷ more) = nat_lt a.0 b.0 && attrs_rise (b ∷ more)
-
 -- each row below a part has a predicate on the part's attribute
 abbrev pub parts_fit : Parts → Bool
 parts_fit no_part = true
@@ -145,7 +139,7 @@ is_stuck s k row = list_all (λ (p : Pred). is_used k.used p.attr) row.conj && i
 
 -- at most 16 rows, or all are stuck
 abbrev pub is_settled_at : Attributes → Known → Plain → Bool
-is_settled_at s k (node rows parts low high) = nat_le (length rows) 16 || list_all (is_stuck s k) rows
+is_settled_at s k (node rows parts low high) = nat_le (length rows) LEAF_ROWS || list_all (is_stuck s k) rows
 
 abbrev pub is_placed : Attributes → Plain → Bool
 is_placed s n = everywhere (is_placed_at s) s nothing n && ids_differ (rows_below n)
@@ -159,26 +153,9 @@ is_pruned s n = everywhere is_pruned_at s nothing n
 abbrev pub is_settled : Attributes → Plain → Bool
 is_settled s n = everywhere (is_settled_at s) s nothing n
 
-abbrev pub set_has_form : List ℤ → Bool
-set_has_form xs = nat_lt 0 (length xs) && (nat_le (length xs) 64 && rises xs)
-
-abbrev pub op_has_form : Op → Bool
-op_has_form (OneOf xs) = set_has_form xs
-op_has_form (NoneOf xs) = set_has_form xs
-op_has_form (Lt x) = true
-op_has_form (Le x) = true
-op_has_form (Eq x) = true
-op_has_form (Ne x) = true
-op_has_form (Ge x) = true
-op_has_form (Gt x) = true
-op_has_form (Between x y) = true
-
-abbrev pub has_form : List Pred → Bool
-has_form conj = nat_le (length conj) 32 && list_all (λ (p : Pred). op_has_form p.op) conj
-
--- the row's condition has the form of its type, and lies in the schema; the id is below 2^48
+-- the row's condition has the form of its type, and lies in the schema; the id is a place in a list of changes
 abbrev pub may_stand : Attributes → Row → Bool
-may_stand s row = has_form row.conj && (row_lies s row && nat_lt (id_of row) 281474976710656)
+may_stand s row = is_conj row.conj && (row_lies s row && nat_lt (id_of row) LOG_CHANGES)
 
 abbrev pub rows_lie : Attributes → Plain → Bool
 rows_lie s n = list_all (may_stand s) (rows_below n)

@@ -3,7 +3,9 @@
 ghost use Rattle.std.specs.Prelude.{IsPermutation};
 ghost use Rattle.be_model.specs.ByIds.{Rising, rows_of};
 ghost use Rattle.be_shape.specs.Plain.{plain, rows_below, contents};
+ghost use Rattle.std.specs.Arc.{arc_value};
 ghost use Rattle.be_shape.specs.Contents.{RowsAreFound, NewIdsAreNowhere};
+ghost use Rattle.be_shape.specs.NodeList.{HoldsAtNodes, PathsLead};
 
 use crate::trees::Tree;
 
@@ -25,4 +27,14 @@ pub fn rows_are_found(t: &Tree)
 /// An id is new exactly where no row has it.
 pub fn new_ids_are_nowhere(t: &Tree)
     ensures { NewIdsAreNowhere (plain t.now.root) }
+{}
+
+/// What holds everywhere in the tree holds of each node in its list of nodes, and the other way round.
+pub fn nodes_are_everywhere(t: &Tree)
+    ensures { HoldsAtNodes (arc_value t.now.schema) (plain t.now.root) }
+{}
+
+/// The path of each node in the list leads to it, and what is known along the path is known of the node.
+pub fn paths_lead(t: &Tree)
+    ensures { PathsLead (arc_value t.now.schema) (plain t.now.root) }
 {}

@@ -1,9 +1,10 @@
 //! Rows that stand together.
 
-ghost use Rattle.std.specs.Prelude.{◌≡◌, ◌<◌, [], ◌∷◌, ◌++◌, length, slice_get, Some, None, nat_le};
+ghost use Rattle.std.specs.Prelude.{◌≡◌, ◌<◌, [], ◌∷◌, ◌++◌, length, slice_get, Some, None, IsSome, OnOk, OnErr, IfErr};
+ghost use Rattle.std.specs.List.{remove};
 ghost use Rattle.std.specs.Arc.{arc_value};
 
-use be_model::Row;
+use be_model::{Row, RowList};
 use smallvec::SmallVec;
 use std::alloc::Global;
 use std::marker::Model;
@@ -38,6 +39,16 @@ impl Kept {
         ensures { result ≡ Some (arc_value row) }
     {
         Kept { row: Some(row) }
+    }
+
+    fn into_row(self) -> Arc<Row>
+        requires { IsSome self }
+        ensures { self ≡ Some (arc_value result) }
+    {
+        match self.row {
+            Some(row) => row,
+            None => unreachable!(),
+        }
     }
 }
 
@@ -90,6 +101,32 @@ impl Leaf {
         }
     }
 
+    /// Takes the row at a place out. It takes no memory.
+    #[tactic(auto, using(crate::proofs::LeafRows::rows_length))]
+    pub fn take(&mut self, place: usize) -> Arc<Row>
+        requires { place < length self.old }
+        ensures row { slice_get self.old place ≡ Some (arc_value result) }
+        ensures rest { self.new ≡ remove self.old place }
+    {
+        self.places.remove(place).into_row()
+    }
+
+    /// Puts a row last, or hands it back where memory is wanting. Up to 17 rows take none.
+    #[tactic(auto, using(crate::proofs::LeafRows::rows_length, crate::proofs::LeafRows::rows_put, crate::proofs::LeafRows::are_rows_put))]
+    pub fn push(&mut self, row: Arc<Row>) -> Result<(), Arc<Row>>
+        ensures put { OnOk result (self.new ≡ self.old ++ arc_value row ∷ []) }
+        ensures refused { OnErr result (self.new ≡ self.old) }
+        ensures back { IfErr result (λ r. arc_value r ≡ arc_value row) }
+    {
+        match self.places.reserve(1) {
+            Ok(()) => {
+                self.places.push_reserved(Kept::of(row));
+                Ok(())
+            }
+            Err(_) => Err(row),
+        }
+    }
+
     /// Puts a row last. It takes no memory.
     #[tactic(auto, using(crate::proofs::LeafRows::rows_length, crate::proofs::LeafRows::rows_put, crate::proofs::LeafRows::are_rows_put))]
     pub fn put(&mut self, row: Arc<Row>)
@@ -98,5 +135,17 @@ impl Leaf {
     {
         let _ = self.places.capacity();
         self.places.push_reserved(Kept::of(row));
+    }
+}
+
+impl RowList for Leaf {
+    ghost rows = { λ l. l };
+
+    fn len(&self) -> usize {
+        Leaf::len(self)
+    }
+
+    fn row(&self, place: usize) -> &Arc<Row> {
+        Leaf::row(self, place)
     }
 }

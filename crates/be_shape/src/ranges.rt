@@ -2,7 +2,6 @@
 
 ghost use Rattle.std.specs.Prelude.{◌≡◌, ◌≤ℤ◌, ◌<ℤ◌, pos, negsuc, true};
 ghost use Rattle.be_model.specs.Domains.{middle};
-ghost use Rattle.be_model.specs.Matching.{value_of};
 ghost use Rattle.be_shape.specs.Shape.{whole, lower, upper, can_split};
 ghost use Rattle.be_shape.specs.Ranges.{is_bounded, is_rising};
 ghost use Rattle.be_shape.specs.Search.{holds_value};
@@ -62,13 +61,15 @@ fn middle(lo: i64, hi: i64) -> i64
     lo + (hi - lo) / 2
 }
 
-/// Whether the range holds the event's value of its attribute.
+/// Whether the range holds at least one of the event's values of its attribute.
 pub fn holds_value(range: NodeRange, e: &Event) -> bool
-    ensures { result ≡ holds_value e.now range }
+    ensures value { result ≡ holds_value e.now range }
+    // An empty range holds none.
+    ensures rising { result ≡ true → is_rising range ≡ true }
 {
     match range {
-        Some((a, (lo, hi))) => match e.value(a) {
-            Some(v) => lo <= v && v <= hi,
+        Some((a, ends)) => match e.values(a) {
+            Some(values) => values.has_within(ends),
             None => false,
         },
         None => false,

@@ -1,7 +1,8 @@
 //! The tree.
 
-ghost use Rattle.std.specs.Prelude.{◌≡◌, ◌<◌, ◌≤◌, ◌^◌, true, false, [], ◌∷◌, ◌++◌, length, option_map};
+ghost use Rattle.std.specs.Prelude.{◌≡◌, ◌<◌, ◌≤◌, true, false, [], ◌∷◌, ◌++◌, length, option_map};
 ghost use Rattle.std.specs.Arc.{arc_value};
+ghost use Rattle.be_base.specs.declared.limits.TheConstants.{LEAF_ROWS, LOG_CHANGES};
 ghost use Rattle.be_model.specs.Rows.{id_of};
 ghost use Rattle.be_model.specs.ByIds.{put_by_id, has_id};
 ghost use Rattle.be_model.specs.Lies.{row_lies};
@@ -82,9 +83,9 @@ impl Tree {
     /// Puts a row into the root's leaf. It takes no memory.
     pub fn put_root(&mut self, row: Arc<Row>)
         requires no_part { parts_under (plain self.old.root) ≡ no_part }
-        requires few { length (leaf_of (plain self.old.root)) < 16 }
+        requires few { length (leaf_of (plain self.old.root)) < LEAF_ROWS }
         requires new { has_id (id_of (arc_value row)) (contents (plain self.old.root)) ≡ false }
-        requires low { id_of (arc_value row) < 2 ^ 48 }
+        requires low { id_of (arc_value row) < LOG_CHANGES }
         requires lies { row_lies (arc_value self.old.schema) (arc_value row) ≡ true }
         ensures contents { contents (plain self.new.root) ≡ put_by_id (arc_value row) (contents (plain self.old.root)) }
         ensures root { plain self.new.root ≡ with_row (arc_value row) (plain self.old.root) }

@@ -14,4 +14,8 @@ mod expr;
 #[cfg(test)]
 mod io;
 #[cfg(test)]
+mod match_;
+#[cfg(test)]
 mod model;
+#[cfg(test)]
+mod shape;

@@ -1,155 +1,58 @@
-use Rattle.std.proofs.Common.{rules, ap₂, ◌≡◌, true, length, sym, ap, ◌∙◌, subst, arith}
-use Rattle.std.specs.Option.{is_some}
+use Rattle.std.proofs.Common.{rules, ap₂, ◌≡◌, true, sym, ap, ◌∙◌, subst, arith}
 use Rattle.be_shape.specs.declared.nodes.Node.TheViews.{out-Node, out-Part, the_lemmas}
 use Rattle.be_shape.specs.Plain.{plain, parts_as, half_as}
 use Rattle.be_shape.specs.Shape.{whole}
-use Rattle.be_shape.specs.Search.{visited, visited_in_parts, visited_in_half, all_of}
+use Rattle.be_shape.specs.Search.{visited, visited_in_parts, visited_in_half}
 use Rattle.be_model.specs.Matching.{is_assigned}
 use Rattle.be_model.specs.Costs.{cost}
-use Rattle.be_match.specs.Leaves.{AreCountable, may_enter}
-use Rattle.be_match.proofs.Sizes.{may_enter_whole, part_countable, parts_sizes, node_sizes, parts_countable, low_countable, high_countable}
+use Rattle.be_match.specs.Leaves.{AreCountable}
+use Rattle.be_match.proofs.Sizes.{part_countable, node_costs, parts_sizes, parts_countable, low_countable, high_countable}
 use Rattle.be_match.proofs.counts.+costs.Goals as goal
 
 pub node_cost-parts_cost-parts-requires : goal.node_cost-parts_cost-parts-requires
 node_cost-parts_cost-parts-requires t c =
-    (search (rules, the_lemmas), (c.requires.lies, subst (λ ps. AreCountable (visited_in_parts c.args.s.now c.args.e.now (parts_as ps))) (sym c.as_slice.ensures.value) (parts_countable c.args.s.now c.args.e.now c.args.range c.args.n.now c.requires.countable)))
+    (search (rules, the_lemmas), subst (λ ps. AreCountable (visited_in_parts c.args.s.now c.args.e.now (parts_as ps))) (sym c.as_slice.ensures.value) (parts_countable c.args.s.now c.args.e.now c.args.range c.args.n.now c.requires.countable))
 
 pub node_cost-half_cost-low-requires : goal.node_cost-half_cost-low-requires
 node_cost-half_cost-low-requires t c =
-    (search (rules, the_lemmas), (c.lower_range.ensures.bounded, (c.requires.lies, subst (λ r. AreCountable (visited_in_half c.args.s.now c.args.e.now r (half_as (out-Node c.args.n.now).low))) (sym c.lower_range.ensures.range) (low_countable c.args.s.now c.args.e.now c.args.range c.args.n.now c.requires.countable))))
+    (search (rules, the_lemmas), (c.lower_range.ensures.bounded, subst (λ r. AreCountable (visited_in_half c.args.s.now c.args.e.now r (half_as (out-Node c.args.n.now).low))) (sym c.lower_range.ensures.range) (low_countable c.args.s.now c.args.e.now c.args.range c.args.n.now c.requires.countable)))
 
 pub node_cost-half_cost-high-requires : goal.node_cost-half_cost-high-requires
 node_cost-half_cost-high-requires t c =
-    (search (rules, the_lemmas), (c.upper_range.ensures.bounded, (c.requires.lies, subst (λ r. AreCountable (visited_in_half c.args.s.now c.args.e.now r (half_as (out-Node c.args.n.now).high))) (sym c.upper_range.ensures.range) (high_countable c.args.s.now c.args.e.now c.args.range c.args.n.now c.requires.countable))))
+    (search (rules, the_lemmas), (c.upper_range.ensures.bounded, subst (λ r. AreCountable (visited_in_half c.args.s.now c.args.e.now r (half_as (out-Node c.args.n.now).high))) (sym c.upper_range.ensures.range) (high_countable c.args.s.now c.args.e.now c.args.range c.args.n.now c.requires.countable)))
 
-pub node_cost-plus-requires-clause-visits : goal.node_cost-plus-requires-clause-visits
-node_cost-plus-requires-clause-visits t c =
-    let s = c.args.s.now in
-    let e = c.args.e.now in
-    let z = node_sizes s e c.args.range c.args.n.now in
-    let k = c.requires.countable in
-    let pv = ap (λ x. x.visits) c.parts_cost-parts.ensures ∙ ap (λ ps. length (visited_in_parts s e (parts_as ps))) c.as_slice.ensures.value in
-    let pt = ap (λ x. x.tested) c.parts_cost-parts.ensures ∙ ap (λ ps. length (all_of (visited_in_parts s e (parts_as ps)))) c.as_slice.ensures.value in
-    let lv = ap (λ x. x.visits) c.half_cost-low.ensures ∙ ap (λ r. length (visited_in_half s e r (half_as (out-Node c.args.n.now).low))) c.lower_range.ensures.range in
-    let lt = ap (λ x. x.tested) c.half_cost-low.ensures ∙ ap (λ r. length (all_of (visited_in_half s e r (half_as (out-Node c.args.n.now).low)))) c.lower_range.ensures.range in
-    let hv = ap (λ x. x.visits) c.half_cost-high.ensures ∙ ap (λ r. length (visited_in_half s e r (half_as (out-Node c.args.n.now).high))) c.upper_range.ensures.range in
-    let ht = ap (λ x. x.tested) c.half_cost-high.ensures ∙ ap (λ r. length (all_of (visited_in_half s e r (half_as (out-Node c.args.n.now).high)))) c.upper_range.ensures.range in
-    omega (arith, z.visits, k.few, pv, lv, hv)
+pub node_cost-joined-requires-clause-visits : goal.node_cost-joined-requires-clause-visits
+node_cost-joined-requires-clause-visits t c =
+    let z = node_costs c.args.s.now c.args.e.now c.args.range c.args.n.now c.parts_cost-parts.result c.half_cost-low.result c.half_cost-high.result c.as_slice.result.now c.lower_range.result c.upper_range.result c.as_slice.ensures.value c.lower_range.ensures.range c.upper_range.ensures.range
+    c.parts_cost-parts.ensures c.half_cost-low.ensures c.half_cost-high.ensures in
+    omega (arith, z.visits, c.requires.countable.few)
 
-pub node_cost-plus-requires-clause-tested : goal.node_cost-plus-requires-clause-tested
-node_cost-plus-requires-clause-tested t c =
-    let s = c.args.s.now in
-    let e = c.args.e.now in
-    let z = node_sizes s e c.args.range c.args.n.now in
-    let k = c.requires.countable in
-    let pv = ap (λ x. x.visits) c.parts_cost-parts.ensures ∙ ap (λ ps. length (visited_in_parts s e (parts_as ps))) c.as_slice.ensures.value in
-    let pt = ap (λ x. x.tested) c.parts_cost-parts.ensures ∙ ap (λ ps. length (all_of (visited_in_parts s e (parts_as ps)))) c.as_slice.ensures.value in
-    let lv = ap (λ x. x.visits) c.half_cost-low.ensures ∙ ap (λ r. length (visited_in_half s e r (half_as (out-Node c.args.n.now).low))) c.lower_range.ensures.range in
-    let lt = ap (λ x. x.tested) c.half_cost-low.ensures ∙ ap (λ r. length (all_of (visited_in_half s e r (half_as (out-Node c.args.n.now).low)))) c.lower_range.ensures.range in
-    let hv = ap (λ x. x.visits) c.half_cost-high.ensures ∙ ap (λ r. length (visited_in_half s e r (half_as (out-Node c.args.n.now).high))) c.upper_range.ensures.range in
-    let ht = ap (λ x. x.tested) c.half_cost-high.ensures ∙ ap (λ r. length (all_of (visited_in_half s e r (half_as (out-Node c.args.n.now).high)))) c.upper_range.ensures.range in
-    omega (arith, z.tested, k.few_rows, pt, lt, ht, c.len.ensures)
-
-pub node_cost-plus-requires-2-clause-visits : goal.node_cost-plus-requires-2-clause-visits
-node_cost-plus-requires-2-clause-visits t c =
-    let s = c.args.s.now in
-    let e = c.args.e.now in
-    let z = node_sizes s e c.args.range c.args.n.now in
-    let k = c.requires.countable in
-    let pv = ap (λ x. x.visits) c.parts_cost-parts.ensures ∙ ap (λ ps. length (visited_in_parts s e (parts_as ps))) c.as_slice.ensures.value in
-    let pt = ap (λ x. x.tested) c.parts_cost-parts.ensures ∙ ap (λ ps. length (all_of (visited_in_parts s e (parts_as ps)))) c.as_slice.ensures.value in
-    let lv = ap (λ x. x.visits) c.half_cost-low.ensures ∙ ap (λ r. length (visited_in_half s e r (half_as (out-Node c.args.n.now).low))) c.lower_range.ensures.range in
-    let lt = ap (λ x. x.tested) c.half_cost-low.ensures ∙ ap (λ r. length (all_of (visited_in_half s e r (half_as (out-Node c.args.n.now).low)))) c.lower_range.ensures.range in
-    let hv = ap (λ x. x.visits) c.half_cost-high.ensures ∙ ap (λ r. length (visited_in_half s e r (half_as (out-Node c.args.n.now).high))) c.upper_range.ensures.range in
-    let ht = ap (λ x. x.tested) c.half_cost-high.ensures ∙ ap (λ r. length (all_of (visited_in_half s e r (half_as (out-Node c.args.n.now).high)))) c.upper_range.ensures.range in
-    let v = ap (λ x. x.visits) c.plus.ensures in
-    let t1 = ap (λ x. x.tested) c.plus.ensures in
-    omega (arith, z.visits, k.few, pv, lv, hv, v)
-
-pub node_cost-plus-requires-2-clause-tested : goal.node_cost-plus-requires-2-clause-tested
-node_cost-plus-requires-2-clause-tested t c =
-    let s = c.args.s.now in
-    let e = c.args.e.now in
-    let z = node_sizes s e c.args.range c.args.n.now in
-    let k = c.requires.countable in
-    let pv = ap (λ x. x.visits) c.parts_cost-parts.ensures ∙ ap (λ ps. length (visited_in_parts s e (parts_as ps))) c.as_slice.ensures.value in
-    let pt = ap (λ x. x.tested) c.parts_cost-parts.ensures ∙ ap (λ ps. length (all_of (visited_in_parts s e (parts_as ps)))) c.as_slice.ensures.value in
-    let lv = ap (λ x. x.visits) c.half_cost-low.ensures ∙ ap (λ r. length (visited_in_half s e r (half_as (out-Node c.args.n.now).low))) c.lower_range.ensures.range in
-    let lt = ap (λ x. x.tested) c.half_cost-low.ensures ∙ ap (λ r. length (all_of (visited_in_half s e r (half_as (out-Node c.args.n.now).low)))) c.lower_range.ensures.range in
-    let hv = ap (λ x. x.visits) c.half_cost-high.ensures ∙ ap (λ r. length (visited_in_half s e r (half_as (out-Node c.args.n.now).high))) c.upper_range.ensures.range in
-    let ht = ap (λ x. x.tested) c.half_cost-high.ensures ∙ ap (λ r. length (all_of (visited_in_half s e r (half_as (out-Node c.args.n.now).high)))) c.upper_range.ensures.range in
-    let v = ap (λ x. x.visits) c.plus.ensures in
-    let t1 = ap (λ x. x.tested) c.plus.ensures in
-    omega (arith, z.tested, k.few_rows, pt, lt, ht, c.len.ensures, t1)
-
-pub node_cost-plus-requires-3-clause-visits : goal.node_cost-plus-requires-3-clause-visits
-node_cost-plus-requires-3-clause-visits t c =
-    let s = c.args.s.now in
-    let e = c.args.e.now in
-    let z = node_sizes s e c.args.range c.args.n.now in
-    let k = c.requires.countable in
-    let pv = ap (λ x. x.visits) c.parts_cost-parts.ensures ∙ ap (λ ps. length (visited_in_parts s e (parts_as ps))) c.as_slice.ensures.value in
-    let pt = ap (λ x. x.tested) c.parts_cost-parts.ensures ∙ ap (λ ps. length (all_of (visited_in_parts s e (parts_as ps)))) c.as_slice.ensures.value in
-    let lv = ap (λ x. x.visits) c.half_cost-low.ensures ∙ ap (λ r. length (visited_in_half s e r (half_as (out-Node c.args.n.now).low))) c.lower_range.ensures.range in
-    let lt = ap (λ x. x.tested) c.half_cost-low.ensures ∙ ap (λ r. length (all_of (visited_in_half s e r (half_as (out-Node c.args.n.now).low)))) c.lower_range.ensures.range in
-    let hv = ap (λ x. x.visits) c.half_cost-high.ensures ∙ ap (λ r. length (visited_in_half s e r (half_as (out-Node c.args.n.now).high))) c.upper_range.ensures.range in
-    let ht = ap (λ x. x.tested) c.half_cost-high.ensures ∙ ap (λ r. length (all_of (visited_in_half s e r (half_as (out-Node c.args.n.now).high)))) c.upper_range.ensures.range in
-    let v = ap (λ x. x.visits) c.plus.ensures in
-    let t1 = ap (λ x. x.tested) c.plus.ensures in
-    let v2 = ap (λ x. x.visits) c.plus-2.ensures in
-    let t2 = ap (λ x. x.tested) c.plus-2.ensures in
-    omega (arith, z.visits, k.few, pv, lv, hv, v, v2)
-
-pub node_cost-plus-requires-3-clause-tested : goal.node_cost-plus-requires-3-clause-tested
-node_cost-plus-requires-3-clause-tested t c =
-    let s = c.args.s.now in
-    let e = c.args.e.now in
-    let z = node_sizes s e c.args.range c.args.n.now in
-    let k = c.requires.countable in
-    let pv = ap (λ x. x.visits) c.parts_cost-parts.ensures ∙ ap (λ ps. length (visited_in_parts s e (parts_as ps))) c.as_slice.ensures.value in
-    let pt = ap (λ x. x.tested) c.parts_cost-parts.ensures ∙ ap (λ ps. length (all_of (visited_in_parts s e (parts_as ps)))) c.as_slice.ensures.value in
-    let lv = ap (λ x. x.visits) c.half_cost-low.ensures ∙ ap (λ r. length (visited_in_half s e r (half_as (out-Node c.args.n.now).low))) c.lower_range.ensures.range in
-    let lt = ap (λ x. x.tested) c.half_cost-low.ensures ∙ ap (λ r. length (all_of (visited_in_half s e r (half_as (out-Node c.args.n.now).low)))) c.lower_range.ensures.range in
-    let hv = ap (λ x. x.visits) c.half_cost-high.ensures ∙ ap (λ r. length (visited_in_half s e r (half_as (out-Node c.args.n.now).high))) c.upper_range.ensures.range in
-    let ht = ap (λ x. x.tested) c.half_cost-high.ensures ∙ ap (λ r. length (all_of (visited_in_half s e r (half_as (out-Node c.args.n.now).high)))) c.upper_range.ensures.range in
-    let v = ap (λ x. x.visits) c.plus.ensures in
-    let t1 = ap (λ x. x.tested) c.plus.ensures in
-    let v2 = ap (λ x. x.visits) c.plus-2.ensures in
-    let t2 = ap (λ x. x.tested) c.plus-2.ensures in
-    omega (arith, z.tested, k.few_rows, pt, lt, ht, c.len.ensures, t1, t2)
+pub node_cost-joined-requires-clause-tested : goal.node_cost-joined-requires-clause-tested
+node_cost-joined-requires-clause-tested t c =
+    let z = node_costs c.args.s.now c.args.e.now c.args.range c.args.n.now c.parts_cost-parts.result c.half_cost-low.result c.half_cost-high.result c.as_slice.result.now c.lower_range.result c.upper_range.result c.as_slice.ensures.value c.lower_range.ensures.range c.upper_range.ensures.range
+    c.parts_cost-parts.ensures c.half_cost-low.ensures c.half_cost-high.ensures in
+    omega (arith, z.tested, c.requires.countable.few_rows)
 
 pub node_cost-returns : goal.node_cost-returns
 node_cost-returns t c =
-    let s = c.args.s.now in
-    let e = c.args.e.now in
-    let z = node_sizes s e c.args.range c.args.n.now in
-    let k = c.requires.countable in
-    let pv = ap (λ x. x.visits) c.parts_cost-parts.ensures ∙ ap (λ ps. length (visited_in_parts s e (parts_as ps))) c.as_slice.ensures.value in
-    let pt = ap (λ x. x.tested) c.parts_cost-parts.ensures ∙ ap (λ ps. length (all_of (visited_in_parts s e (parts_as ps)))) c.as_slice.ensures.value in
-    let lv = ap (λ x. x.visits) c.half_cost-low.ensures ∙ ap (λ r. length (visited_in_half s e r (half_as (out-Node c.args.n.now).low))) c.lower_range.ensures.range in
-    let lt = ap (λ x. x.tested) c.half_cost-low.ensures ∙ ap (λ r. length (all_of (visited_in_half s e r (half_as (out-Node c.args.n.now).low)))) c.lower_range.ensures.range in
-    let hv = ap (λ x. x.visits) c.half_cost-high.ensures ∙ ap (λ r. length (visited_in_half s e r (half_as (out-Node c.args.n.now).high))) c.upper_range.ensures.range in
-    let ht = ap (λ x. x.tested) c.half_cost-high.ensures ∙ ap (λ r. length (all_of (visited_in_half s e r (half_as (out-Node c.args.n.now).high)))) c.upper_range.ensures.range in
-    let v = ap (λ x. x.visits) c.plus.ensures in
-    let t1 = ap (λ x. x.tested) c.plus.ensures in
-    let v2 = ap (λ x. x.visits) c.plus-2.ensures in
-    let t2 = ap (λ x. x.tested) c.plus-2.ensures in
-    c.plus-3.ensures ∙ ap₂ cost (omega (arith, z.visits, pv, lv, hv, v, v2)) (omega (arith, z.tested, pt, lt, ht, c.len.ensures, t1, t2))
+    let z = node_costs c.args.s.now c.args.e.now c.args.range c.args.n.now c.parts_cost-parts.result c.half_cost-low.result c.half_cost-high.result c.as_slice.result.now c.lower_range.result c.upper_range.result c.as_slice.ensures.value c.lower_range.ensures.range c.upper_range.ensures.range
+    c.parts_cost-parts.ensures c.half_cost-low.ensures c.half_cost-high.ensures in
+    c.joined.ensures ∙ ap₂ cost z.visits z.tested
 
 pub part_cost-node_cost-requires : goal.part_cost-node_cost-requires
 part_cost-node_cost-requires t c =
     let s = c.args.s.now in
     let e = c.args.e.now in
     let p = c.args.part.now in
-    let h : is_assigned e (out-Part p).attr ≡ true = ap is_some (sym c.value.ensures) ∙ sym c.is_some.ensures ∙ c.if-is_some.true in
-    (search (rules, the_lemmas), (c.whole_range.ensures.bounded, (subst (λ r. may_enter e r ≡ true) (sym c.whole_range.ensures.range) (may_enter_whole s e (out-Part p).attr c.requires.lies h), (c.requires.lies, subst (λ r. AreCountable (visited s e r (plain c.deref.result.now))) (sym c.whole_range.ensures.range) (subst (λ n. AreCountable (visited s e (whole s (out-Part p).attr) (plain n))) (sym c.deref.ensures) (part_countable s e p h c.requires.countable))))))
+    let h : is_assigned e (out-Part p).attr ≡ true = sym c.enters_part.ensures ∙ c.if-enters_part.true in
+    (search (rules, the_lemmas), (c.whole_range.ensures.bounded, (c.whole_range.ensures.rising, subst (λ r. AreCountable (visited s e r (plain c.deref.result.now))) (sym c.whole_range.ensures.range) (subst (λ n. AreCountable (visited s e (whole s (out-Part p).attr) (plain n))) (sym c.deref.ensures) (part_countable s e p h c.requires.countable)))))
 
 pub parts_cost-part_cost-requires : goal.parts_cost-part_cost-requires
 parts_cost-part_cost-requires t c =
     let k = c.requires.countable in
     let i = c.loop-part.invariant in
     let z = parts_sizes c.args.s.now c.args.e.now c.args.parts.now c.loop-part.part-index c.part-item.result (omega (arith, c.loop-part-test.true)) c.part-item.is in
-    (search (rules, the_lemmas), (c.requires.lies, record { few = omega (arith, z.visits, k.few, i.0); few_rows = omega (arith, z.tested, k.few_rows, i.1) }))
+    (search (rules, the_lemmas), record { few = omega (arith, z.visits, k.few, i.0); few_rows = omega (arith, z.tested, k.few_rows, i.1) })
 
 pub parts_cost-plus-cost-requires-clause-tested : goal.parts_cost-plus-cost-requires-clause-tested
 parts_cost-plus-cost-requires-clause-tested t c =

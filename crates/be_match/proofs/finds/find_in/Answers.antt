@@ -8,8 +8,8 @@ use Rattle.be_model.proofs.RowsByIds.{filter_permuted}
 use Rattle.std.proofs.lemmas.List.Sorted.{IsPermutation-sym}
 use Rattle.be_shape.specs.Plain.{plain, rows_below, contents}
 use Rattle.be_shape.specs.Search.{visited, all_of}
-use Rattle.be_match.specs.Leaves.{AreCountable}
-use Rattle.be_match.proofs.Within.{IsSearched, countable, within_bound, all_found}
+use Rattle.be_match.specs.Leaves.{AreCountable, FindsSome}
+use Rattle.be_match.proofs.Within.{searched, countable, within_bound, all_found, some_in_tree}
 use Rattle.be_match.proofs.finds.find_in.Goals as goal
 
 pub search_node-requires-clause-countable : goal.search_node-requires-clause-countable
@@ -18,8 +18,7 @@ search_node-requires-clause-countable c =
     let s = arc_value t.schema in
     let e = c.args.e.now in
     let n = plain t.root in
-    let w : IsSearched s e n =
-    record { schema = subst IsSchema c.deref.ensures c.count.ensures.form; rises = c.items.ensures.form; lies = c.requires; rows = t.lie; placed = t.placed; pruned = t.pruned; settled = t.settled } in
+    let w = searched t e (subst IsSchema c.deref.ensures c.count.ensures.form) c.items.ensures.form c.requires in
     subst (λ a. AreCountable (visited a e None n)) (sym c.deref-2.ensures) (countable s e n w)
 
 pub returns-in-Ok-clause-found : goal.returns-in-Ok-clause-found
@@ -29,13 +28,21 @@ returns-in-Ok-clause-found c =
     let e = c.args.e.now in
     let n = plain t.root in
     let old = c.args.found.now.rows in
-    let w : IsSearched s e n =
-    record { schema = subst IsSchema c.deref.ensures c.count.ensures.form; rises = c.items.ensures.form; lies = c.requires; rows = t.lie; placed = t.placed; pruned = t.pruned; settled = t.settled } in
+    let w = searched t e (subst IsSchema c.deref.ensures c.count.ensures.form) c.items.ensures.form c.requires in
     record {
       found = satisfied e (rows_below n);
       put = c.in-Ok.ensures.put ∙ ap (λ a. old ++ satisfied e (all_of (visited a e None n))) c.deref-2.ensures ∙ ap (λ rows. old ++ rows) (all_found s e n w);
       exact = IsPermutation-sym (satisfied e (rows_below n)) (satisfied e (rows_of (contents n))) (filter_permuted (λ (row : Row). satisfies e row.conj) (rows_below n));
     }
+
+pub returns-in-Err-clause-some : goal.returns-in-Err-clause-some
+returns-in-Err-clause-some c =
+    let t = c.args.t.now in
+    let s = arc_value t.schema in
+    let e = c.args.e.now in
+    let n = plain t.root in
+    let w = searched t e (subst IsSchema c.deref.ensures c.count.ensures.form) c.items.ensures.form c.requires in
+    some_in_tree s e n w (subst (λ a. FindsSome e (all_of (visited a e None n))) c.deref-2.ensures c.in-Err.ensures.refused)
 
 pub returns-in-Ok-clause-bound : goal.returns-in-Ok-clause-bound
 returns-in-Ok-clause-bound c =
@@ -43,7 +50,6 @@ returns-in-Ok-clause-bound c =
     let s = arc_value t.schema in
     let e = c.args.e.now in
     let n = plain t.root in
-    let w : IsSearched s e n =
-    record { schema = subst IsSchema c.deref.ensures c.count.ensures.form; rises = c.items.ensures.form; lies = c.requires; rows = t.lie; placed = t.placed; pruned = t.pruned; settled = t.settled } in
+    let w = searched t e (subst IsSchema c.deref.ensures c.count.ensures.form) c.items.ensures.form c.requires in
     within_bound s e n c.in-Ok.cost w (ap (λ x. x.visits) c.in-Ok.ensures.cost ∙ ap (λ a. length (visited a e None n)) c.deref-2.ensures)
     (ap (λ x. x.tested) c.in-Ok.ensures.cost ∙ ap (λ a. length (all_of (visited a e None n))) c.deref-2.ensures)

@@ -1,156 +1,60 @@
-use Rattle.std.proofs.Common.{rules, ap₂, ◌++◌, drop, ◌≡◌, true, ◌∷◌, [], ◌+◌, length, sym, ap, ◌∙◌, subst, arith}
-use Rattle.std.specs.Option.{is_some}
+use Rattle.std.proofs.Common.{rules, ap₂, ◌++◌, drop, ◌≡◌, true, ◌∷◌, [], ◌+◌, sym, ap, ◌∙◌, subst, arith}
 use Rattle.be_shape.specs.declared.nodes.Node.TheViews.{out-Node, out-Part, the_lemmas}
 use Rattle.be_shape.specs.Plain.{plain, parts_as, half_as, part_as, parts_of}
 use Rattle.be_shape.specs.Shape.{whole, lower, upper}
 use Rattle.be_shape.specs.Search.{visited, visited_in_parts, visited_in_half, all_of}
 use Rattle.be_model.specs.Matching.{satisfied, is_assigned}
 use Rattle.be_model.specs.Costs.{cost}
-use Rattle.be_match.specs.Leaves.{AreCountable, may_enter}
-use Rattle.be_match.proofs.Fronts.{front_on, put_levels, put_step, satisfied_leaves}
-use Rattle.be_match.proofs.Sizes.{node_visited, visited_from, may_enter_whole, part_countable, parts_sizes, node_sizes, parts_countable, low_countable, high_countable}
+use Rattle.be_match.specs.Leaves.{AreCountable, FindsSome}
+use Rattle.be_base.proofs.Beginnings.{BeginsWith-along}
+use Rattle.be_match.proofs.Fronts.{on_refusal, put_levels, put_step, satisfied_leaves, some_first, some_from, some_in_node}
+use Rattle.be_match.proofs.Sizes.{node_visited, visited_from, part_countable, parts_sizes, node_costs, parts_countable, low_countable, high_countable}
 use Rattle.be_match.proofs.searches.+searches.Goals as goal
 
 pub search_node-search_parts-requires : goal.search_node-search_parts-requires
 search_node-search_parts-requires t c =
-    (search (rules, the_lemmas), (c.requires.lies, subst (λ ps. AreCountable (visited_in_parts c.args.s.now c.args.e.now (parts_as ps))) (sym c.as_slice.ensures.value) (parts_countable c.args.s.now c.args.e.now c.args.range c.args.n.now c.requires.countable)))
+    (search (rules, the_lemmas), subst (λ ps. AreCountable (visited_in_parts c.args.s.now c.args.e.now (parts_as ps))) (sym c.as_slice.ensures.value) (parts_countable c.args.s.now c.args.e.now c.args.range c.args.n.now c.requires.countable))
 
 pub search_node-search_half-requires : goal.search_node-search_half-requires
 search_node-search_half-requires t c =
-    (search (rules, the_lemmas), (c.lower_range.ensures.bounded, (c.requires.lies, subst (λ r. AreCountable (visited_in_half c.args.s.now c.args.e.now r (half_as (out-Node c.args.n.now).low))) (sym c.lower_range.ensures.range) (low_countable c.args.s.now c.args.e.now c.args.range c.args.n.now c.requires.countable))))
+    (search (rules, the_lemmas), (c.lower_range.ensures.bounded, subst (λ r. AreCountable (visited_in_half c.args.s.now c.args.e.now r (half_as (out-Node c.args.n.now).low))) (sym c.lower_range.ensures.range) (low_countable c.args.s.now c.args.e.now c.args.range c.args.n.now c.requires.countable)))
 
 pub search_node-search_half-requires-2 : goal.search_node-search_half-requires-2
 search_node-search_half-requires-2 t c =
-    (search (rules, the_lemmas), (c.upper_range.ensures.bounded, (c.requires.lies, subst (λ r. AreCountable (visited_in_half c.args.s.now c.args.e.now r (half_as (out-Node c.args.n.now).high))) (sym c.upper_range.ensures.range) (high_countable c.args.s.now c.args.e.now c.args.range c.args.n.now c.requires.countable))))
+    (search (rules, the_lemmas), (c.upper_range.ensures.bounded, subst (λ r. AreCountable (visited_in_half c.args.s.now c.args.e.now r (half_as (out-Node c.args.n.now).high))) (sym c.upper_range.ensures.range) (high_countable c.args.s.now c.args.e.now c.args.range c.args.n.now c.requires.countable)))
 
-pub search_node-plus-requires-clause-visits : goal.search_node-plus-requires-clause-visits
-search_node-plus-requires-clause-visits t c =
-    let s = c.args.s.now in
-    let e = c.args.e.now in
-    let z = node_sizes s e c.args.range c.args.n.now in
-    let k = c.requires.countable in
-    let pv = ap (λ x. x.visits) c.in_ok-parts.ensures.cost ∙ ap (λ ps. length (visited_in_parts s e (parts_as ps))) c.as_slice.ensures.value in
-    let pt = ap (λ x. x.tested) c.in_ok-parts.ensures.cost ∙ ap (λ ps. length (all_of (visited_in_parts s e (parts_as ps)))) c.as_slice.ensures.value in
-    let lv = ap (λ x. x.visits) c.in_ok-low.ensures.cost ∙ ap (λ r. length (visited_in_half s e r (half_as (out-Node c.args.n.now).low))) c.lower_range.ensures.range in
-    let lt = ap (λ x. x.tested) c.in_ok-low.ensures.cost ∙ ap (λ r. length (all_of (visited_in_half s e r (half_as (out-Node c.args.n.now).low)))) c.lower_range.ensures.range in
-    let hv = ap (λ x. x.visits) c.in_ok-high.ensures.cost ∙ ap (λ r. length (visited_in_half s e r (half_as (out-Node c.args.n.now).high))) c.upper_range.ensures.range in
-    let ht = ap (λ x. x.tested) c.in_ok-high.ensures.cost ∙ ap (λ r. length (all_of (visited_in_half s e r (half_as (out-Node c.args.n.now).high)))) c.upper_range.ensures.range in
-    omega (arith, z.visits, k.few, pv, lv, hv)
+pub search_node-joined-requires-clause-visits : goal.search_node-joined-requires-clause-visits
+search_node-joined-requires-clause-visits t c =
+    let z = node_costs c.args.s.now c.args.e.now c.args.range c.args.n.now c.in_ok-parts.parts c.in_ok-low.low c.in_ok-high.high c.as_slice.result.now c.lower_range.result c.upper_range.result c.as_slice.ensures.value c.lower_range.ensures.range c.upper_range.ensures.range
+    c.in_ok-parts.ensures.cost c.in_ok-low.ensures.cost c.in_ok-high.ensures.cost in
+    omega (arith, z.visits, c.requires.countable.few)
 
-pub search_node-plus-requires-clause-tested : goal.search_node-plus-requires-clause-tested
-search_node-plus-requires-clause-tested t c =
-    let s = c.args.s.now in
-    let e = c.args.e.now in
-    let z = node_sizes s e c.args.range c.args.n.now in
-    let k = c.requires.countable in
-    let pv = ap (λ x. x.visits) c.in_ok-parts.ensures.cost ∙ ap (λ ps. length (visited_in_parts s e (parts_as ps))) c.as_slice.ensures.value in
-    let pt = ap (λ x. x.tested) c.in_ok-parts.ensures.cost ∙ ap (λ ps. length (all_of (visited_in_parts s e (parts_as ps)))) c.as_slice.ensures.value in
-    let lv = ap (λ x. x.visits) c.in_ok-low.ensures.cost ∙ ap (λ r. length (visited_in_half s e r (half_as (out-Node c.args.n.now).low))) c.lower_range.ensures.range in
-    let lt = ap (λ x. x.tested) c.in_ok-low.ensures.cost ∙ ap (λ r. length (all_of (visited_in_half s e r (half_as (out-Node c.args.n.now).low)))) c.lower_range.ensures.range in
-    let hv = ap (λ x. x.visits) c.in_ok-high.ensures.cost ∙ ap (λ r. length (visited_in_half s e r (half_as (out-Node c.args.n.now).high))) c.upper_range.ensures.range in
-    let ht = ap (λ x. x.tested) c.in_ok-high.ensures.cost ∙ ap (λ r. length (all_of (visited_in_half s e r (half_as (out-Node c.args.n.now).high)))) c.upper_range.ensures.range in
-    omega (arith, z.tested, k.few_rows, pt, lt, ht, c.len.ensures)
-
-pub search_node-plus-requires-2-clause-visits : goal.search_node-plus-requires-2-clause-visits
-search_node-plus-requires-2-clause-visits t c =
-    let s = c.args.s.now in
-    let e = c.args.e.now in
-    let z = node_sizes s e c.args.range c.args.n.now in
-    let k = c.requires.countable in
-    let pv = ap (λ x. x.visits) c.in_ok-parts.ensures.cost ∙ ap (λ ps. length (visited_in_parts s e (parts_as ps))) c.as_slice.ensures.value in
-    let pt = ap (λ x. x.tested) c.in_ok-parts.ensures.cost ∙ ap (λ ps. length (all_of (visited_in_parts s e (parts_as ps)))) c.as_slice.ensures.value in
-    let lv = ap (λ x. x.visits) c.in_ok-low.ensures.cost ∙ ap (λ r. length (visited_in_half s e r (half_as (out-Node c.args.n.now).low))) c.lower_range.ensures.range in
-    let lt = ap (λ x. x.tested) c.in_ok-low.ensures.cost ∙ ap (λ r. length (all_of (visited_in_half s e r (half_as (out-Node c.args.n.now).low)))) c.lower_range.ensures.range in
-    let hv = ap (λ x. x.visits) c.in_ok-high.ensures.cost ∙ ap (λ r. length (visited_in_half s e r (half_as (out-Node c.args.n.now).high))) c.upper_range.ensures.range in
-    let ht = ap (λ x. x.tested) c.in_ok-high.ensures.cost ∙ ap (λ r. length (all_of (visited_in_half s e r (half_as (out-Node c.args.n.now).high)))) c.upper_range.ensures.range in
-    let v = ap (λ x. x.visits) c.plus.ensures in
-    let t1 = ap (λ x. x.tested) c.plus.ensures in
-    omega (arith, z.visits, k.few, pv, lv, hv, v)
-
-pub search_node-plus-requires-2-clause-tested : goal.search_node-plus-requires-2-clause-tested
-search_node-plus-requires-2-clause-tested t c =
-    let s = c.args.s.now in
-    let e = c.args.e.now in
-    let z = node_sizes s e c.args.range c.args.n.now in
-    let k = c.requires.countable in
-    let pv = ap (λ x. x.visits) c.in_ok-parts.ensures.cost ∙ ap (λ ps. length (visited_in_parts s e (parts_as ps))) c.as_slice.ensures.value in
-    let pt = ap (λ x. x.tested) c.in_ok-parts.ensures.cost ∙ ap (λ ps. length (all_of (visited_in_parts s e (parts_as ps)))) c.as_slice.ensures.value in
-    let lv = ap (λ x. x.visits) c.in_ok-low.ensures.cost ∙ ap (λ r. length (visited_in_half s e r (half_as (out-Node c.args.n.now).low))) c.lower_range.ensures.range in
-    let lt = ap (λ x. x.tested) c.in_ok-low.ensures.cost ∙ ap (λ r. length (all_of (visited_in_half s e r (half_as (out-Node c.args.n.now).low)))) c.lower_range.ensures.range in
-    let hv = ap (λ x. x.visits) c.in_ok-high.ensures.cost ∙ ap (λ r. length (visited_in_half s e r (half_as (out-Node c.args.n.now).high))) c.upper_range.ensures.range in
-    let ht = ap (λ x. x.tested) c.in_ok-high.ensures.cost ∙ ap (λ r. length (all_of (visited_in_half s e r (half_as (out-Node c.args.n.now).high)))) c.upper_range.ensures.range in
-    let v = ap (λ x. x.visits) c.plus.ensures in
-    let t1 = ap (λ x. x.tested) c.plus.ensures in
-    omega (arith, z.tested, k.few_rows, pt, lt, ht, c.len.ensures, t1)
-
-pub search_node-plus-requires-3-clause-visits : goal.search_node-plus-requires-3-clause-visits
-search_node-plus-requires-3-clause-visits t c =
-    let s = c.args.s.now in
-    let e = c.args.e.now in
-    let z = node_sizes s e c.args.range c.args.n.now in
-    let k = c.requires.countable in
-    let pv = ap (λ x. x.visits) c.in_ok-parts.ensures.cost ∙ ap (λ ps. length (visited_in_parts s e (parts_as ps))) c.as_slice.ensures.value in
-    let pt = ap (λ x. x.tested) c.in_ok-parts.ensures.cost ∙ ap (λ ps. length (all_of (visited_in_parts s e (parts_as ps)))) c.as_slice.ensures.value in
-    let lv = ap (λ x. x.visits) c.in_ok-low.ensures.cost ∙ ap (λ r. length (visited_in_half s e r (half_as (out-Node c.args.n.now).low))) c.lower_range.ensures.range in
-    let lt = ap (λ x. x.tested) c.in_ok-low.ensures.cost ∙ ap (λ r. length (all_of (visited_in_half s e r (half_as (out-Node c.args.n.now).low)))) c.lower_range.ensures.range in
-    let hv = ap (λ x. x.visits) c.in_ok-high.ensures.cost ∙ ap (λ r. length (visited_in_half s e r (half_as (out-Node c.args.n.now).high))) c.upper_range.ensures.range in
-    let ht = ap (λ x. x.tested) c.in_ok-high.ensures.cost ∙ ap (λ r. length (all_of (visited_in_half s e r (half_as (out-Node c.args.n.now).high)))) c.upper_range.ensures.range in
-    let v = ap (λ x. x.visits) c.plus.ensures in
-    let t1 = ap (λ x. x.tested) c.plus.ensures in
-    let v2 = ap (λ x. x.visits) c.plus-2.ensures in
-    let t2 = ap (λ x. x.tested) c.plus-2.ensures in
-    omega (arith, z.visits, k.few, pv, lv, hv, v, v2)
-
-pub search_node-plus-requires-3-clause-tested : goal.search_node-plus-requires-3-clause-tested
-search_node-plus-requires-3-clause-tested t c =
-    let s = c.args.s.now in
-    let e = c.args.e.now in
-    let z = node_sizes s e c.args.range c.args.n.now in
-    let k = c.requires.countable in
-    let pv = ap (λ x. x.visits) c.in_ok-parts.ensures.cost ∙ ap (λ ps. length (visited_in_parts s e (parts_as ps))) c.as_slice.ensures.value in
-    let pt = ap (λ x. x.tested) c.in_ok-parts.ensures.cost ∙ ap (λ ps. length (all_of (visited_in_parts s e (parts_as ps)))) c.as_slice.ensures.value in
-    let lv = ap (λ x. x.visits) c.in_ok-low.ensures.cost ∙ ap (λ r. length (visited_in_half s e r (half_as (out-Node c.args.n.now).low))) c.lower_range.ensures.range in
-    let lt = ap (λ x. x.tested) c.in_ok-low.ensures.cost ∙ ap (λ r. length (all_of (visited_in_half s e r (half_as (out-Node c.args.n.now).low)))) c.lower_range.ensures.range in
-    let hv = ap (λ x. x.visits) c.in_ok-high.ensures.cost ∙ ap (λ r. length (visited_in_half s e r (half_as (out-Node c.args.n.now).high))) c.upper_range.ensures.range in
-    let ht = ap (λ x. x.tested) c.in_ok-high.ensures.cost ∙ ap (λ r. length (all_of (visited_in_half s e r (half_as (out-Node c.args.n.now).high)))) c.upper_range.ensures.range in
-    let v = ap (λ x. x.visits) c.plus.ensures in
-    let t1 = ap (λ x. x.tested) c.plus.ensures in
-    let v2 = ap (λ x. x.visits) c.plus-2.ensures in
-    let t2 = ap (λ x. x.tested) c.plus-2.ensures in
-    omega (arith, z.tested, k.few_rows, pt, lt, ht, c.len.ensures, t1, t2)
+pub search_node-joined-requires-clause-tested : goal.search_node-joined-requires-clause-tested
+search_node-joined-requires-clause-tested t c =
+    let z = node_costs c.args.s.now c.args.e.now c.args.range c.args.n.now c.in_ok-parts.parts c.in_ok-low.low c.in_ok-high.high c.as_slice.result.now c.lower_range.result c.upper_range.result c.as_slice.ensures.value c.lower_range.ensures.range c.upper_range.ensures.range
+    c.in_ok-parts.ensures.cost c.in_ok-low.ensures.cost c.in_ok-high.ensures.cost in
+    omega (arith, z.tested, c.requires.countable.few_rows)
 
 pub search_node-returns-clause-cost : goal.search_node-returns-clause-cost
 search_node-returns-clause-cost t c =
-    let s = c.args.s.now in
-    let e = c.args.e.now in
-    let z = node_sizes s e c.args.range c.args.n.now in
-    let k = c.requires.countable in
-    let pv = ap (λ x. x.visits) c.in_ok-parts.ensures.cost ∙ ap (λ ps. length (visited_in_parts s e (parts_as ps))) c.as_slice.ensures.value in
-    let pt = ap (λ x. x.tested) c.in_ok-parts.ensures.cost ∙ ap (λ ps. length (all_of (visited_in_parts s e (parts_as ps)))) c.as_slice.ensures.value in
-    let lv = ap (λ x. x.visits) c.in_ok-low.ensures.cost ∙ ap (λ r. length (visited_in_half s e r (half_as (out-Node c.args.n.now).low))) c.lower_range.ensures.range in
-    let lt = ap (λ x. x.tested) c.in_ok-low.ensures.cost ∙ ap (λ r. length (all_of (visited_in_half s e r (half_as (out-Node c.args.n.now).low)))) c.lower_range.ensures.range in
-    let hv = ap (λ x. x.visits) c.in_ok-high.ensures.cost ∙ ap (λ r. length (visited_in_half s e r (half_as (out-Node c.args.n.now).high))) c.upper_range.ensures.range in
-    let ht = ap (λ x. x.tested) c.in_ok-high.ensures.cost ∙ ap (λ r. length (all_of (visited_in_half s e r (half_as (out-Node c.args.n.now).high)))) c.upper_range.ensures.range in
-    let v = ap (λ x. x.visits) c.plus.ensures in
-    let t1 = ap (λ x. x.tested) c.plus.ensures in
-    let v2 = ap (λ x. x.visits) c.plus-2.ensures in
-    let t2 = ap (λ x. x.tested) c.plus-2.ensures in
-    c.plus-3.ensures ∙ ap₂ cost (omega (arith, z.visits, pv, lv, hv, v, v2)) (omega (arith, z.tested, pt, lt, ht, c.len.ensures, t1, t2))
+    let z = node_costs c.args.s.now c.args.e.now c.args.range c.args.n.now c.in_ok-parts.parts c.in_ok-low.low c.in_ok-high.high c.as_slice.result.now c.lower_range.result c.upper_range.result c.as_slice.ensures.value c.lower_range.ensures.range c.upper_range.ensures.range
+    c.in_ok-parts.ensures.cost c.in_ok-low.ensures.cost c.in_ok-high.ensures.cost in
+    c.joined.ensures ∙ ap₂ cost z.visits z.tested
 
 pub search_part-search_node-requires : goal.search_part-search_node-requires
 search_part-search_node-requires t c =
     let s = c.args.s.now in
     let e = c.args.e.now in
     let p = c.args.part.now in
-    let h : is_assigned e (out-Part p).attr ≡ true = ap is_some (sym c.value.ensures) ∙ sym c.is_some.ensures ∙ c.if-is_some.true in
-    (search (rules, the_lemmas), (c.whole_range.ensures.bounded, (subst (λ r. may_enter e r ≡ true) (sym c.whole_range.ensures.range) (may_enter_whole s e (out-Part p).attr c.requires.lies h), (c.requires.lies, subst (λ r. AreCountable (visited s e r (plain c.deref.result.now))) (sym c.whole_range.ensures.range) (subst (λ n. AreCountable (visited s e (whole s (out-Part p).attr) (plain n))) (sym c.deref.ensures) (part_countable s e p h c.requires.countable))))))
+    let h : is_assigned e (out-Part p).attr ≡ true = sym c.enters_part.ensures ∙ c.if-enters_part.true in
+    (search (rules, the_lemmas), (c.whole_range.ensures.bounded, (c.whole_range.ensures.rising, subst (λ r. AreCountable (visited s e r (plain c.deref.result.now))) (sym c.whole_range.ensures.range) (subst (λ n. AreCountable (visited s e (whole s (out-Part p).attr) (plain n))) (sym c.deref.ensures) (part_countable s e p h c.requires.countable)))))
 
 pub search_parts-search_part-requires : goal.search_parts-search_part-requires
 search_parts-search_part-requires t c =
     let k = c.requires.countable in
     let i = c.loop-part.invariant in
     let z = parts_sizes c.args.s.now c.args.e.now c.args.parts.now c.loop-part.part-index c.part-item.result (omega (arith, c.loop-part-test.true)) c.part-item.is in
-    (search (rules, the_lemmas), (c.requires.lies, record { few = omega (arith, z.visits, k.few, i.0); few_rows = omega (arith, z.tested, k.few_rows, i.1) }))
+    (search (rules, the_lemmas), record { few = omega (arith, z.visits, k.few, i.0); few_rows = omega (arith, z.tested, k.few_rows, i.1) })
 
 pub search_node-returns-clause-put : goal.search_node-returns-clause-put
 search_node-returns-clause-put t c =
@@ -196,6 +100,50 @@ search_parts-loop-part-preserved t c =
       omega (arith, z.tested, i.1, ap (λ x. x.tested) c.in_ok-search_part.ensures.cost, ap (λ x. x.tested) c.plus-cost.ensures),
       put_step was is (satisfied e (all_of (visited_in_parts s e (parts_as (drop n ps))))) (satisfied e (all_of first)) (satisfied e (all_of rest))
           (c.args.found.now.rows ++ satisfied e (all_of (visited_in_parts s e (parts_as ps)))) i.2 two c.in_ok-search_part.ensures.put,
-      front_on c.args.found.now.rows was is i.3 c.in_ok-search_part.ensures.front,
+      BeginsWith-along is was c.args.found.now.rows c.in_ok-search_part.ensures.front i.3,
       omega (arith, i.4, c.in_ok-search_part.ensures.room),
     )
+
+pub search_node-returns-in_err-parts-clause-refused : goal.search_node-returns-in_err-parts-clause-refused
+search_node-returns-in_err-parts-clause-refused t c =
+    let s = c.args.s.now in
+    let e = c.args.e.now in
+    let n = c.args.n.now in
+    let r = c.args.range in
+    let z = some_in_node e (out-Node n).leaf (visited_in_parts s e (parts_as (out-Node n).parts.items)) (visited_in_half s e (lower r) (half_as (out-Node n).low)) (visited_in_half s e (upper r) (half_as (out-Node n).high)) in
+    on_refusal c.from_residual-in_err-parts.result (FindsSome e (all_of (visited s e r (plain n))))
+    (subst (λ v. FindsSome e (all_of v)) (sym (node_visited s e r n)) (z.in_parts (subst (λ ps. FindsSome e (all_of (visited_in_parts s e (parts_as ps)))) c.as_slice.ensures.value c.in_err-parts.ensures.refused)))
+
+pub search_node-returns-in_err-low-clause-refused : goal.search_node-returns-in_err-low-clause-refused
+search_node-returns-in_err-low-clause-refused t c =
+    let s = c.args.s.now in
+    let e = c.args.e.now in
+    let n = c.args.n.now in
+    let r = c.args.range in
+    let z = some_in_node e (out-Node n).leaf (visited_in_parts s e (parts_as (out-Node n).parts.items)) (visited_in_half s e (lower r) (half_as (out-Node n).low)) (visited_in_half s e (upper r) (half_as (out-Node n).high)) in
+    on_refusal c.from_residual-in_err-low.result (FindsSome e (all_of (visited s e r (plain n))))
+    (subst (λ v. FindsSome e (all_of v)) (sym (node_visited s e r n)) (z.in_low (subst (λ q. FindsSome e (all_of (visited_in_half s e q (half_as (out-Node n).low)))) c.lower_range.ensures.range c.in_err-low.ensures.refused)))
+
+pub search_node-returns-in_err-high-clause-refused : goal.search_node-returns-in_err-high-clause-refused
+search_node-returns-in_err-high-clause-refused t c =
+    let s = c.args.s.now in
+    let e = c.args.e.now in
+    let n = c.args.n.now in
+    let r = c.args.range in
+    let z = some_in_node e (out-Node n).leaf (visited_in_parts s e (parts_as (out-Node n).parts.items)) (visited_in_half s e (lower r) (half_as (out-Node n).low)) (visited_in_half s e (upper r) (half_as (out-Node n).high)) in
+    on_refusal c.from_residual-in_err-high.result (FindsSome e (all_of (visited s e r (plain n))))
+    (subst (λ v. FindsSome e (all_of v)) (sym (node_visited s e r n)) (z.in_high (subst (λ q. FindsSome e (all_of (visited_in_half s e q (half_as (out-Node n).high)))) c.upper_range.ensures.range c.in_err-high.ensures.refused)))
+
+pub search_parts-returns-in_err-search_part-clause-refused : goal.search_parts-returns-in_err-search_part-clause-refused
+search_parts-returns-in_err-search_part-clause-refused t c =
+    let s = c.args.s.now in
+    let e = c.args.e.now in
+    let ps = c.args.parts.now in
+    let n = c.loop-part.part-index in
+    let p = c.part-item.result in
+    let all = visited_in_parts s e (parts_as ps) in
+    let first = visited_in_parts s e (parts_of (part_as p ∷ [])) in
+    let rest = visited_in_parts s e (parts_as (drop (n + 1) ps)) in
+    let two = ap (λ v. satisfied e (all_of v)) (visited_from s e ps n p (omega (arith, c.loop-part-test.true)) c.part-item.is) ∙ satisfied_leaves e first rest in
+    let i = c.loop-part.invariant in
+    on_refusal c.from_residual.result (FindsSome e (all_of all)) (some_from c.args.found.now.rows c.loop-part.found.rows (satisfied e (all_of all)) (satisfied e (all_of (visited_in_parts s e (parts_as (drop n ps))))) i.2 i.3 (some_first (satisfied e (all_of (visited_in_parts s e (parts_as (drop n ps))))) (satisfied e (all_of first)) (satisfied e (all_of rest)) two c.in_err-search_part.ensures.refused))

@@ -2,7 +2,8 @@ use Rattle.std.proofs.Common.{◌≡◌, ◌+◌, ◌++◌, length, drop}
 use Rattle.be_shape.specs.Plain.{parts_as}
 use Rattle.be_shape.specs.Search.{visited_in_parts, all_of}
 use Rattle.be_model.specs.Matching.{satisfied}
-use Rattle.be_match.specs.Leaves.{BeginsWith, KeepsRoom}
+use Rattle.be_base.specs.Lists.{BeginsWith}
+use Rattle.be_match.specs.Leaves.{KeepsRoom}
 use Rattle.be_match.proofs.searches.+searches.Given as goal
 
 -- what was counted and put, and what is still to be visited
@@ -11,4 +12,4 @@ invariant-search_parts-loop-part l =
     (l.cost.visits + length (visited_in_parts l.s l.e (parts_as (drop l.part-index l.parts))) ≡ length (visited_in_parts l.s l.e (parts_as l.parts)))
     × (l.cost.tested + length (all_of (visited_in_parts l.s l.e (parts_as (drop l.part-index l.parts)))) ≡ length (all_of (visited_in_parts l.s l.e (parts_as l.parts))))
     × (l.found.rows ++ satisfied l.e (all_of (visited_in_parts l.s l.e (parts_as (drop l.part-index l.parts)))) ≡ l.initial.found.rows ++ satisfied l.e (all_of (visited_in_parts l.s l.e (parts_as l.parts))))
-    × BeginsWith l.initial.found.rows l.found.rows × KeepsRoom l.initial.found l.found
+    × BeginsWith l.found.rows l.initial.found.rows × KeepsRoom l.initial.found l.found

@@ -1,0 +1,102 @@
+-- The rule of one mailbox, over what it holds and what each pass shows. Each seat's puts are shown by one pass, and one pass takes.
+use Rattle.std.specs.Prelude.{◌≡◌, ℕ, zero, suc, ◌<◌, ◌==◌, ◌&&◌, ◌||◌, not, Bool, true, false, List, [], ◌∷◌, ◌++◌, take, drop, All, if◌then◌else◌}
+use mathlib.Core.Option.{some}
+use lib.ListN.{get_elem?}
+use Rattle.be_model.specs.Schemas.{Attributes}
+use Rattle.be_model.specs.Letters.{PlainLetter}
+use Rattle.be_mail.specs.Letters.{Posting, IsFor, letters_from}
+
+-- a seat, and what it put into the mailbox
+abbrev pub SeatPuts : Type 0
+SeatPuts = ℕ × List PlainLetter
+
+-- what a pass shows: whose mailbox it is, what each of the pass's seats put there, whether the pass takes, and what was taken then
+pub record HandState : Type 0 where
+  pub at : ℕ
+  pub puts : List SeatPuts
+  pub takes : Bool
+  pub taken : List Posting
+
+abbrev pub hand : ℕ → List SeatPuts → Bool → List Posting → HandState
+hand at puts takes taken = record { at = at; puts = puts; takes = takes; taken = taken }
+
+-- a pass that has no seat
+abbrev pub idle : HandState
+idle = hand 0 [] false []
+
+-- n seats from `low` on, which put nothing
+abbrev pub no_puts : ℕ → ℕ → List SeatPuts
+no_puts low zero = []
+no_puts low (suc n) = (low, []) ∷ no_puts (suc low) n
+
+-- the pass of a new mailbox, which has all seats
+abbrev pub first_hand : ℕ → HandState
+first_hand seats = hand 0 (no_puts 0 seats) true []
+
+-- the mailbox is that of the next seat
+abbrev pub next_place : HandState → HandState
+next_place v = hand (suc v.at) v.puts v.takes v.taken
+
+abbrev pub is_first : ℕ → List SeatPuts → Bool
+is_first seat [] = false
+is_first seat (e ∷ es) = e.0 == seat
+
+-- the pass of the first seat, which takes where the mailbox is its own
+abbrev pub one_seat : HandState → HandState
+one_seat v = hand v.at (take 1 v.puts) (v.takes && is_first v.at v.puts) v.taken
+
+abbrev pub later_seats : HandState → HandState
+later_seats v = hand v.at (drop 1 v.puts) (v.takes && not (is_first v.at v.puts)) v.taken
+
+-- two passes in one
+abbrev pub both : HandState → HandState → HandState
+both v w = hand v.at (v.puts ++ w.puts) (v.takes || w.takes) (if w.takes then w.taken else v.taken)
+
+abbrev pub put_first : List SeatPuts → PlainLetter → List SeatPuts
+put_first [] letter = []
+put_first (e ∷ es) letter = (e.0, e.1 ++ letter ∷ []) ∷ es
+
+abbrev pub with_put : HandState → Posting → HandState
+with_put v x = hand v.at (put_first v.puts x.letter) v.takes v.taken
+
+abbrev pub with_taken : HandState → Posting → HandState
+with_taken v x = hand v.at v.puts v.takes (v.taken ++ x ∷ [])
+
+-- whose mailbox it is, which pass shows each seat's puts, which pass takes, and what was taken
+pub record BoxState : Type 0 where
+  pub at : ℕ
+  pub owner : ℕ → ℕ
+  pub taker : ℕ
+  pub taken : List Posting
+
+-- this pass shows the seat's puts: of what was taken and what is queued, the letters from the seat, in order
+pub record Shows (seats : ℕ) (s : BoxState) (items : List Posting) (pass at : ℕ) (e : SeatPuts) : Type 0 where
+  pub seat : e.0 < seats
+  pub place : at ≡ s.at
+  pub owner : s.owner e.0 ≡ pass
+  pub order : letters_from e.0 (s.taken ++ items) ≡ e.1
+
+-- this pass takes, and shows all that was taken
+pub record Takes (s : BoxState) (pass at : ℕ) (xs : List Posting) : Type 0 where
+  pub place : at ≡ s.at
+  pub taker : s.taker ≡ pass
+  pub taken : s.taken ≡ xs
+
+pub record Fits (seats : ℕ) (s : BoxState) (items : List Posting) (pass : ℕ) (v : HandState) : Type 0 where
+  pub puts : All (Shows seats s items pass v.at) v.puts
+  pub takes : v.takes ≡ true → Takes s pass v.at v.taken
+
+-- each letter may lie here, and what each pass shows is so
+pub record Keeps (schema : Attributes) (seats : ℕ) (s : BoxState) (items : List Posting) (views : List HandState) : Type 0 where
+  pub only : All (IsFor schema seats s.at) (s.taken ++ items)
+  pub fits : (pass : ℕ) (v : HandState) → get_elem? views pass ≡ some v → Fits seats s items pass v
+
+abbrev pub Delivers : Attributes → ℕ → List Posting → List HandState → Type 0
+Delivers schema seats items views = (s : BoxState) × Keeps schema seats s items views
+
+-- what a pass learns of the queued letters
+pub record Sees (schema : Attributes) (seats : ℕ) (v : HandState) (items : List Posting) : Type 0 where
+  pub taken : List Posting
+  pub only : All (IsFor schema seats v.at) (taken ++ items)
+  pub puts : All (λ (e : SeatPuts). letters_from e.0 (taken ++ items) ≡ e.1) v.puts
+  pub own : v.takes ≡ true → taken ≡ v.taken
