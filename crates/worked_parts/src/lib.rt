@@ -1,0 +1,5 @@
+//! Tests of the parts: what no clause of theirs says.
+#![tactic(auto)]
+
+#[cfg(test)]
+mod mail;
