@@ -14,6 +14,8 @@ mod expr;
 #[cfg(test)]
 mod io;
 #[cfg(test)]
+mod mail;
+#[cfg(test)]
 mod match_;
 #[cfg(test)]
 mod model;
