@@ -1,6 +1,7 @@
 #!/usr/bin/env bash
 # Prints the time of SUBs, of as many UNSUBs in a mixed order, and of LISTs of all names, and how each grows at
 # twice as many. No part of the gate.
+# shellcheck source=common.sh
 . "$(dirname "${BASH_SOURCE[0]}")/common.sh"
 use_program
 printf 'int price 0 1000\nsym side buy sell\n' >"$room/schema.txt"

@@ -1,6 +1,7 @@
 #!/usr/bin/env bash
 # Prints the time of reading 100,000 conditions of four predicates, and how much longer a set of 64 values takes than
 # one of a single value. It builds, and so proves, a program of its own. No part of the gate.
+# shellcheck source=common.sh
 . "$(dirname "${BASH_SOURCE[0]}")/common.sh"
 own_crate conditions be_base be_model be_expr
 cat >"$room/crates/conditions/src/main.rt" <<'PROGRAM'

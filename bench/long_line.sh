@@ -1,6 +1,7 @@
 #!/usr/bin/env bash
 # Prints the time and the peak memory of `run` on 1 GiB of one line, which must stay below 20 MB.
 # No part of the gate.
+# shellcheck source=common.sh
 . "$(dirname "${BASH_SOURCE[0]}")/common.sh"
 use_program
 printf 'int price 0 1000\n' >"$room/schema.txt"

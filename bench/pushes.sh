@@ -1,6 +1,7 @@
 #!/usr/bin/env bash
 # Prints the time and the memory of pushing removals onto the list of changes, whose entries are the longest,
 # at 1,000,000 and at 2,000,000 pushes. It builds, and so proves, a program of its own. No part of the gate.
+# shellcheck source=common.sh
 . "$(dirname "${BASH_SOURCE[0]}")/common.sh"
 own_crate pushes be_base be_model be_change
 cat >"$room/crates/pushes/src/main.rt" <<'PROGRAM'

@@ -1,6 +1,7 @@
 #!/usr/bin/env bash
 # Prints lines per second and peak memory of `run` for 1,000 subscriptions and 20,000 events on one core,
 # and how the time grows at twice the subscriptions and at twice the events. No part of the gate.
+# shellcheck source=common.sh
 . "$(dirname "${BASH_SOURCE[0]}")/common.sh"
 use_program
 pin=()

@@ -1,6 +1,7 @@
 #!/usr/bin/env bash
 # Prints the time of reading the greatest schema, 256 attributes of 4,096 symbols each, of half of it, and of a schema
 # whose one line has more symbols than it may. No part of the gate.
+# shellcheck source=common.sh
 . "$(dirname "${BASH_SOURCE[0]}")/common.sh"
 use_program
 

@@ -2,6 +2,7 @@
 # Prints the time of 20,000,000 searches of a tree with 4, 8 and 16 rows at its root, each of which is tested and not
 # found, beyond the time of as many searches without a row. It builds, and so proves, a program of its own. No part of
 # the gate.
+# shellcheck source=common.sh
 . "$(dirname "${BASH_SOURCE[0]}")/common.sh"
 own_crate search be_base be_model be_shape be_match
 mkdir -p "$room/crates/search/proofs/fill" "$room/crates/search/specs"
