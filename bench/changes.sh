@@ -23,10 +23,7 @@ script() {
 # measure SUBS UNSUBS LISTS: the least seconds of processor time of five runs
 measure() {
     script "$@" >"$room/script.txt"
-    local TIMEFORMAT='%3U %3S'
-    for _ in 1 2 3 4 5; do
-        { time "$program" run "$room/schema.txt" <"$room/script.txt" >"$room/out.txt"; } 2>&1
-    done | awk '{ took = $1 + $2; if (NR == 1 || took < least) least = took } END { print least }'
+    least 5 "$room/script.txt" "$program" run "$room/schema.txt"
     [ "$(grep -vc '^OK\|^LIST' "$room/out.txt")" -eq 0 ] || { echo "a line was refused" >&2; exit 1; }
 }
 
