@@ -1,6 +1,6 @@
 #!/usr/bin/env bash
-# Prints the time of SUBs, of as many UNSUBs in a mixed order, and of LISTs of all names, and how each grows at
-# twice as many. No part of the gate.
+# Prints the time of SUBs, of as many UNSUBs in a mixed order, and of LISTs of all names, how each grows at twice as
+# many, and the memory that changes take for as long as a run lasts. No part of the gate.
 # shellcheck source=common.sh
 . "$(dirname "${BASH_SOURCE[0]}")/common.sh"
 use_program
@@ -30,6 +30,12 @@ measure() {
 sub="$(measure 100000 0 0)" && subs="$(measure 200000 0 0)" || exit 1
 unsub="$(measure 100000 100000 0)" && unsubs="$(measure 200000 200000 0)" || exit 1
 list="$(measure 100000 0 20)" && lists="$(measure 200000 0 20)" || exit 1
+awk 'BEGIN { for (i = 0; i < 500000; i++) print "SUB s price < 5\nUNSUB s" }' >"$room/script.txt"
+none="$(peak /dev/null "$program" run "$room/schema.txt")"
+kept="$(peak "$room/script.txt" "$program" run "$room/schema.txt")"
+awk -v none="$none" -v kept="$kept" 'BEGIN {
+    printf "an empty session: %.1f MB; 1,000,000 changes that leave nothing live: %.0f bytes a change\n", none / 1024, (kept - none) * 1024 / 1000000
+}'
 awk -v a="$sub" -v b="$subs" -v c="$unsub" -v d="$unsubs" -v e="$list" -v f="$lists" 'BEGIN {
     printf "100,000 SUBs: %.2f s; twice as many: %.2f times\n", a, b / a
     printf "100,000 UNSUBs in a mixed order: %.2f s; twice as many: %.2f times\n", c - a, (d - b) / (c - a)
