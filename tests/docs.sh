@@ -28,7 +28,7 @@ while IFS='|' read -r _ _ names module _; do
     file="crates/$(echo "$module" | tr -d '` ').antt"
     [ -f "$file" ] || { lacks "docs/architecture.md names $file, which isn't there"; continue; }
     for name in $(echo "$names" | tr -d '`,'); do
-        grep -q "^\(abbrev \|unfoldable \|opaque \)*pub .*$name" "$file" || lacks "$file has no $name"
+        grep -q "^ *\([a-z]* \)\?pub .*\<$name\>" "$file" || lacks "$file has no $name"
     done
 done < <(grep '^|.*|.*| `be_[a-z]*/specs/[A-Za-z]*` |' docs/architecture.md)
 
