@@ -34,15 +34,19 @@ done < <(grep '^|.*|.*| `be_[a-z]*/specs/[A-Za-z]*` |' docs/architecture.md)
 
 # words in the column 'Carried by' of docs/promises.md
 find crates -name out -prune -o \( -name '*.rt' -o -name '*.antt' \) -exec cat {} + | grep -o '[A-Za-z_][A-Za-z0-9_]*' | sort -u >"$room/words"
-awk -F'|' '/^\| / { print $3 }' docs/promises.md | grep -o '`[^`]*`' | grep -v '/' | grep -o '[A-Za-z_][A-Za-z0-9_]*' | sort -u >"$room/named"
+awk -F'|' '/^\| / && NF == 5 { print $3 }' docs/promises.md | grep -o '`[^`]*`' | grep -v '/' | grep -o '[A-Za-z_][A-Za-z0-9_]*' | sort -u >"$room/named"
 while read -r word; do
     lacks "docs/promises.md names $word, which no source has"
 done < <(comm -23 "$room/named" "$room/words")
 
-# must-fail edits: edit `name` of `crate`
-while read -r name crate; do
-    [ -f "crates/$crate/must-fail/$name.edit" ] || lacks "docs/promises.md names the edit $name of $crate, which isn't there"
-done < <(grep -o 'edit `[a-z_0-9]*` of `[a-z_]*`' docs/promises.md | tr -d '`' | cut -d ' ' -f 2,4)
+# must-fail edits: edit `name` of `crate`, or edits `name` and `name` of `crate`
+while read -r line; do
+    mapfile -t words < <(echo "$line" | grep -o '`[a-z_0-9]*`' | tr -d '`')
+    crate="${words[-1]}"
+    for name in "${words[@]:0:${#words[@]}-1}"; do
+        [ -f "crates/$crate/must-fail/$name.edit" ] || lacks "docs/promises.md names the edit $name of $crate, which isn't there"
+    done
+done < <(grep -o 'edits\? `[^|:;]*` of `[a-z_]*`' docs/promises.md)
 
 [ "$missing" -eq 0 ] || exit 1
 echo "the documents name what is there"
