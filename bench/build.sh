@@ -7,6 +7,9 @@ tar -C "$top" --exclude=out --exclude=.git -cf - . | tar -C "$room" -xf -
 TIMEFORMAT='%0R %0U %0S'
 { time "$room/justmeadow" --build >"$room/program" 2>"$room/err.txt"; } 2>"$room/took"
 [ -s "$room/program" ] || { cat "$room/err.txt"; exit 1; }
-awk -v processors="$(nproc)" '{ printf "first build on %d processors: %.0f min, %.0f processor min\n", processors, $1 / 60, ($2 + $3) / 60 }' "$room/took"
-du -sch "$room"/crates/*/out | awk 'END { print "disk: " $1 }'
-stat -c '%s' "$(cat "$room/program")" | awk '{ printf "the program: %.0f kB\n", $1 / 1000 }'
+awk -v processors="$(nproc)" '{
+    printf "the first build, on %d processors: %.0f min\n", processors, $1 / 60
+    printf "its processor time: %.0f min\n", ($2 + $3) / 60
+}' "$room/took"
+du -sch "$room"/crates/*/out | awk 'END { print "what it keeps on disk: " $1 "B" }'
+stat -c '%s' "$(cat "$room/program")" | awk '{ printf "the program that it builds: %.0f kB\n", $1 / 1000 }'

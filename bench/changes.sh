@@ -34,10 +34,11 @@ awk 'BEGIN { for (i = 0; i < 500000; i++) print "SUB s price < 5\nUNSUB s" }' >"
 none="$(peak /dev/null "$program" run "$room/schema.txt")"
 kept="$(peak "$room/script.txt" "$program" run "$room/schema.txt")"
 awk -v none="$none" -v kept="$kept" 'BEGIN {
-    printf "an empty session: %.1f MB; 1,000,000 changes that leave nothing live: %.0f bytes a change\n", none / 1024, (kept - none) * 1024 / 1000000
+    printf "memory of an empty session: %.1f MB\n", none / 1024
+    printf "memory of a change that leaves nothing live, of 1,000,000 SUBs and UNSUBs: %.0f bytes\n", (kept - none) * 1024 / 1000000
 }'
 awk -v a="$sub" -v b="$subs" -v c="$unsub" -v d="$unsubs" -v e="$list" -v f="$lists" 'BEGIN {
-    printf "100,000 SUBs: %.2f s; twice as many: %.2f times\n", a, b / a
-    printf "100,000 UNSUBs in a mixed order: %.2f s; twice as many: %.2f times\n", c - a, (d - b) / (c - a)
-    printf "20 LISTs of 100,000 names: %.2f s; of twice as many: %.2f times\n", e - a, (f - b) / (e - a)
+    printf "100,000 SUBs: %.2f s, and of twice as many: %.2f s\n", a, b
+    printf "100,000 UNSUBs in a mixed order: %.2f s, and of twice as many: %.2f s\n", c - a, d - b
+    printf "a LIST of 100,000 names: %.1f ms, and of twice as many: %.1f ms\n", 50 * (e - a), 50 * (f - b)
 }'

@@ -17,6 +17,8 @@ falling="$(seq -s , 164 -1 101)"
 four="$(measure 'price >= 100 and qty between 3 and 9 and size in {100,200,300} and venue != 7')" || exit 1
 one="$(measure 'price in {101}')" && up="$(measure "price in {$rising}")" && down="$(measure "price in {$falling}")" || exit 1
 awk -v four="$four" -v one="$one" -v up="$up" -v down="$down" 'BEGIN {
-    printf "100,000 conditions of four predicates: %.2f s\n", four
-    printf "100,000 sets of one value: %.2f s; of 64 rising ones: %.2f s, %.0f times; of 64 falling ones: %.2f s, %.0f times\n", one, up, up / one, down, down / one
+    printf "reading a condition of four predicates: %.2f µs\n", 10 * four
+    printf "reading a condition with a set of one value: %.2f µs\n", 10 * one
+    printf "reading one with a set of 64 values that rise: %.2f µs\n", 10 * up
+    printf "reading one with a set of 64 values that fall: %.2f µs\n", 10 * down
 }'

@@ -9,5 +9,5 @@ head -c 1073741824 /dev/zero | tr '\0' 'x' |
     /usr/bin/time -o "$room/took" -f '%e %M' "$program" run "$room/schema.txt" >"$room/out"
 code=${PIPESTATUS[2]}
 read -r seconds peak < <(tail -n 1 "$room/took")
-echo "1 GiB of one line: $seconds s, $peak kB at most, status $code, reply $(cat "$room/out")"
+echo "1 GiB of one line, answered $(cat "$room/out"): $seconds s, $((peak / 1024)) MB of memory at most"
 [ "$code" -eq 0 ] && [ "$(cat "$room/out")" = LONG ] && [ "$peak" -lt 20000 ]

@@ -15,6 +15,7 @@ measure() {
 none="$(measure 0)" && once="$(measure 1000000)" && twice="$(measure 2000000)" || exit 1
 awk -v none="$none" -v once="$once" -v twice="$twice" 'BEGIN {
     split(none, n); split(once, a); split(twice, b)
-    printf "1,000,000 pushes: %.2f s, %.0f bytes an entry\n", a[1], (a[2] - n[2]) * 1024 / 1000000
-    printf "2,000,000 pushes: %.2f s, %.2f times\n", b[1], b[1] / a[1]
+    printf "memory of an entry of the list of changes, beside its row: %.0f bytes\n", (a[2] - n[2]) * 1024 / 1000000
+    printf "appending 1,000,000 entries: %.2f s\n", a[1]
+    printf "appending 2,000,000 entries: %.2f s\n", b[1]
 }'

@@ -14,7 +14,7 @@ measure() {
     least "$1" "$room/script.txt" "${pin[@]}" "$program" run "$room/schema.txt"
 }
 
-# row SUBS EVENTS
+# row SUBS EVENTS: a row of the table
 row() {
     local kept all
     kept="$(measure 5 "$1" 0)" && all="$(measure 3 "$1" "$2")" || exit 1
@@ -22,7 +22,8 @@ row() {
         -v memory="$(peak "$room/script.txt" "$program" run "$room/schema.txt")" '
         $1 == "HIT" { hits += $3 }
         END {
-            printf "| %d | %.1f µs | %.0f µs | %.1f | %.1f MB |\n", subs, 1e6 * kept / subs, 1e6 * (all - kept) / events, hits / events, memory / 1024
+            subs_told = substr(subs, 1, length(subs) - 3) "," substr(subs, length(subs) - 2)
+            printf "| %s | %.1f µs | %.0f µs | %.1f | %.1f MB |\n", subs_told, 1e6 * kept / subs, 1e6 * (all - kept) / events, hits / events, memory / 1024
         }' "$room/out.txt"
 }
 
@@ -37,8 +38,8 @@ subs="$(measure 9 2000 20000)"
 events="$(measure 9 1000 40000)"
 both="$(measure 9 2000 40000)"
 awk -v base="$base" -v subs="$subs" -v events="$events" -v both="$both" 'BEGIN {
-    printf "1,000 subscriptions, 20,000 events: %.3f s, %d lines a second\n", base, 21000 / base
-    printf "twice the subscriptions: %.3f s, %.2f times\n", subs, subs / base
-    printf "twice the events: %.3f s, %.2f times\n", events, events / base
-    printf "twice both: %.3f s, %.2f times\n", both, both / base
+    printf "1,000 subscriptions and 20,000 events: %.2f s, %d lines a second\n", base, 21000 / base
+    printf "with twice the subscriptions: %.2f times as long\n", subs / base
+    printf "with twice the events: %.2f times as long\n", events / base
+    printf "with twice both: %.2f times as long\n", both / base
 }'

@@ -27,6 +27,7 @@ measure() {
 
 half="$(measure 0 128 4096)" && whole="$(measure 0 256 4096)" && over="$(measure 3 1 1000000)" || exit 1
 awk -v half="$half" -v whole="$whole" -v over="$over" 'BEGIN {
-    printf "256 attributes of 4,096 symbols: %.3f s; half of them: %.2f times as fast\n", whole, whole / half
-    printf "one attribute of 1,000,000 symbols, refused: %.3f s\n", over
+    printf "reading the greatest schema, 256 attributes of 4,096 symbols: %.2f s\n", whole
+    printf "reading half of it: %.2f s\n", half
+    printf "refusing an attribute of 1,000,000 symbols: %.2f s\n", over
 }'

@@ -15,8 +15,8 @@ measure() {
 
 none="$(measure 0)" && four="$(measure 4)" && eight="$(measure 8)" && all="$(measure 16)" || exit 1
 awk -v none="$none" -v four="$four" -v eight="$eight" -v all="$all" 'BEGIN {
-    printf "no row: %.3f s\n", none
-    printf " 4 rows: %.3f s more\n", four - none
-    printf " 8 rows: %.3f s more, %.2f times\n", eight - none, (eight - none) / (four - none)
-    printf "16 rows: %.3f s more, %.2f times\n", all - none, (all - none) / (eight - none)
+    printf "searching a tree of one node without a row: %.1f ns\n", 50 * none
+    printf "testing 4 rows there: %.1f ns more\n", 50 * (four - none)
+    printf "testing 8 rows there: %.1f ns more\n", 50 * (eight - none)
+    printf "testing 16 rows there: %.1f ns more\n", 50 * (all - none)
 }'
