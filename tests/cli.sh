@@ -209,12 +209,13 @@ else
     same 'a checkout that cannot be written' 1 '' 'justmeadow: nothing can be written to TOP, where the build keeps its work: copy it to a folder of your own\n'
 fi
 
-# a client in another language
+# a client in another language, and a model of the page on the protocol
 if command -v python3 >/dev/null; then
     python3 "$top/tests/client.py" "$program" || exit 1
-    passed=$((passed + 1))
+    python3 "$top/tests/model.py" "$program" 40 || exit 1
+    passed=$((passed + 2))
 else
-    echo 'skipped: the client: there is no python3 here'
+    echo 'skipped: the client and the model: there is no python3 here'
 fi
 
 echo "$passed passed, 0 failed"
