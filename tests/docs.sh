@@ -17,7 +17,7 @@ lacks() {
 for document in "${documents[@]}"; do
     while read -r path; do
         [ -e "$path" ] || lacks "$document names $path, which isn't there"
-    done < <(grep -o '`\(crates\|docs\|bench\|tests\|tools\|examples\)/[A-Za-z0-9_./-]*`' "$document" | tr -d '`' | grep -v '[A-Z]\{4\}')
+    done < <(grep -o '`\(crates\|docs\|bench\|tests\|tools\|examples\)/[A-Za-z0-9_./-]*`' "$document" | tr -d '`' | grep -v '[A-Z]\{4\}\|/out/')
     while read -r path; do
         [ -e "$(dirname "$document")/$path" ] || lacks "$document has a link to $path, which isn't there"
     done < <(grep -o '](\([A-Za-z0-9_./-]*\)' "$document" | cut -c 3- | sed 's/^$/./')
