@@ -2,7 +2,7 @@
 
 use be_base::{AttrNo, Id, Name, NoMemory, PREDICATES, SET_VALUES, SessionNo};
 use be_model::{
-    Change, Conj, Domain, DomFault, Event, Found, Hop, Names, Op, Path, Pred, Row, Schema, Values,
+    Change, Conj, DomFault, Domain, Event, Found, Hop, Names, Op, Path, Pred, Row, Schema, Values,
     check_conj,
 };
 use std::alloc::Global;
