@@ -3,3 +3,5 @@
 
 #[cfg(test)]
 mod mail;
+#[cfg(test)]
+mod score;
