@@ -20,4 +20,6 @@ mod match_;
 #[cfg(test)]
 mod model;
 #[cfg(test)]
+mod score;
+#[cfg(test)]
 mod shape;
