@@ -4,10 +4,6 @@
 #[cfg(test)]
 mod base;
 #[cfg(test)]
-mod event;
-#[cfg(test)]
-mod expr;
-#[cfg(test)]
 mod io;
 #[cfg(test)]
 mod model;
