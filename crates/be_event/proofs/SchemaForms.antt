@@ -11,7 +11,7 @@ use Rattle.be_model.specs.declared.schemas.Domain.{Domain}
 use Rattle.be_model.specs.declared.schemas.Domain.TheVariants.{Int, Sym}
 use Rattle.be_model.specs.Schemas.{Attributes, IsSchema, attribute_of, names_of_attributes, is_among_texts, all_differ, is_domain}
 use Rattle.be_model.proofs.Attributes.{IsSchema-push}
-use Rattle.std.proofs.lemmas.Bool.{and_parts, and_from}
+use Rattle.std.proofs.lemmas.Bool.{and_from}
 use Rattle.be_event.specs.Grammar.{is_name}
 use Rattle.be_io.specs.FileLines.{file_lines}
 use Rattle.be_event.specs.SchemaTexts.{words, is_remark, means_nothing, int_domain, sym_domain, domain_of, declared, repeats, is_out_of_range, has_many, first_kind, kind_of, judged, judge, declaration, schema_from, schema_of}

@@ -1,10 +1,10 @@
 -- The words of a line, by its first bytes.
-use Rattle.std.proofs.Common.{◌≡◌, ◌≢◌, ℕ, zero, suc, ◌+◌, ◌-◌, ◌<◌, ◌≤◌, not, Bool, true, false, [], ◌∷◌, ◌++◌, length, length-append, take, drop, get_or, refl, sym, ap, ◌∙◌, arith, length-drop}
+use Rattle.std.proofs.Common.{◌≡◌, ◌≢◌, ℕ, zero, suc, ◌-◌, ◌<◌, ◌≤◌, not, Bool, true, false, [], ◌∷◌, ◌++◌, length, length-append, take, drop, refl, sym, ap, ◌∙◌, arith, length-drop}
 use Rattle.std.specs.List.{list_all}
 use Rattle.be_base.specs.Text.{Text}
 use Rattle.be_base.specs.Tokens.{is_blank}
 use Rattle.be_base.specs.Fronts.{starts_with, IsAfterBlanks}
-use Rattle.std.proofs.lemmas.Bool.{and_parts, and_from}
+use Rattle.std.proofs.lemmas.Bool.{and_parts}
 use Rattle.be_event.specs.SchemaTexts.{words, begins_word}
 
 -- a blank in front changes nothing

@@ -1,5 +1,5 @@
 -- The texts of schemas.
-use Rattle.std.specs.Prelude.{◌≡◌, ℕ, ◌+◌, ◌==◌, ◌||◌, not, Bool, true, false, List, [], ◌∷◌, ◌++◌, length, map, nat_le, nat_lt, Option, Some, None, option_map, option_and_then, Result, Ok, Err, codes, if◌then◌else◌}
+use Rattle.std.specs.Prelude.{◌≡◌, ℕ, ◌+◌, ◌==◌, ◌||◌, not, Bool, true, false, List, [], ◌∷◌, ◌++◌, length, nat_le, nat_lt, Option, Some, None, option_map, option_and_then, Result, Ok, Err, codes, if◌then◌else◌}
 use Rattle.std.specs.List.{list_all}
 use Rattle.be_base.specs.Text.{Text, same_text, name_of}
 use Rattle.be_base.specs.Numbers.{int_of}

@@ -11,7 +11,6 @@ mod core_;
 mod event;
 #[cfg(test)]
 mod expr;
-#[cfg(test)]
 mod io;
 #[cfg(test)]
 mod mail;
