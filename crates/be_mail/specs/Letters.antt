@@ -13,8 +13,9 @@ pub record Posting : Type 0 where
 abbrev pub posting : ℕ → PlainLetter → Posting
 posting from letter = record { from = from; letter = letter }
 
--- the letter's row is of its session, and its event lies in the schema and satisfies the row
+-- the letter is for a session (0 is nobody's), its row is of that session, and its event lies in the schema and satisfies the row
 pub record IsFit (schema : Attributes) (letter : PlainLetter) : Type 0 where
+  pub somebody : 0 < letter.session
   pub session : letter.row.session.0 ≡ letter.session
   pub lies : event_lies schema letter.event ≡ true
   pub satisfies : satisfies letter.event letter.row.conj ≡ true

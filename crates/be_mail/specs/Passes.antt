@@ -19,6 +19,11 @@ pub record Passes : Type 0 where
   pub fulls : ℕ
   pub empties : ℕ
 
+-- the seat is one of those that have a mailbox, and a list of what it put stands for each mailbox
+pub record AreOfSeat (q : Passes) : Type 0 where
+  pub own : q.seat < length q.boxes
+  pub each : length q.puts ≡ length q.boxes
+
 -- what the seat put into a mailbox
 abbrev pub put_into : ℕ → Passes → List PlainLetter
 put_into mailbox q = slice_index_or q.puts mailbox []

@@ -1,6 +1,6 @@
 //! The mailboxes of all seats, and what seats do with them.
 
-ghost use Rattle.std.specs.Prelude.{◌≡◌, ℕ, OnOk, OnErr, IfErr, IfSome, IfNone};
+ghost use Rattle.std.specs.Prelude.{◌≡◌, ℕ, length, OnOk, OnErr, IfErr, IfSome, IfNone};
 ghost use Rattle.be_base.specs.declared.limits.TheConstants.{BOX_LETTERS};
 ghost use Rattle.be_model.specs.Letters.{plain_letter};
 ghost use Rattle.be_mail.specs.Letters.{IsFit, IsFor, posting, seat_of};
@@ -32,6 +32,14 @@ impl<S: Post> Model for Mail<S> {
 }
 
 impl<S: Post> Mail<S> {
+    /// How many seats have a mailbox.
+    pub fn seats(&self) -> u32
+        ensures seats { result ≡ S.seats }
+        ensures boxes { length self.now ≡ S.seats }
+    {
+        self.boxes.len() as u32
+    }
+
     /// Puts a letter into the mailbox of its session's seat, which is `to`. The letter comes back only where the mailbox
     /// was full at the step that looked. It takes no memory.
     pub fn put<R: Wait>(

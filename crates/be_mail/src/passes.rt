@@ -1,6 +1,7 @@
 //! The passes of one seat.
 
 ghost use Rattle.std.specs.Prelude.{◌≡◌};
+ghost use Rattle.be_mail.specs.Passes.{AreOfSeat};
 
 use crate::rule::BoxPass;
 use std::marker::Model;
@@ -28,7 +29,8 @@ impl Model for MailPasses {
 impl MailPasses {
     /// The seat whose passes these are, from 0.
     pub fn seat(&self) -> u32
-        ensures { result ≡ self.now.seat }
+        ensures seat { result ≡ self.now.seat }
+        ensures form { AreOfSeat self.now }
     {
         self.seat
     }

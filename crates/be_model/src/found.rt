@@ -1,6 +1,6 @@
 //! Rows that a search found.
 
-ghost use Rattle.std.specs.Prelude.{◌≡◌, ◌↔◌, ◌+◌, ◌-◌, ◌<◌, ◌≤◌, [], ◌∷◌, ◌++◌, length, take, IsTrue, OnOk, OnErr, IsPermutation};
+ghost use Rattle.std.specs.Prelude.{◌≡◌, ◌↔◌, ◌+◌, ◌-◌, ◌<◌, ◌≤◌, [], ◌∷◌, ◌++◌, length, take, IsTrue, IsOk, OnOk, OnErr, IsPermutation};
 ghost use Rattle.std.specs.List.Sorted.{IsNonDecreasingBy};
 ghost use Rattle.std.specs.Arc.{arc_value};
 ghost use Rattle.be_model.specs.Rows.{found, id_of, rows_in};
@@ -45,6 +45,8 @@ impl Found {
         ensures rows { self.new.rows ≡ self.old.rows }
         ensures room { OnOk result (n ≤ self.new.spare) }
         ensures kept { self.old.spare ≤ self.new.spare }
+        // Where there is room already it takes no memory.
+        ensures succeeds { n ≤ self.old.spare → IsOk result }
         ensures refused { OnErr result (self.new ≡ self.old) }
     {
         self.rows.reserve(n)?;

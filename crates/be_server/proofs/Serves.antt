@@ -167,7 +167,7 @@ each false asked answered e = e
 -- what was answered is a run over the list that it made
 are_run : (s : Attributes) (ps : List Exchange) (ls : List TextLine) → RanAlone s [] 1 ps → AreAlone [] ps → requests ps ≡ map (reading s) ls → AreRun s [] ls ps
 are_run s ps ls ran alone e = record {
-  exchanges = record { session = ran.session; each = each ran.session.end.ended (map (reading s) ls) (requests ps) e };
+  exchanges = record { somebody = λ zero. absurd cc; session = ran.session; each = each ran.session.end.ended (map (reading s) ls) (requests ps) e };
   formed = ran.formed;
   alone = alone;
 }

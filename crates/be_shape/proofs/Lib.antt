@@ -5,7 +5,6 @@ pub mod RootPut
 pub mod RowCounts
 pub mod Placed
 pub mod ExampleTree
-pub mod NewIds
 pub mod Children
 pub mod NodeList
 pub mod Visited

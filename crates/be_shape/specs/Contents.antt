@@ -1,6 +1,6 @@
 -- What a tree contains, looked up by ids.
-use Rattle.std.specs.Prelude.{◌≡◌, ◌↔◌, ℕ, false, Some, None}
-use Rattle.std.specs.List.{Contains}
+use Rattle.std.specs.Prelude.{◌≡◌, ◌↔◌, ℕ, ◌==◌, false, Some}
+use Rattle.std.specs.List.{Contains, list_any}
 use Rattle.be_model.specs.declared.changes.Row.{Row}
 use Rattle.be_model.specs.Rows.{id_of}
 use Rattle.be_model.specs.ByIds.{row_at, has_id}
@@ -11,6 +11,6 @@ abbrev pub RowsAreFound : Plain → Type 0
 RowsAreFound n =
     (id : ℕ) (row : Row) → (row_at id (contents n) ≡ Some row) ↔ (Contains (rows_below n) row × (id_of row ≡ id))
 
--- an id is new exactly where there is no row of it
+-- an id is new exactly where no row of a leaf has it
 abbrev pub NewIdsAreNowhere : Plain → Type 0
-NewIdsAreNowhere n = (id : ℕ) → (has_id id (contents n) ≡ false) ↔ (row_at id (contents n) ≡ None)
+NewIdsAreNowhere n = (id : ℕ) → (has_id id (contents n) ≡ false) ↔ (list_any (λ (row : Row). id_of row == id) (rows_below n) ≡ false)

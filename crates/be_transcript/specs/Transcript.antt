@@ -1,5 +1,5 @@
 -- Which bytes a session may be given for its lines.
-use Rattle.std.specs.Prelude.{◌≡◌, ℕ, ◌<◌, Bool, true, false, List, [], ◌∷◌, ◌++◌, length, map}
+use Rattle.std.specs.Prelude.{◌≡◌, ◌≢◌, ℕ, ◌<◌, Bool, true, false, List, [], ◌∷◌, ◌++◌, length, map}
 use Rattle.std.specs.List.{flat_map}
 use Rattle.be_base.specs.Lists.{BeginsWith}
 use Rattle.be_io.specs.Lines.{TextLine}
@@ -29,8 +29,9 @@ pub record IsCutText (s : Attributes) (ps : List Exchange) (last : Exchange) (ou
   pub is_text : texts s (ps ++ last ∷ []) ≡ out ++ missing
   pub whole : BeginsWith out (texts s ps)
 
--- these exchanges are session k's for its lines, over the list h, of which it was told z entries before
+-- these exchanges are session k's for its lines, over the list h, of which it was told z entries before. Session 0 is nobody
 pub record AreExchanges (s : Attributes) (k z : ℕ) (h : List Entry) (ls : List TextLine) (ps : List Exchange) : Type 0 where
+  pub somebody : k ≢ 0
   pub session : IsLegalSession s k z h ps
   pub each : AnswersEach session.end.ended (map (reading s) ls) (requests ps)
 

@@ -61,7 +61,7 @@ fn letter(alloc: Global, schema: &Schema, to: u64, id: u64, n: u64) -> Result<Le
     })?;
     let mut event = Event::make(alloc);
     event.push((attr, Values::one(alloc, 7)?))?;
-    if !event.lies(schema) || !conj.satisfied_by(&event) {
+    if to == 0 || !event.lies(schema) || !conj.satisfied_by(&event) {
         return Err(Refusal::Unfit);
     }
     let row = Row {
