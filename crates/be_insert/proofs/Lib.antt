@@ -1,0 +1,4 @@
+pub mod Lists
+pub mod OneLevel
+pub mod Steps
+pub mod Fills
