@@ -1,1 +1,4 @@
 pub mod Right
+pub mod Spots
+pub mod Refusals
+pub mod Rooms

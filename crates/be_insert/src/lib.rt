@@ -1,11 +1,5 @@
-//! Rows are put into a tree.
+//! Rows are put into a tree: the leaf that takes a row, and the splits of a leaf that has too many.
 #![tactic(auto)]
 
-ghost use Rattle.std.specs.Prelude.{◌≡◌};
-
-/// Nothing yet.
-pub fn nothing(x: usize) -> usize
-    ensures { result ≡ x }
-{
-    x
-}
+mod looks;
+mod spots;
