@@ -1,0 +1,20 @@
+use Rattle.std.proofs.Common.{◌≡◌, true, refl, sym, ap, ◌∙◌, subst}
+use Rattle.std.specs.List.{list_any}
+use Rattle.std.proofs.lemmas.Bool.{false≢true}
+use Rattle.be_model.specs.Rows.{has}
+use Rattle.be_shape.specs.Shape.{is_used}
+use Rattle.be_insert.specs.Spots.{known_of}
+use Rattle.be_insert.proofs.Choices.{chosen, no_half, all_stuck}
+use Rattle.be_insert.proofs.leaves.choose.Goals as goal
+
+pub unreachable-requires : goal.unreachable-requires
+unreachable-requires c =
+    let s = c.args.s.now in
+    let k = known_of c.args.k.now in
+    let rows = c.args.leaf.now in
+    let none = sym c.half_for.ensures ∙ c.in-None.is in
+    false≢true (sym c.requires.loose ∙ all_stuck s k rows (λ a h. subst (λ used. is_used used a ≡ true) c.as_slice.ensures.value (c.in-None-pick.ensures.none refl a h)) (no_half s k.range rows none))
+
+pub returns-in-Some-clause-some : goal.returns-in-Some-clause-some
+returns-in-Some-clause-some c =
+    chosen c.args.s.now c.args.k.now.range c.args.leaf.now c.in-Some.hop (sym c.half_for.ensures ∙ c.in-Some.is)
