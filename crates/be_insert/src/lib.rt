@@ -4,4 +4,5 @@
 mod leaves;
 mod looks;
 mod scores;
+mod splits;
 mod spots;
