@@ -83,7 +83,10 @@ pub(crate) fn attach(n: &mut Node, hop: Hop, below: Box<Node>)
     match hop {
         Hop::Part(attr) => {
             let place = place_for(n.parts.as_slice(), attr);
-            n.parts.insert_reserved(place, Part { attr, root: below });
+            match n.parts.insert(place, Part { attr, root: below }) {
+                Ok(()) => {}
+                Err(_) => unreachable!(),
+            }
         }
         Hop::Low => n.low = Some(below),
         Hop::High => n.high = Some(below),

@@ -2,6 +2,8 @@
 #![tactic(auto)]
 
 #[cfg(test)]
+mod mail;
+#[cfg(test)]
 mod match_;
 #[cfg(test)]
 mod shape;

@@ -1,0 +1,5 @@
+use Rattle.std.proofs.Common.{◌≡◌}
+use Rattle.worked_parts.proofs.mail.take_all.Given as goal
+
+abbrev pub invariant-loop : goal.invariant-loop
+invariant-loop g l = (l.seat.0.boxes ≡ g.N.BoxNames.boxes) × (l.seat.0.seat ≡ l.fn.seat.passes.seat)
