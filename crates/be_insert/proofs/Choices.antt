@@ -13,6 +13,7 @@ use Rattle.be_model.specs.Rows.{has}
 use Rattle.be_model.specs.Schemas.{Attributes}
 use Rattle.be_shape.specs.Shape.{NodeRange, Known, known, can_split, is_used, is_stuck, is_between, spans_inside, lower, upper}
 use Rattle.be_shape.specs.Children.{is_open, may_pass}
+use Rattle.be_score.specs.Scores.{IsCandidate}
 use Rattle.be_insert.specs.Right.{better_half, half_for}
 
 -- what is counted is there, and where nothing is counted, there is nothing
@@ -99,3 +100,11 @@ all_stuck s k (row ∷ rows) f g =
     (and_from (list_all (λ (p : Pred). is_used k.used p.attr) row.conj) (is_between s k row) (all_used k.used row.conj (λ a h. f a (or_left (has a row) (list_any (has a) rows) h)))
     (between (can_split k.range) (spans_inside s (lower k.range) row) (spans_inside s (upper k.range) row) (λ c. let z = g c in ((or_parts (may_pass s Low k.range row) (list_any (may_pass s Low k.range) rows) z.0).0, (or_parts (may_pass s High k.range row) (list_any (may_pass s High k.range) rows) z.1).0))))
     (all_stuck s k rows (λ a h. f a (or_right (has a row) (list_any (has a) rows) h)) (λ c. let z = g c in ((or_parts (may_pass s Low k.range row) (list_any (may_pass s Low k.range) rows) z.0).1, (or_parts (may_pass s High k.range row) (list_any (may_pass s High k.range) rows) z.1).1)))
+
+-- an attribute that some row has and that is no candidate is used
+pub used_of : (used : List AttrNo) (rows : List Row) (a : AttrNo) → (IsCandidate rows used a → ⊥) → list_any (has a) rows ≡ true → is_used used a ≡ true
+used_of used rows a none h = by_test (is_used used a) refl
+  where
+    by_test : (b : Bool) → is_used used a ≡ b → b ≡ true
+    by_test true e = refl
+    by_test false e = absurd (none (record { some = h; unused = e }))

@@ -4,3 +4,4 @@ pub mod Steps
 pub mod Fills
 pub mod Places
 pub mod Choices
+pub mod PartPlaces

@@ -11,10 +11,10 @@ ghost use Rattle.be_insert.specs.Spots.{known_of};
 ghost use Rattle.be_insert.specs.Right.{is_filled, settles, better_half, half_for};
 
 use crate::looks::{can_split, is_stuck, may_pass};
-use crate::scores::pick;
 use crate::spots::Spot;
 use be_base::LEAF_ROWS;
 use be_model::{Hop, Schema};
+use be_score::pick_attr;
 use be_shape::{Leaf, NodeRange};
 
 /// The first place whose row may be not stuck: where a leaf had more than 16 rows, all but the last are stuck.
@@ -99,7 +99,7 @@ pub(crate) fn choose(leaf: &Leaf, s: &Schema, alpha: u8, k: &Spot) -> Hop
 {
     match half_for(leaf, s, k.range) {
         Some(hop) => hop,
-        None => match pick(s, leaf, k.used.as_slice(), alpha) {
+        None => match pick_attr(s, leaf, k.used.as_slice(), alpha) {
             Some(a) => Hop::Part(a),
             None => unreachable!(),
         },

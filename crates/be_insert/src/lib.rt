@@ -3,6 +3,5 @@
 
 mod leaves;
 mod looks;
-mod scores;
 mod splits;
 mod spots;

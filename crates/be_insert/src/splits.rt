@@ -1,18 +1,18 @@
 //! Splits of a leaf.
 
-ghost use Rattle.std.specs.Prelude.{◌≡◌, ◌<◌, ◌≤◌, ◌+◌, ◌-◌, ◌++◌, true, false, not, [], length, take, filter, slice_get, Some, None, nat_le, if◌then◌else◌, IsPermutation, OnOk, OnErr, IfOk, IfErr};
+ghost use Rattle.std.specs.Prelude.{◌≡◌, ◌<◌, ◌≤◌, ◌+◌, ◌-◌, ◌++◌, true, false, not, [], length, take, filter, slice_get, Some, None, nat_le, vec_len, vec_capacity, if◌then◌else◌, IsPermutation, OnOk, OnErr, IfOk, IfErr};
 ghost use Rattle.std.specs.List.{list_all, list_any};
 ghost use Rattle.std.specs.Arc.{arc_value};
 ghost use Rattle.be_base.specs.declared.limits.TheConstants.{LEAF_ROWS};
 ghost use Rattle.be_model.specs.Lies.{row_lies};
-ghost use Rattle.be_shape.specs.Plain.{plain, node, no_part, no_half, leaf_of, rows_below};
+ghost use Rattle.be_shape.specs.Plain.{plain, parts_as, node, no_part, no_half, leaf_of, rows_below};
 ghost use Rattle.be_shape.specs.Paths.{child};
 ghost use Rattle.be_shape.specs.Ranges.{is_bounded, is_rising};
-ghost use Rattle.be_shape.specs.Children.{is_open, known_below, may_pass, with_child, with_leaf};
+ghost use Rattle.be_shape.specs.Children.{is_open, known_below, may_pass, with_part, with_child, with_leaf};
 ghost use Rattle.be_insert.specs.Spots.{known_of};
 ghost use Rattle.be_insert.specs.Refusals.{back};
 ghost use Rattle.be_insert.specs.Right.{IsRight, IsFilled};
-ghost use Rattle.be_insert.specs.Rooms.{HasRoom};
+ghost use Rattle.be_insert.specs.Rooms.{HasRoom, part_place};
 
 use crate::leaves::{choose, first_loose, is_overfull, move_rows};
 use crate::spots::Spot;
@@ -65,14 +65,29 @@ pub(crate) fn prepare(n: &mut Node, s: &Schema, k: &mut Spot, hop: Hop) -> Resul
 
 // Where a part of the attribute belongs among parts that rise.
 fn place_for(parts: &[Part], a: AttrNo) -> usize
-    ensures { result ≤ length parts.now }
+    ensures place { result ≡ part_place a (parts_as parts.now) }
+    ensures within { result ≤ length parts.now }
 {
-    for (place, part) in parts.iter().enumerate() {
+    let mut place = 0;
+    for part in parts {
         if a.0 < part.attr.0 {
             return place;
         }
+        place += 1;
     }
-    parts.len()
+    place
+}
+
+// Puts a part among parts that rise, for which there is room.
+fn put_part(parts: &mut Vec<Part>, attr: AttrNo, root: Box<Node>)
+    requires { vec_len parts.old < vec_capacity parts.old }
+    ensures { parts_as parts.new.items ≡ with_part attr (plain root.value) (parts_as parts.old.items) }
+{
+    let place = place_for(parts.as_slice(), attr);
+    match parts.insert(place, Part { attr, root }) {
+        Ok(()) => {}
+        Err(_) => unreachable!(),
+    }
 }
 
 /// Puts a child at the end of a step, for which there is room.
@@ -81,13 +96,7 @@ pub(crate) fn attach(n: &mut Node, hop: Hop, below: Box<Node>)
     ensures { plain n.new ≡ with_child hop (plain below.value) (plain n.old) }
 {
     match hop {
-        Hop::Part(attr) => {
-            let place = place_for(n.parts.as_slice(), attr);
-            match n.parts.insert(place, Part { attr, root: below }) {
-                Ok(()) => {}
-                Err(_) => unreachable!(),
-            }
-        }
+        Hop::Part(attr) => put_part(&mut n.parts, attr, below),
         Hop::Low => n.low = Some(below),
         Hop::High => n.high = Some(below),
     }
