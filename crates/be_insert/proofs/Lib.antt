@@ -5,3 +5,5 @@ pub mod Fills
 pub mod Places
 pub mod Choices
 pub mod PartPlaces
+pub mod LevelsLeft
+pub mod Settled

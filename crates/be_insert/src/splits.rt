@@ -101,3 +101,31 @@ pub(crate) fn attach(n: &mut Node, hop: Hop, below: Box<Node>)
         Hop::High => n.high = Some(below),
     }
 }
+
+/// Splits a leaf that has a row too much, and so on below. Where memory is wanting, the last row is taken out again and
+/// handed back, and no child is left without a row.
+pub(crate) fn settle(n: &mut Node, s: &Schema, alpha: u8, k: &mut Spot) -> Result<(), (Arc<Row>, NoMemory)>
+    requires { IsFilled s.now (known_of k.old) (plain n.old) }
+    ensures right { IsRight s.now (known_of k.old) (plain n.new) }
+    ensures rows { IsPermutation (rows_below (plain n.old)) (rows_below (plain n.new) ++ back result) }
+    ensures last { IfErr result (λ e. slice_get (leaf_of (plain n.old)) (length (leaf_of (plain n.old)) - 1) ≡ Some (arc_value e.0)) }
+    ensures many { OnErr result (LEAF_ROWS < length (leaf_of (plain n.old))) }
+{
+    if !is_overfull(&n.leaf, s, k) {
+        return Ok(());
+    }
+    // The count shows the form of the schema.
+    let _ = s.count();
+    let first = first_loose(&n.leaf);
+    let hop = choose(&n.leaf, s, alpha, k);
+    let range = k.range;
+    match prepare(n, s, k, hop) {
+        Err(NoMemory) => Err((take_last(n), NoMemory)),
+        Ok(mut below) => {
+            draw_off(n, &mut below, s, hop, range, first);
+            let done = settle(&mut below, s, alpha, k);
+            attach(n, hop, below);
+            done
+        }
+    }
+}
