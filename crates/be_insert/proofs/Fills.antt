@@ -109,6 +109,22 @@ now_filled s k leaf x h = by_cases (leb (length leaf) LEAF_ROWS) refl h
         let i : length (leaf ++ x ∷ []) - 1 ≡ length leaf = omega (arith, size) in
         or_right (leb (length (leaf ++ x ∷ [])) (LEAF_ROWS + 1)) (list_all (is_stuck s k) (take (length (leaf ++ x ∷ []) - 1) (leaf ++ x ∷ []))) (ap (list_all (is_stuck s k)) (ap (λ j. take j (leaf ++ x ∷ [])) i ∙ front leaf x) ∙ t)
 
+-- the rows with a row more in the leaf
+pub row_put : (n : Plain) (x : Row) → IsPermutation (rows_below n ++ x ∷ []) (rows_below (with_row x n))
+row_put n x =
+    let new = leaf_of n ++ x ∷ [] in
+    subst (λ w. IsPermutation (rows_below n ++ x ∷ []) (rows_below w)) (sym (row_leaf x n))
+    (IsPermutation-sym (rows_below (with_leaf new n)) (rows_below n ++ x ∷ []) (subst (λ q. IsPermutation (rows_below (with_leaf new n)) (rows_below q ++ x ∷ [])) (own_leaf n) (leaf_rows new (leaf_of n) (x ∷ []) n (IsPermutation-refl new))))
+
+pub last_put : (n : Plain) (x y : Row) → slice_get (leaf_of (with_row x n)) (length (leaf_of (with_row x n)) - 1) ≡ Some y → y ≡ x
+last_put (node rows parts low high) x y h = let e = sym (at_end rows) ∙ h in cc
+  where
+    at_end : (rows : List Row) → slice_get (rows ++ x ∷ []) (length (rows ++ x ∷ []) - 1) ≡ Some x
+    at_end [] = refl
+    at_end (r ∷ rows) =
+        let i : length (r ∷ rows ++ x ∷ []) - 1 ≡ suc (length (rows ++ x ∷ []) - 1) = omega (arith, length-append rows (x ∷ [])) in
+        ap (slice_get (r ∷ rows ++ x ∷ [])) i ∙ at_end rows
+
 -- a row is put into the leaf
 pub put_filled : (s : Attributes) (k : Known) (n : Plain) (x : Row) → IsRight s k n → passes_one s k (children n) x ≡ false → spans_inside s k.range x ≡ true → may_stand s x ≡ true → IsFilled s k (with_row x n)
 put_filled s k n x r out inside may =

@@ -2,8 +2,9 @@ pub mod Lists
 pub mod OneLevel
 pub mod Steps
 pub mod Fills
-pub mod Places
+pub mod AtPlaces
 pub mod Choices
 pub mod PartPlaces
 pub mod LevelsLeft
 pub mod Settled
+pub mod Ways

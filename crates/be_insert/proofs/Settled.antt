@@ -16,7 +16,7 @@ use Rattle.be_model.specs.Forms.{is_conj}
 use Rattle.be_model.specs.Lies.{row_lies}
 use Rattle.be_model.specs.Rows.{id_of}
 use Rattle.be_model.specs.Schemas.{Attributes, IsSchema}
-use Rattle.be_shape.specs.Plain.{Plain, node, no_part, no_half, rows_below, leaf_of}
+use Rattle.be_shape.specs.Plain.{Plain, node, no_part, no_half, rows_below, leaf_of, with_row}
 use Rattle.be_shape.specs.Shape.{Known, is_settled_at, is_stuck, may_stand}
 use Rattle.be_shape.specs.Paths.{child}
 use Rattle.be_shape.specs.Children.{known_below, is_open, may_pass, with_child, with_leaf}
@@ -24,8 +24,8 @@ use Rattle.be_shape.proofs.Children.{rows_are, rows_of}
 use Rattle.be_insert.specs.Right.{IsRight, settles, is_filled, IsFilled}
 use Rattle.be_insert.proofs.Lists.{all_front, filter_passes, filter_keeps, filter_some}
 use Rattle.be_insert.proofs.Steps.{Leaves, split, settled_is}
-use Rattle.be_insert.proofs.Fills.{HasLast, has_last, cut, stays, not_there, Passing, passing, alone, leaf_filled, inside_below, stuck_stay}
-use Rattle.be_insert.proofs.Places.{front_stuck}
+use Rattle.be_insert.proofs.Fills.{HasLast, has_last, cut, stays, not_there, Passing, passing, alone, leaf_filled, inside_below, stuck_stay, last_put}
+use Rattle.be_insert.proofs.AtPlaces.{front_stuck}
 use Rattle.be_insert.proofs.LevelsLeft.{levels_left, falls}
 
 pub row_lie : (s : Attributes) (rows : List Row) → list_all (may_stand s) rows ≡ true → list_all (row_lies s) rows ≡ true
@@ -124,3 +124,8 @@ last_of s k n b hop (Err e) z is many last =
 -- a leaf that is settled after all
 pub stays_settled : (s : Attributes) (k : Known) (n : Plain) → IsFilled s k n → false ≡ not (settles s k (leaf_of n)) → Leaves s k (rows_below n) n []
 stays_settled s k n f h = stays s k n f (settled_is s k n ∙ not-false (settles s k (leaf_of n)) (sym h))
+
+-- where a row that was put last is handed back, it is the row
+pub handed_back : {A Z : Type 0} (n m : Plain) (x : Row) (result : Result A (Arc Row Z × NoMemory)) → m ≡ with_row x n → IfErr result (λ e. slice_get (leaf_of m) (length (leaf_of m) - 1) ≡ Some (arc_value e.0)) → IfErr result (λ e. arc_value e.0 ≡ x)
+handed_back n m x (Ok y) is h = tt
+handed_back n m x (Err e) is h = last_put n x (arc_value e.0) (ap (λ w. slice_get (leaf_of w) (length (leaf_of w) - 1)) (sym is) ∙ h)

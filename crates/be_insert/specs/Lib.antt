@@ -2,3 +2,4 @@ pub mod Right
 pub mod Spots
 pub mod Refusals
 pub mod Rooms
+pub mod Ways

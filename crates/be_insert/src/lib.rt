@@ -3,5 +3,6 @@
 
 mod leaves;
 mod looks;
+mod places;
 mod splits;
 mod spots;

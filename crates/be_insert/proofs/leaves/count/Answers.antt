@@ -3,7 +3,7 @@ use Rattle.std.specs.Arc.{arc_value}
 use Rattle.be_model.specs.Lies.{row_lies}
 use Rattle.be_model.proofs.Attributes.{all_at}
 use Rattle.be_shape.specs.Children.{may_pass}
-use Rattle.be_insert.proofs.Places.{count_next}
+use Rattle.be_insert.proofs.AtPlaces.{count_next}
 use Rattle.be_insert.proofs.leaves.count.Goals as goal
 use Rattle.be_insert.proofs.leaves.count.Goals.{then-may_pass, else-may_pass}
 

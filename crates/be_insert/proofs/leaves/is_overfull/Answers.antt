@@ -5,7 +5,7 @@ use Rattle.be_model.specs.Lies.{row_lies}
 use Rattle.be_model.proofs.Attributes.{all_at}
 use Rattle.be_shape.specs.Shape.{is_stuck}
 use Rattle.be_insert.specs.Spots.{known_of}
-use Rattle.be_insert.proofs.Places.{all_next, all_fails, all_taken, front_stuck, settled_few, settled_stuck, overfull}
+use Rattle.be_insert.proofs.AtPlaces.{all_next, all_fails, all_taken, front_stuck, settled_few, settled_stuck, overfull}
 use Rattle.be_insert.proofs.leaves.is_overfull.Goals as goal
 
 pub is_stuck-requires : goal.is_stuck-requires

@@ -7,7 +7,7 @@ use Rattle.be_model.specs.declared.changes.Row.{Row}
 use Rattle.be_model.specs.Lies.{row_lies}
 use Rattle.be_model.proofs.Attributes.{all_at}
 use Rattle.be_shape.specs.Children.{may_pass}
-use Rattle.be_insert.proofs.Places.{all_next, taken, all_without, all_moved, some_same}
+use Rattle.be_insert.proofs.AtPlaces.{all_next, taken, all_without, all_moved, some_same}
 use Rattle.be_insert.proofs.leaves.move_rows.Goals as goal
 
 pub may_pass-requires-clause-lies : goal.may_pass-requires-clause-lies
