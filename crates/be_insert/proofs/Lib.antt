@@ -8,3 +8,4 @@ pub mod PartPlaces
 pub mod LevelsLeft
 pub mod Settled
 pub mod Ways
+pub mod Downwards

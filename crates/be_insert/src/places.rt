@@ -81,8 +81,10 @@ fn way(n: &Node, s: &Schema, range: NodeRange, row: &Row) -> Option<(Hop, usize)
     if takes(&n.high, s, upper_range(range), row) {
         return Some((Hop::High, 0));
     }
-    let place = best_part(n.parts.as_slice(), s, row)?;
-    Some((Hop::Part(n.parts[place].attr), place))
+    match best_part(n.parts.as_slice(), s, row) {
+        Some(place) => Some((Hop::Part(n.parts[place].attr), place)),
+        None => None,
+    }
 }
 
 // Puts the row last into the leaf, or hands it back where memory is wanting.
@@ -107,5 +109,35 @@ fn place_here(n: &mut Node, s: &Schema, alpha: u8, k: &mut Spot, row: Arc<Row>) 
     match put_last(n, row) {
         Ok(()) => settle(n, s, alpha, k),
         Err(row) => Err((row, NoMemory)),
+    }
+}
+
+// Puts the row below the node, or hands it back where memory is wanting.
+fn place_below(n: &mut Node, s: &Schema, alpha: u8, k: &mut Spot, row: Arc<Row>) -> Result<(), (Arc<Row>, NoMemory)>
+    requires right { IsRight s.now (known_of k.old) (plain n.old) }
+    requires may { may_stand s.now (arc_value row) ≡ true }
+    requires inside { spans_inside s.now k.old.range (arc_value row) ≡ true }
+    ensures right { IsRight s.now (known_of k.old) (plain n.new) }
+    ensures rows { IsPermutation (rows_below (plain n.old) ++ arc_value row ∷ []) (rows_below (plain n.new) ++ back result) }
+    ensures same { IfErr result (λ e. arc_value e.0 ≡ arc_value row) }
+{
+    let Some((hop, place)) = way(n, s, k.range, &row) else {
+        return place_here(n, s, alpha, k, row);
+    };
+    // The count shows the form of the schema.
+    let _ = s.count();
+    if let Err(NoMemory) = k.enter(s, hop) {
+        return Err((row, NoMemory));
+    }
+    match hop {
+        Hop::Part(_) => place_below(&mut n.parts[place].root, s, alpha, k, row),
+        Hop::Low => match &mut n.low {
+            Some(low) => place_below(low, s, alpha, k, row),
+            None => unreachable!(),
+        },
+        Hop::High => match &mut n.high {
+            Some(high) => place_below(high, s, alpha, k, row),
+            None => unreachable!(),
+        },
     }
 }
