@@ -59,11 +59,11 @@ few_back (Ok x) = omega arith
 few_back (Err e) = omega arith
 
 -- the low and the high half among the children
-pub low_among : (rows : List Row) (parts : Parts) (m : Plain) (high : Half) → Among (node rows parts (half m) high) m Low
+abbrev pub low_among : (rows : List Row) (parts : Parts) (m : Plain) (high : Half) → Among (node rows parts (half m) high) m Low
 low_among rows parts m high =
     record { before = roots_of parts; after = root_of High high; is = append_assoc (roots_of parts) ((Low, m) ∷ []) (root_of High high) }
 
-pub high_among : (rows : List Row) (parts : Parts) (low : Half) (m : Plain) → Among (node rows parts low (half m)) m High
+abbrev pub high_among : (rows : List Row) (parts : Parts) (low : Half) (m : Plain) → Among (node rows parts low (half m)) m High
 high_among rows parts low m = record { before = roots_of parts ++ root_of Low low; after = []; is = refl }
 
 -- a part among the others, before and after its root has changed
@@ -98,3 +98,26 @@ part_set (r ∷ ps) (suc i) p q a m o l e u v =
 pub behind_parts : (xs before after : List (Hop × Plain)) (x : Hop × Plain) (low high : List (Hop × Plain)) → xs ≡ before ++ x ∷ after → xs ++ low ++ high ≡ before ++ x ∷ (after ++ low ++ high)
 behind_parts xs before after x low high h =
     ap (λ q. q ++ low ++ high) h ∙ ap (λ q. q ++ high) (append_assoc before (x ∷ after) low) ∙ append_assoc before (x ∷ (after ++ low)) high
+
+-- which child the way of a row leads to
+unused_at : (k : Known) (parts : Parts) (i : ℕ) (a : AttrNo) → AllByRecursion (λ (x : Hop × Plain). is_open x.0 k ≡ true) (roots_of parts) → slice_get (attrs_of parts) i ≡ Some a → is_open (Part a) k ≡ true
+unused_at k no_part i a h e = absurd (cc)
+unused_at k (part b root more) zero a h e =
+    let same : b ≡ a = cc in subst (λ c. is_open (Part c) k ≡ true) same h.0
+unused_at k (part b root more) (suc i) a h e = unused_at k more i a h.1 e
+
+open_part : (s : Attributes) (k : Known) (n : Plain) (i : ℕ) (a : AttrNo) → Placed s k n → slice_get (attrs_of (parts_under n)) i ≡ Some a → is_open (Part a) k ≡ true
+open_part s k (node rows parts low high) i a p e =
+    unused_at k parts i a (Each-parts (λ (x : Hop × Plain). is_open x.0 k ≡ true) (roots_of parts) (root_of Low low) (Each-parts (λ (x : Hop × Plain). is_open x.0 k ≡ true) (roots_of parts ++ root_of Low low) (root_of High high) p.open_steps).0).0 e
+
+pub way_open : (s : Attributes) (k : Known) (n : Plain) (row : Row) (hop : Hop) (i : ℕ) → IsRight s k n → IsWay s k.range n row (hop, i) → is_open hop k ≡ true
+way_open s k n row (Part a) i r v = open_part s k n i a (placed_at s k n r) v.there
+way_open s k n row Low i r v = at_child (λ (x : Hop × Plain). is_open x.0 k ≡ true) Low n v.there.0 v.there.1 (placed_at s k n r).open_steps
+way_open s k n row High i r v = at_child (λ (x : Hop × Plain). is_open x.0 k ≡ true) High n v.there.0 v.there.1 (placed_at s k n r).open_steps
+
+-- what is left where the row has gone below the child
+pub gone_below : {A Z : Type 0} (s : Attributes) (k j : Known) (n w m o : Plain) (hop : Hop) (row : Row) (result : Result A (Arc Row Z × NoMemory)) (before after : List (Hop × Plain)) → IsRight s k n → children n ≡ before ++ (hop, m) ∷ after
+    → children w ≡ before ++ (hop, o) ∷ after → leaf_of w ≡ leaf_of n → attrs_of (parts_under w) ≡ attrs_of (parts_under n) → may_pass s hop k.range row ≡ true → spans_inside s k.range row ≡ true → may_stand s row ≡ true
+    → j ≡ known_below s hop k → IsRight s j o → IsPermutation (rows_below m ++ row ∷ []) (rows_below o ++ back result) → Leaves s k (rows_below n ++ row ∷ []) w (back result)
+gone_below s k j n w m o hop row result before after r was is leaf attrs pass inside may at right rows =
+    deeper s k n w m o hop before after row (back result) r was is leaf attrs pass inside may (few_back result) (record { right = subst (λ i. IsRight s i o) at right; same = rows })

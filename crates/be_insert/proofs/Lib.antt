@@ -9,3 +9,4 @@ pub mod LevelsLeft
 pub mod Settled
 pub mod Ways
 pub mod Downwards
+pub mod Contents
