@@ -10,3 +10,4 @@ pub mod Settled
 pub mod Ways
 pub mod Downwards
 pub mod Contents
+pub mod Roots

@@ -6,3 +6,5 @@ mod looks;
 mod places;
 mod splits;
 mod spots;
+
+pub use places::place;

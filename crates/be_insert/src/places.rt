@@ -1,10 +1,12 @@
 //! Where a row goes.
 
-ghost use Rattle.std.specs.Prelude.{◌≡◌, ◌++◌, ◌∷◌, [], ◌+◌, true, false, Some, None, option_map, MatchOption, IsPermutation, OnOk, OnErr, IfErr};
+ghost use Rattle.std.specs.Prelude.{◌≡◌, ◌++◌, ◌∷◌, [], ◌+◌, ◌<◌, true, false, Some, None, option_map, MatchOption, IsPermutation, OnOk, OnErr, IfErr};
 ghost use Rattle.std.specs.Arc.{arc_value};
 ghost use Rattle.be_model.specs.Lies.{row_lies};
-ghost use Rattle.be_model.specs.Rows.{has};
-ghost use Rattle.be_shape.specs.Plain.{plain, with_row, half_as, parts_as, part_as, rows_below};
+ghost use Rattle.be_model.specs.Rows.{has, id_of};
+ghost use Rattle.be_model.specs.ByIds.{put_by_id, has_id};
+ghost use Rattle.be_base.specs.declared.limits.TheConstants.{LOG_CHANGES};
+ghost use Rattle.be_shape.specs.Plain.{plain, with_row, half_as, parts_as, part_as, rows_below, contents};
 ghost use Rattle.be_shape.specs.Shape.{known, fits_half, attrs_of, spans_inside, may_stand};
 ghost use Rattle.be_shape.specs.Ranges.{is_bounded, is_rising};
 ghost use Rattle.be_insert.specs.Spots.{known_of};
@@ -18,7 +20,7 @@ use crate::spots::Spot;
 use be_base::NoMemory;
 use be_model::{Hop, Row, Schema};
 use be_score::weight;
-use be_shape::{Node, NodeRange, Part, lower_range, upper_range};
+use be_shape::{Node, NodeRange, Part, Tree, lower_range, upper_range};
 use std::sync::Arc;
 
 // Whether the half is there and encloses the row's span.
@@ -140,4 +142,23 @@ fn place_below(n: &mut Node, s: &Schema, alpha: u8, k: &mut Spot, row: Arc<Row>)
             None => unreachable!(),
         },
     }
+}
+
+/// Puts a row into the tree, or hands it back where memory is wanting. A half that encloses the row's span goes before a
+/// part, and of the parts that whose attribute the row weighs most on; a leaf that then has too many rows is split.
+/// After a refusal the contents are as before, and the tree may be split further.
+pub fn place(t: &mut Tree, row: Arc<Row>) -> Result<(), (Arc<Row>, NoMemory)>
+    requires new { has_id (id_of (arc_value row)) (contents (plain t.old.root)) ≡ false }
+    requires low { id_of (arc_value row) < LOG_CHANGES }
+    requires lies { row_lies (arc_value t.old.schema) (arc_value row) ≡ true }
+    ensures put { OnOk result (contents (plain t.new.root) ≡ put_by_id (arc_value row) (contents (plain t.old.root))) }
+    ensures refused { OnErr result (contents (plain t.new.root) ≡ contents (plain t.old.root)) }
+    ensures back { IfErr result (λ e. arc_value e.0 ≡ arc_value row) }
+    ensures schema { t.new.schema ≡ t.old.schema }
+    ensures alpha { t.new.alpha ≡ t.old.alpha }
+{
+    let mut spot = Spot::root(*t.root.parts.allocator());
+    // The predicates show the form of the condition.
+    let _ = row.conj.preds();
+    place_below(&mut t.root, &t.schema, t.alpha, &mut spot, row)
 }
