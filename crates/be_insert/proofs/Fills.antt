@@ -178,10 +178,10 @@ cut s k n l f =
     record {
       right = record {
         right = right_from s k w (is_placed_from s k w (same_placed s k l.front n pl (held (spans_inside s k.range) pl.inside)))
-        (same_drawn s k l.front n (all_front p l.front (l.last ∷ []) (ap (list_all p) (sym l.is) ∙ sym (drawn_is s k n) ∙ f.drawn)))
-        (same_pruned k l.front n ∙ f.pruned)
-        (settled_is s k w ∙ ap (λ q. leb (length q) LEAF_ROWS || list_all (is_stuck s k) q) (same_leaf l.front n) ∙ front_settled s k (leaf_of n) l f.filled)
-        (subst (AllByRecursion (λ (x : Hop × Plain). below (is_right_at s) s k x ≡ true)) (sym (same_children l.front n)) each);
+            (same_drawn s k l.front n (all_front p l.front (l.last ∷ []) (ap (list_all p) (sym l.is) ∙ sym (drawn_is s k n) ∙ f.drawn)))
+            (same_pruned k l.front n ∙ f.pruned)
+            (settled_is s k w ∙ ap (λ q. leb (length q) LEAF_ROWS || list_all (is_stuck s k) q) (same_leaf l.front n) ∙ front_settled s k (leaf_of n) l f.filled)
+            (subst (AllByRecursion (λ (x : Hop × Plain). below (is_right_at s) s k x ≡ true)) (sym (same_children l.front n)) each);
         may = held (may_stand s) f.may;
       };
       same = moved;

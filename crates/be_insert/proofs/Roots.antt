@@ -13,7 +13,8 @@ use Rattle.be_model.specs.Rows.{id_of}
 use Rattle.be_model.specs.ByIds.{by_ids, put_by_id, has_id, ids_differ}
 use Rattle.be_model.specs.Schemas.{Attributes}
 use Rattle.be_model.proofs.RowsByIds.{put_last, has_by_ids}
-use Rattle.be_shape.specs.Plain.{Plain, rows_below, contents}
+use Rattle.be_shape.specs.declared.trees.Tree.{Tree}
+use Rattle.be_shape.specs.Plain.{Plain, plain, rows_below, contents}
 use Rattle.be_shape.specs.Shape.{Known, nothing, everywhere, is_placed_at, is_drawn_at, is_pruned_at, is_settled_at, is_placed, is_drawn, is_pruned, is_settled, may_stand, rows_lie}
 use Rattle.be_shape.proofs.Children.{where_known, levels, from_levels, below}
 use Rattle.be_model.specs.declared.paths.Hop.{Hop}
@@ -87,3 +88,7 @@ placement s n m x (Err e) r new right rows same =
       put = tt;
       refused = sym (less_permuted (rows_below n) (rows_below m) x moved z.1);
     }
+
+-- what the type of a tree keeps of its root
+pub root_of : (t : Tree) → IsRoot (arc_value t.schema) (plain t.root)
+root_of t = record { lie = t.lie; placed = t.placed; drawn = t.drawn; pruned = t.pruned; settled = t.settled }

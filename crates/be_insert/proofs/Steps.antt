@@ -120,17 +120,17 @@ split s k n m hop back f open_step gone r moves some settled =
     record {
       right = record {
         right = right_from s k w
-        (is_placed_from s k w (record {
-          rise = child_rise hop m o (ap (λ q. attrs_rise (attrs_of q)) (leaf_parts kept n) ∙ pl.rise) (leaf_child kept hop n ∙ gone);
-          inside = held (spans_inside s k.range) pl.inside;
-          open_steps = subst (AllByRecursion (λ (x : Hop × Plain). is_open x.0 k ≡ true)) (sym h.is) (Each-middle (λ (x : Hop × Plain). is_open x.0 k ≡ true) h.before h.after (hop, m) (subst (AllByRecursion (λ (x : Hop × Plain). is_open x.0 k ≡ true)) was pl.open_steps) open_step);
-          pass = subst (AllByRecursion (λ (x : Hop × Plain). list_all (may_pass s x.0 k.range) (rows_below x.1) ≡ true)) (sym h.is) (Each-middle (λ (x : Hop × Plain). list_all (may_pass s x.0 k.range) (rows_below x.1) ≡ true) h.before h.after (hop, m) (subst (AllByRecursion (λ (x : Hop × Plain). list_all (may_pass s x.0 k.range) (rows_below x.1) ≡ true)) was pl.pass) passing);
-        }))
-        (drawn_is s k w ∙ ap (λ l. list_all (λ row. not (passes_one s k (children w) row)) l) wl ∙ ap (λ l. list_all (λ row. not (passes_one s k l row)) kept) h.is
-        ∙ still_drawn s k h.before h.after (hop, m) kept (filter_keeps (λ row. not (passes_one s k (h.before ++ h.after) row)) (λ row. not (p row)) leaf drawn_old) (filter_passes (λ row. not (p row)) leaf))
-        (pruned_is k w ∙ test_from_Each holds_rows (children w) (subst (AllByRecursion (λ (x : Hop × Plain). holds_rows x ≡ true)) (sym h.is) (Each-middle (λ (x : Hop × Plain). holds_rows x ≡ true) h.before h.after (hop, m) (subst (AllByRecursion (λ (x : Hop × Plain). holds_rows x ≡ true)) was (Each-from_test holds_rows (children n) (sym (pruned_is k n) ∙ f.pruned))) (some_rows (rows_below m) some))))
-        (settled_is s k w ∙ ap (λ l. leb (length l) LEAF_ROWS || list_all (is_stuck s k) l) wl ∙ settled)
-        (subst (AllByRecursion (IsBelow s k)) (sym h.is) (Each-middle (IsBelow s k) h.before h.after (hop, m) (subst (AllByRecursion (IsBelow s k)) was each) r.right));
+            (is_placed_from s k w (record {
+              rise = child_rise hop m o (ap (λ q. attrs_rise (attrs_of q)) (leaf_parts kept n) ∙ pl.rise) (leaf_child kept hop n ∙ gone);
+              inside = held (spans_inside s k.range) pl.inside;
+              open_steps = subst (AllByRecursion (λ (x : Hop × Plain). is_open x.0 k ≡ true)) (sym h.is) (Each-middle (λ (x : Hop × Plain). is_open x.0 k ≡ true) h.before h.after (hop, m) (subst (AllByRecursion (λ (x : Hop × Plain). is_open x.0 k ≡ true)) was pl.open_steps) open_step);
+              pass = subst (AllByRecursion (λ (x : Hop × Plain). list_all (may_pass s x.0 k.range) (rows_below x.1) ≡ true)) (sym h.is) (Each-middle (λ (x : Hop × Plain). list_all (may_pass s x.0 k.range) (rows_below x.1) ≡ true) h.before h.after (hop, m) (subst (AllByRecursion (λ (x : Hop × Plain). list_all (may_pass s x.0 k.range) (rows_below x.1) ≡ true)) was pl.pass) passing);
+            }))
+            (drawn_is s k w ∙ ap (λ l. list_all (λ row. not (passes_one s k (children w) row)) l) wl ∙ ap (λ l. list_all (λ row. not (passes_one s k l row)) kept) h.is
+            ∙ still_drawn s k h.before h.after (hop, m) kept (filter_keeps (λ row. not (passes_one s k (h.before ++ h.after) row)) (λ row. not (p row)) leaf drawn_old) (filter_passes (λ row. not (p row)) leaf))
+            (pruned_is k w ∙ test_from_Each holds_rows (children w) (subst (AllByRecursion (λ (x : Hop × Plain). holds_rows x ≡ true)) (sym h.is) (Each-middle (λ (x : Hop × Plain). holds_rows x ≡ true) h.before h.after (hop, m) (subst (AllByRecursion (λ (x : Hop × Plain). holds_rows x ≡ true)) was (Each-from_test holds_rows (children n) (sym (pruned_is k n) ∙ f.pruned))) (some_rows (rows_below m) some))))
+            (settled_is s k w ∙ ap (λ l. leb (length l) LEAF_ROWS || list_all (is_stuck s k) l) wl ∙ settled)
+            (subst (AllByRecursion (IsBelow s k)) (sym h.is) (Each-middle (IsBelow s k) h.before h.after (hop, m) (subst (AllByRecursion (IsBelow s k)) was each) r.right));
         may = held (may_stand s) f.may;
       };
       same = all;
@@ -163,16 +163,16 @@ deeper s k n w m o hop before after row back r was is same_leaf same_attrs pass 
     record {
       right = record {
         right = right_from s k w
-        (is_placed_from s k w (record {
-          rise = ap attrs_rise same_attrs ∙ pl.rise;
-          inside = held (spans_inside s k.range) pl.inside inside;
-          open_steps = replaced (λ (x : Hop × Plain). is_open x.0 k ≡ true) pl.open_steps (Each-at (λ (x : Hop × Plain). is_open x.0 k ≡ true) before after (hop, m) (subst (AllByRecursion (λ (x : Hop × Plain). is_open x.0 k ≡ true)) was pl.open_steps));
-          pass = replaced (λ (x : Hop × Plain). list_all (may_pass s x.0 k.range) (rows_below x.1) ≡ true) pl.pass passing;
-        }))
-        (drawn_is s k w ∙ ap (λ q. list_all (λ z. not (passes_one s k (children w) z)) q) same_leaf ∙ same_drawn leaf ∙ sym (drawn_is s k n) ∙ here.1)
-        (pruned_is k w ∙ test_from_Each holds_rows (children w) (replaced (λ (x : Hop × Plain). holds_rows x ≡ true) (Each-from_test holds_rows (children n) (sym (pruned_is k n) ∙ here.2)) (some_rows (rows_below o) some)))
-        (settled_is s k w ∙ ap (λ q. leb (length q) LEAF_ROWS || list_all (is_stuck s k) q) same_leaf ∙ sym (settled_is s k n) ∙ here.3)
-        (replaced (IsBelow s k) l.children d.right.right);
+            (is_placed_from s k w (record {
+              rise = ap attrs_rise same_attrs ∙ pl.rise;
+              inside = held (spans_inside s k.range) pl.inside inside;
+              open_steps = replaced (λ (x : Hop × Plain). is_open x.0 k ≡ true) pl.open_steps (Each-at (λ (x : Hop × Plain). is_open x.0 k ≡ true) before after (hop, m) (subst (AllByRecursion (λ (x : Hop × Plain). is_open x.0 k ≡ true)) was pl.open_steps));
+              pass = replaced (λ (x : Hop × Plain). list_all (may_pass s x.0 k.range) (rows_below x.1) ≡ true) pl.pass passing;
+            }))
+            (drawn_is s k w ∙ ap (λ q. list_all (λ z. not (passes_one s k (children w) z)) q) same_leaf ∙ same_drawn leaf ∙ sym (drawn_is s k n) ∙ here.1)
+            (pruned_is k w ∙ test_from_Each holds_rows (children w) (replaced (λ (x : Hop × Plain). holds_rows x ≡ true) (Each-from_test holds_rows (children n) (sym (pruned_is k n) ∙ here.2)) (some_rows (rows_below o) some)))
+            (settled_is s k w ∙ ap (λ q. leb (length q) LEAF_ROWS || list_all (is_stuck s k) q) same_leaf ∙ sym (settled_is s k n) ∙ here.3)
+            (replaced (IsBelow s k) l.children d.right.right);
         may = held (may_stand s) r.may may;
       };
       same = all;

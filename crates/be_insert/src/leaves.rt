@@ -87,7 +87,10 @@ pub(crate) fn half_for(leaf: &Leaf, s: &Schema, range: NodeRange) -> Option<Hop>
     if !can_split(range) {
         return None;
     }
-    better_half(count(leaf, s, Hop::Low, range), count(leaf, s, Hop::High, range))
+    better_half(
+        count(leaf, s, Hop::Low, range),
+        count(leaf, s, Hop::High, range),
+    )
 }
 
 /// Where rows of an overfull leaf go: to a half, or else to a part of the attribute that divides them best.
@@ -107,7 +110,14 @@ pub(crate) fn choose(leaf: &Leaf, s: &Schema, alpha: u8, k: &Spot) -> Hop
 }
 
 /// Moves the rows that may pass the step to another leaf, in their order. It takes no memory.
-pub(crate) fn move_rows(from: &mut Leaf, to: &mut Leaf, s: &Schema, hop: Hop, range: NodeRange, first: usize)
+pub(crate) fn move_rows(
+    from: &mut Leaf,
+    to: &mut Leaf,
+    s: &Schema,
+    hop: Hop,
+    range: NodeRange,
+    first: usize,
+)
     requires lie { list_all (row_lies s.now) from.old ≡ true }
     requires bounded { is_bounded range ≡ true }
     requires rising { is_rising range ≡ true }

@@ -44,7 +44,13 @@ fn heavier(best: Option<(usize, i64)>, next: (usize, i64)) -> Option<(usize, i64
 }
 
 // The better of the best part so far and the next.
-fn better_part(best: Option<(usize, i64)>, place: usize, part: &Part, s: &Schema, row: &Row) -> Option<(usize, i64)>
+fn better_part(
+    best: Option<(usize, i64)>,
+    place: usize,
+    part: &Part,
+    s: &Schema,
+    row: &Row,
+) -> Option<(usize, i64)>
     requires { row_lies s.now row.now ≡ true }
     ensures { result ≡ better_part s.now row.now best place (part_as part.now).0 }
 {
@@ -99,7 +105,13 @@ fn put_last(n: &mut Node, row: Arc<Row>) -> Result<(), Arc<Row>>
 }
 
 // Puts the row into the leaf, and splits it where it has a row too much.
-fn place_here(n: &mut Node, s: &Schema, alpha: u8, k: &mut Spot, row: Arc<Row>) -> Result<(), (Arc<Row>, NoMemory)>
+fn place_here(
+    n: &mut Node,
+    s: &Schema,
+    alpha: u8,
+    k: &mut Spot,
+    row: Arc<Row>,
+) -> Result<(), (Arc<Row>, NoMemory)>
     requires right { IsRight s.now (known_of k.old) (plain n.old) }
     requires may { may_stand s.now (arc_value row) ≡ true }
     requires inside { spans_inside s.now k.old.range (arc_value row) ≡ true }
@@ -115,7 +127,13 @@ fn place_here(n: &mut Node, s: &Schema, alpha: u8, k: &mut Spot, row: Arc<Row>) 
 }
 
 // Puts the row below the node, or hands it back where memory is wanting.
-fn place_below(n: &mut Node, s: &Schema, alpha: u8, k: &mut Spot, row: Arc<Row>) -> Result<(), (Arc<Row>, NoMemory)>
+fn place_below(
+    n: &mut Node,
+    s: &Schema,
+    alpha: u8,
+    k: &mut Spot,
+    row: Arc<Row>,
+) -> Result<(), (Arc<Row>, NoMemory)>
     requires right { IsRight s.now (known_of k.old) (plain n.old) }
     requires may { may_stand s.now (arc_value row) ≡ true }
     requires inside { spans_inside s.now k.old.range (arc_value row) ≡ true }

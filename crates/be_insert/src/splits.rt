@@ -32,7 +32,14 @@ pub(crate) fn take_last(n: &mut Node) -> Arc<Row>
 }
 
 /// Moves the rows of the leaf that may pass the step into a new node. It takes no memory.
-pub(crate) fn draw_off(n: &mut Node, below: &mut Node, s: &Schema, hop: Hop, range: NodeRange, first: usize)
+pub(crate) fn draw_off(
+    n: &mut Node,
+    below: &mut Node,
+    s: &Schema,
+    hop: Hop,
+    range: NodeRange,
+    first: usize,
+)
     requires lie { list_all (row_lies s.now) (leaf_of (plain n.old)) ≡ true }
     requires bounded { is_bounded range ≡ true }
     requires rising { is_rising range ≡ true }
@@ -49,7 +56,12 @@ pub(crate) fn draw_off(n: &mut Node, below: &mut Node, s: &Schema, hop: Hop, ran
 }
 
 /// Takes the memory of a split: for a node, its place among the parts, and the way to it.
-pub(crate) fn prepare(n: &mut Node, s: &Schema, k: &mut Spot, hop: Hop) -> Result<Box<Node>, NoMemory>
+pub(crate) fn prepare(
+    n: &mut Node,
+    s: &Schema,
+    k: &mut Spot,
+    hop: Hop,
+) -> Result<Box<Node>, NoMemory>
     requires { is_open hop (known_of k.old) ≡ true }
     ensures same { plain n.new ≡ plain n.old }
     ensures made { IfOk result (λ below. plain below.value ≡ node [] no_part no_half no_half) }
@@ -104,7 +116,12 @@ pub(crate) fn attach(n: &mut Node, hop: Hop, below: Box<Node>)
 
 /// Splits a leaf that has a row too much, and so on below. Where memory is wanting, the last row is taken out again and
 /// handed back, and no child is left without a row.
-pub(crate) fn settle(n: &mut Node, s: &Schema, alpha: u8, k: &mut Spot) -> Result<(), (Arc<Row>, NoMemory)>
+pub(crate) fn settle(
+    n: &mut Node,
+    s: &Schema,
+    alpha: u8,
+    k: &mut Spot,
+) -> Result<(), (Arc<Row>, NoMemory)>
     requires { IsFilled s.now (known_of k.old) (plain n.old) }
     ensures right { IsRight s.now (known_of k.old) (plain n.new) }
     ensures rows { IsPermutation (rows_below (plain n.old)) (rows_below (plain n.new) ++ back result) }

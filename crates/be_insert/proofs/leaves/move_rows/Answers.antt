@@ -38,7 +38,7 @@ loop-place-preserved-then-may_pass c =
       lie = ap (list_all (row_lies c.args.s.now)) e ∙ all_without (row_lies c.args.s.now) c.loop-place.from i v.lie;
       before = ap (λ l. list_all n (take i l)) e ∙ ap (list_all n) t.before ∙ v.before;
       moved = ap (λ l. l ++ filter p c.take.new.self) c.put.ensures ∙ ap (λ r. (c.loop-place.to ++ r ∷ []) ++ filter p c.take.new.self) same ∙ append_assoc c.loop-place.to (x ∷ []) (filter p c.take.new.self)
-      ∙ ap (λ l. c.loop-place.to ++ l) (ap (λ l. x ∷ filter p l) e ∙ sym t.passed) ∙ v.moved;
+          ∙ ap (λ l. c.loop-place.to ++ l) (ap (λ l. x ∷ filter p l) e ∙ sym t.passed) ∙ v.moved;
       left = ap (filter n) e ∙ t.left ∙ v.left;
     }
 

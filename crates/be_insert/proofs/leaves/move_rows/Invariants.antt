@@ -12,7 +12,7 @@ invariant-loop-place l =
       lie : list_all (row_lies l.s) l.from ≡ true;
       before : list_all (λ row. not (may_pass l.s l.hop l.range row)) (take l.place l.from) ≡ true;
       moved : l.to ++ filter (may_pass l.s l.hop l.range) l.from ≡ filter (may_pass l.s l.hop l.range) l.initial.from;
-      left : filter (λ row. not (may_pass l.s l.hop l.range row)) l.from ≡ filter (λ row. not (may_pass l.s l.hop l.range row)) l.initial.from
+      left : filter (λ row. not (may_pass l.s l.hop l.range row)) l.from ≡ filter (λ row. not (may_pass l.s l.hop l.range row)) l.initial.from;
     }
 
 abbrev pub decreases-loop-place : goal.decreases-loop-place

@@ -44,9 +44,13 @@ place_below-requires-in-Some-low t c =
     let a = low_among x.leaf (parts_as x.parts.items) m (half_as x.high) in
     let among : Among n m Low = record { before = a.before; after = a.after; is = ap children is_n ∙ a.is } in
     let at : known_of c.enter.new.self ≡ known_below s Low k = c.in_default-enter.ensures.entered ∙ ap (λ g. known_below s g k) c.in-Low.is in
-    let pass : may_pass s Low k.range row ≡ true = ap (λ g. may_pass s g k.range row) (sym c.in-Low.is) ∙ v.passes in
-    (search (rules, the_lemmas), (subst (λ i. IsRight s i (plain c.deref_mut-in-Some-low.result.now)) (sym at) (subst (λ q. IsRight s (known_below s Low k) (plain q)) (sym c.deref_mut-in-Some-low.ensures.value) (child_right s k n m Low c.requires.right among)),
-      (c.requires.may, subst (λ i. spans_inside s i.range row ≡ true) (sym at) (row_inside s Low k row c.count.ensures.form c.requires.may pass))))
+    let pass : may_pass s Low k.range row ≡ true = ap (λ g. may_pass s g k.range row) (sym c.in-Low.is) ∙ v.passes in (
+      search (rules, the_lemmas),
+      (
+        subst (λ i. IsRight s i (plain c.deref_mut-in-Some-low.result.now)) (sym at) (subst (λ q. IsRight s (known_below s Low k) (plain q)) (sym c.deref_mut-in-Some-low.ensures.value) (child_right s k n m Low c.requires.right among)),
+        (c.requires.may, subst (λ i. spans_inside s i.range row ≡ true) (sym at) (row_inside s Low k row c.count.ensures.form c.requires.may pass)),
+      ),
+    )
 
 pub returns-in-Some-low-clause-right : goal.returns-in-Some-low-clause-right
 returns-in-Some-low-clause-right t c =
@@ -65,7 +69,7 @@ returns-in-Some-low-clause-right t c =
     let o = plain c.place_below-in-Some-low.new.n in
     let b = low_among x.leaf (parts_as x.parts.items) o (half_as x.high) in
     let w = gone_below s k (known_of c.enter.new.self) n (node x.leaf (parts_as x.parts.items) (half o) (half_as x.high)) m o Low row c.place_below-in-Some-low.result a.before a.after c.requires.right among.is b.is (ap leaf_of (sym is_n)) (ap (λ q. attrs_of (parts_under q)) (sym is_n)) pass c.requires.inside c.requires.may at c.place_below-in-Some-low.ensures.right
-        (subst (λ q. IsPermutation (rows_below (plain q) ++ row ∷ []) (rows_below o ++ back c.place_below-in-Some-low.result)) c.deref_mut-in-Some-low.ensures.value c.place_below-in-Some-low.ensures.rows) in
+    (subst (λ q. IsPermutation (rows_below (plain q) ++ row ∷ []) (rows_below o ++ back c.place_below-in-Some-low.result)) c.deref_mut-in-Some-low.ensures.value c.place_below-in-Some-low.ensures.rows) in
     subst (IsRight s k) (sym (plain_roll _)) w.right
 
 pub returns-in-Some-low-clause-rows : goal.returns-in-Some-low-clause-rows
@@ -85,7 +89,7 @@ returns-in-Some-low-clause-rows t c =
     let o = plain c.place_below-in-Some-low.new.n in
     let b = low_among x.leaf (parts_as x.parts.items) o (half_as x.high) in
     let w = gone_below s k (known_of c.enter.new.self) n (node x.leaf (parts_as x.parts.items) (half o) (half_as x.high)) m o Low row c.place_below-in-Some-low.result a.before a.after c.requires.right among.is b.is (ap leaf_of (sym is_n)) (ap (λ q. attrs_of (parts_under q)) (sym is_n)) pass c.requires.inside c.requires.may at c.place_below-in-Some-low.ensures.right
-        (subst (λ q. IsPermutation (rows_below (plain q) ++ row ∷ []) (rows_below o ++ back c.place_below-in-Some-low.result)) c.deref_mut-in-Some-low.ensures.value c.place_below-in-Some-low.ensures.rows) in
+    (subst (λ q. IsPermutation (rows_below (plain q) ++ row ∷ []) (rows_below o ++ back c.place_below-in-Some-low.result)) c.deref_mut-in-Some-low.ensures.value c.place_below-in-Some-low.ensures.rows) in
     subst (λ q. IsPermutation (rows_below n ++ row ∷ []) (rows_below q ++ back c.place_below-in-Some-low.result)) (sym (plain_roll _)) w.same
 
 pub place_below-requires-in-Some-high : goal.place_below-requires-in-Some-high
@@ -101,9 +105,13 @@ place_below-requires-in-Some-high t c =
     let a = high_among x.leaf (parts_as x.parts.items) (half_as x.low) m in
     let among : Among n m High = record { before = a.before; after = a.after; is = ap children is_n ∙ a.is } in
     let at : known_of c.enter.new.self ≡ known_below s High k = c.in_default-enter.ensures.entered ∙ ap (λ g. known_below s g k) c.in-High.is in
-    let pass : may_pass s High k.range row ≡ true = ap (λ g. may_pass s g k.range row) (sym c.in-High.is) ∙ v.passes in
-    (search (rules, the_lemmas), (subst (λ i. IsRight s i (plain c.deref_mut-in-Some-high.result.now)) (sym at) (subst (λ q. IsRight s (known_below s High k) (plain q)) (sym c.deref_mut-in-Some-high.ensures.value) (child_right s k n m High c.requires.right among)),
-      (c.requires.may, subst (λ i. spans_inside s i.range row ≡ true) (sym at) (row_inside s High k row c.count.ensures.form c.requires.may pass))))
+    let pass : may_pass s High k.range row ≡ true = ap (λ g. may_pass s g k.range row) (sym c.in-High.is) ∙ v.passes in (
+      search (rules, the_lemmas),
+      (
+        subst (λ i. IsRight s i (plain c.deref_mut-in-Some-high.result.now)) (sym at) (subst (λ q. IsRight s (known_below s High k) (plain q)) (sym c.deref_mut-in-Some-high.ensures.value) (child_right s k n m High c.requires.right among)),
+        (c.requires.may, subst (λ i. spans_inside s i.range row ≡ true) (sym at) (row_inside s High k row c.count.ensures.form c.requires.may pass)),
+      ),
+    )
 
 pub returns-in-Some-high-clause-right : goal.returns-in-Some-high-clause-right
 returns-in-Some-high-clause-right t c =
@@ -122,7 +130,7 @@ returns-in-Some-high-clause-right t c =
     let o = plain c.place_below-in-Some-high.new.n in
     let b = high_among x.leaf (parts_as x.parts.items) (half_as x.low) o in
     let w = gone_below s k (known_of c.enter.new.self) n (node x.leaf (parts_as x.parts.items) (half_as x.low) (half o)) m o High row c.place_below-in-Some-high.result a.before a.after c.requires.right among.is b.is (ap leaf_of (sym is_n)) (ap (λ q. attrs_of (parts_under q)) (sym is_n)) pass c.requires.inside c.requires.may at c.place_below-in-Some-high.ensures.right
-        (subst (λ q. IsPermutation (rows_below (plain q) ++ row ∷ []) (rows_below o ++ back c.place_below-in-Some-high.result)) c.deref_mut-in-Some-high.ensures.value c.place_below-in-Some-high.ensures.rows) in
+    (subst (λ q. IsPermutation (rows_below (plain q) ++ row ∷ []) (rows_below o ++ back c.place_below-in-Some-high.result)) c.deref_mut-in-Some-high.ensures.value c.place_below-in-Some-high.ensures.rows) in
     subst (IsRight s k) (sym (plain_roll _)) w.right
 
 pub returns-in-Some-high-clause-rows : goal.returns-in-Some-high-clause-rows
@@ -142,7 +150,7 @@ returns-in-Some-high-clause-rows t c =
     let o = plain c.place_below-in-Some-high.new.n in
     let b = high_among x.leaf (parts_as x.parts.items) (half_as x.low) o in
     let w = gone_below s k (known_of c.enter.new.self) n (node x.leaf (parts_as x.parts.items) (half_as x.low) (half o)) m o High row c.place_below-in-Some-high.result a.before a.after c.requires.right among.is b.is (ap leaf_of (sym is_n)) (ap (λ q. attrs_of (parts_under q)) (sym is_n)) pass c.requires.inside c.requires.may at c.place_below-in-Some-high.ensures.right
-        (subst (λ q. IsPermutation (rows_below (plain q) ++ row ∷ []) (rows_below o ++ back c.place_below-in-Some-high.result)) c.deref_mut-in-Some-high.ensures.value c.place_below-in-Some-high.ensures.rows) in
+    (subst (λ q. IsPermutation (rows_below (plain q) ++ row ∷ []) (rows_below o ++ back c.place_below-in-Some-high.result)) c.deref_mut-in-Some-high.ensures.value c.place_below-in-Some-high.ensures.rows) in
     subst (λ q. IsPermutation (rows_below n ++ row ∷ []) (rows_below q ++ back c.place_below-in-Some-high.result)) (sym (plain_roll _)) w.same
 
 pub index_mut-requires : goal.index_mut-requires
@@ -183,9 +191,13 @@ place_below-requires t c =
     let low = root_of Low (half_as x.low) in
     let high = root_of High (half_as x.high) in
     let was = ap children (plain_out c.args.n.now) ∙ behind_parts (roots_of (parts_as items)) z.before z.after (Part b, m) low high z.was in
-    let among : Among n m (Part b) = record { before = z.before; after = z.after ++ low ++ high; is = was } in
-    (search (rules, the_lemmas), (subst (λ j. IsRight s j (plain c.deref_mut.result.now)) (sym at) (subst (λ y. IsRight s (known_below s (Part b) k) (plain y)) (sym c.deref_mut.ensures.value) (child_right s k n m (Part b) c.requires.right among)),
-      (c.requires.may, subst (λ j. spans_inside s j.range row ≡ true) (sym at) (row_inside s (Part b) k row c.count.ensures.form c.requires.may pass))))
+    let among : Among n m (Part b) = record { before = z.before; after = z.after ++ low ++ high; is = was } in (
+      search (rules, the_lemmas),
+      (
+        subst (λ j. IsRight s j (plain c.deref_mut.result.now)) (sym at) (subst (λ y. IsRight s (known_below s (Part b) k) (plain y)) (sym c.deref_mut.ensures.value) (child_right s k n m (Part b) c.requires.right among)),
+        (c.requires.may, subst (λ j. spans_inside s j.range row ≡ true) (sym at) (row_inside s (Part b) k row c.count.ensures.form c.requires.may pass)),
+      ),
+    )
 
 pub returns-in-Part-clause-right : goal.returns-in-Part-clause-right
 returns-in-Part-clause-right t c =
@@ -214,8 +226,8 @@ returns-in-Part-clause-right t c =
     let high = root_of High (half_as x.high) in
     let was = ap children (plain_out c.args.n.now) ∙ behind_parts (roots_of (parts_as items)) z.before z.after (Part b, m) low high z.was in
     let w = gone_below s k (known_of c.enter.new.self) n (node x.leaf (parts_as (slice_set items i p)) (half_as x.low) (half_as x.high)) m o (Part b) row c.place_below.result z.before (z.after ++ low ++ high) c.requires.right was
-        (behind_parts (roots_of (parts_as (slice_set items i p))) z.before z.after (Part b, o) low high z.is) (ap leaf_of (sym (plain_out c.args.n.now))) (z.same ∙ ap (λ y. attrs_of (parts_under y)) (sym (plain_out c.args.n.now))) pass c.requires.inside c.requires.may at c.place_below.ensures.right
-        (subst (λ y. IsPermutation (rows_below (plain y) ++ row ∷ []) (rows_below o ++ back c.place_below.result)) c.deref_mut.ensures.value c.place_below.ensures.rows) in
+    (behind_parts (roots_of (parts_as (slice_set items i p))) z.before z.after (Part b, o) low high z.is) (ap leaf_of (sym (plain_out c.args.n.now))) (z.same ∙ ap (λ y. attrs_of (parts_under y)) (sym (plain_out c.args.n.now))) pass c.requires.inside c.requires.may at c.place_below.ensures.right
+    (subst (λ y. IsPermutation (rows_below (plain y) ++ row ∷ []) (rows_below o ++ back c.place_below.result)) c.deref_mut.ensures.value c.place_below.ensures.rows) in
     subst (IsRight s k) (sym (plain_roll _)) w.right
 
 pub returns-in-Part-clause-rows : goal.returns-in-Part-clause-rows
@@ -245,6 +257,6 @@ returns-in-Part-clause-rows t c =
     let high = root_of High (half_as x.high) in
     let was = ap children (plain_out c.args.n.now) ∙ behind_parts (roots_of (parts_as items)) z.before z.after (Part b, m) low high z.was in
     let w = gone_below s k (known_of c.enter.new.self) n (node x.leaf (parts_as (slice_set items i p)) (half_as x.low) (half_as x.high)) m o (Part b) row c.place_below.result z.before (z.after ++ low ++ high) c.requires.right was
-        (behind_parts (roots_of (parts_as (slice_set items i p))) z.before z.after (Part b, o) low high z.is) (ap leaf_of (sym (plain_out c.args.n.now))) (z.same ∙ ap (λ y. attrs_of (parts_under y)) (sym (plain_out c.args.n.now))) pass c.requires.inside c.requires.may at c.place_below.ensures.right
-        (subst (λ y. IsPermutation (rows_below (plain y) ++ row ∷ []) (rows_below o ++ back c.place_below.result)) c.deref_mut.ensures.value c.place_below.ensures.rows) in
+    (behind_parts (roots_of (parts_as (slice_set items i p))) z.before z.after (Part b, o) low high z.is) (ap leaf_of (sym (plain_out c.args.n.now))) (z.same ∙ ap (λ y. attrs_of (parts_under y)) (sym (plain_out c.args.n.now))) pass c.requires.inside c.requires.may at c.place_below.ensures.right
+    (subst (λ y. IsPermutation (rows_below (plain y) ++ row ∷ []) (rows_below o ++ back c.place_below.result)) c.deref_mut.ensures.value c.place_below.ensures.rows) in
     subst (λ y. IsPermutation (rows_below n ++ row ∷ []) (rows_below y ++ back c.place_below.result)) (sym (plain_roll _)) w.same
