@@ -1,18 +1,18 @@
 -- Where rows of an overfull leaf go.
-use Rattle.std.proofs.Common.{◌≡◌, ◌<◌, ◌≤◌, ℕ, Bool, true, false, not, cond, leb, ltb, ◌&&◌, ◌||◌, List, [], ◌∷◌, Some, None, Option, refl, sym, ap, ◌∙◌, subst, arith}
+use Rattle.std.proofs.Common.{◌≡◌, ◌<◌, ℕ, Bool, true, false, not, cond, leb, ltb, ◌&&◌, ◌||◌, List, [], ◌∷◌, Some, None, refl, sym, ap, ◌∙◌, subst, arith}
 use Rattle.std.specs.List.{list_all, list_any, count_by}
-use Rattle.std.proofs.lemmas.Bool.{and_parts, and_from, not_from_false, ltb-true, ltb-false, le-leb, or_left, or_right, or_parts, false≢true, eq-eqb}
+use Rattle.std.proofs.lemmas.Bool.{and_parts, and_from, ltb-true, ltb-false, le-leb, or_left, or_right, or_parts, false≢true, eq-eqb}
 use Rattle.std.proofs.lemmas.List.Sums.{sum_by-cons}
 use Rattle.be_base.specs.declared.names.AttrNo.{AttrNo}
 use Rattle.be_model.specs.declared.preds.Pred.{Pred}
 use Rattle.be_model.specs.declared.changes.Row.{Row}
 use Rattle.be_model.specs.declared.paths.Hop.{Hop}
-use Rattle.be_model.specs.declared.paths.Hop.TheVariants.{Part, Low, High}
+use Rattle.be_model.specs.declared.paths.Hop.TheVariants.{Low, High}
 use Rattle.be_model.specs.Hulls.{is_on}
 use Rattle.be_model.specs.Rows.{has}
 use Rattle.be_model.specs.Schemas.{Attributes}
-use Rattle.be_shape.specs.Shape.{NodeRange, Known, known, can_split, is_used, is_stuck, is_between, spans_inside, lower, upper}
-use Rattle.be_shape.specs.Children.{is_open, may_pass}
+use Rattle.be_shape.specs.Shape.{NodeRange, Known, can_split, is_used, is_stuck, is_between, spans_inside, lower, upper}
+use Rattle.be_shape.specs.Children.{may_pass}
 use Rattle.be_score.specs.Scores.{IsCandidate}
 use Rattle.be_insert.specs.Right.{better_half, half_for}
 

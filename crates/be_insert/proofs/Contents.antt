@@ -1,16 +1,16 @@
 -- Rows in another order have the same contents.
-use Rattle.std.proofs.Common.{◌≡◌, ◌<◌, ◌≤◌, ◌+◌, ℕ, Bool, true, false, not, cond, eqb, ltb, ◌&&◌, ◌||◌, List, [], ◌∷◌, ◌++◌, get_or, None, Some, Option, ◌⊎◌, inl, inr, refl, sym, ap, ◌∙◌, subst, arith}
+use Rattle.std.proofs.Common.{◌≡◌, ◌<◌, ◌≤◌, ℕ, Bool, true, false, not, cond, eqb, ◌||◌, List, [], ◌∷◌, ◌++◌, get_or, None, Some, Option, ◌⊎◌, inl, inr, refl, sym, ap, ◌∙◌, subst, arith}
 use Rattle.std.specs.Prelude.{IsPermutation}
-use Rattle.std.specs.List.{list_any, list_all, count_by, Contains}
-use Rattle.std.proofs.lemmas.Bool.{and_parts, and_from, not-true, not_from_false, eqb-true, eqb-false, eq-eqb, ne_eqb, cases_order, false≢true}
+use Rattle.std.specs.List.{list_any, count_by, Contains}
+use Rattle.std.proofs.lemmas.Bool.{and_parts, and_from, not-true, not_from_false, eqb-true, eq-eqb, ne_eqb, cases_order}
 use Rattle.std.proofs.lemmas.List.Sums.{sum_by-cons, sum_by-append}
 use Rattle.std.proofs.lemmas.List.Folds.{list_any_at}
 use Rattle.std.proofs.lemmas.List.Elements.{Contains-push_cases, Contains-append_left}
 use Rattle.std.proofs.lemmas.List.Sorted.{sum_by-IsPermutation, Contains-permutation, IsPermutation-sym}
 use Rattle.be_model.specs.declared.changes.Row.{Row}
 use Rattle.be_model.specs.Rows.{id_of}
-use Rattle.be_model.specs.ByIds.{ByIds, row_at, by_ids, put_by_id, Rising, AllAbove, ids_differ}
-use Rattle.be_model.proofs.RowsByIds.{row_found, found_row, ids_rise, put_last}
+use Rattle.be_model.specs.ByIds.{ByIds, row_at, by_ids, Rising, AllAbove, ids_differ}
+use Rattle.be_model.proofs.RowsByIds.{row_found, found_row, ids_rise}
 
 -- how many rows have an id
 abbrev with_id : ℕ → Row → Bool

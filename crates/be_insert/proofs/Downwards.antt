@@ -1,11 +1,10 @@
 -- A row goes below a child of a node.
-use Rattle.std.proofs.Common.{◌≡◌, ◌<◌, ◌≤◌, ◌+◌, ℕ, zero, suc, Bool, true, false, not, List, [], ◌∷◌, ◌++◌, length, slice_get, get_or, None, Some, Option, Result, Ok, Err, refl, sym, ap, ◌∙◌, subst, arith}
+use Rattle.std.proofs.Common.{◌≡◌, ◌<◌, ◌≤◌, ℕ, zero, suc, true, List, [], ◌∷◌, ◌++◌, length, slice_get, get_or, Some, Result, Ok, Err, refl, sym, ap, ◌∙◌, subst, arith}
 use Rattle.std.specs.Prelude.{IsPermutation}
-use Rattle.std.specs.Arc.{arc_value}
 use Rattle.std.specs.declared.sync.Arc.{Arc}
-use Rattle.std.specs.List.{list_all, slice_set, AllByRecursion}
+use Rattle.std.specs.List.{slice_set, AllByRecursion}
 use Rattle.std.proofs.lemmas.Bool.{and_from, and_parts}
-use Rattle.std.proofs.lemmas.List.{append_assoc, append-nil}
+use Rattle.std.proofs.lemmas.List.{append_assoc}
 use Rattle.be_base.specs.declared.names.AttrNo.{AttrNo}
 use Rattle.be_base.specs.declared.names.NoMemory.{NoMemory}
 use Rattle.be_model.specs.declared.changes.Row.{Row}
@@ -13,15 +12,14 @@ use Rattle.be_model.specs.declared.paths.Hop.{Hop}
 use Rattle.be_model.specs.declared.paths.Hop.TheVariants.{Part, Low, High}
 use Rattle.be_model.specs.Schemas.{Attributes, IsSchema}
 use Rattle.be_shape.specs.declared.nodes.Part.{Part as PartOf}
-use Rattle.be_shape.specs.Plain.{Plain, node, Parts, no_part, part, Half, no_half, half, part_as, parts_as, rows_below, leaf_of, parts_under}
-use Rattle.be_shape.specs.Shape.{Known, attrs_of, spans_inside, may_stand, everywhere}
-use Rattle.be_shape.specs.Paths.{child}
+use Rattle.be_shape.specs.Plain.{Plain, node, Parts, no_part, part, Half, half, part_as, parts_as, rows_below, leaf_of, parts_under}
+use Rattle.be_shape.specs.Shape.{Known, attrs_of, spans_inside, may_stand}
 use Rattle.be_shape.specs.Children.{roots_of, root_of, children, known_below, is_open, may_pass}
-use Rattle.be_shape.proofs.Children.{Each-parts, Levels, levels, below}
+use Rattle.be_shape.proofs.Children.{Each-parts, levels, below}
 use Rattle.be_shape.proofs.Placed.{Placed, at_child}
 use Rattle.be_insert.specs.Right.{is_right_at, IsRight}
 use Rattle.be_insert.specs.Refusals.{back}
-use Rattle.be_insert.specs.Ways.{IsWay, IsThere}
+use Rattle.be_insert.specs.Ways.{IsWay}
 use Rattle.be_insert.proofs.Lists.{all_permuted, all_back}
 use Rattle.be_insert.proofs.OneLevel.{Each-at, others, child_last, right_here}
 use Rattle.be_insert.proofs.Steps.{placed_by, Leaves, deeper}

@@ -1,9 +1,7 @@
 -- How far the rows of a node can still be split: each step down leaves fewer levels.
-use Rattle.std.proofs.Common.{◌≡◌, ℕ, ◌+◌, ◌<◌, ◌≤◌, zero, suc, Bool, true, false, not, cond, eqb, ◌&&◌, ◌||◌, List, [], ◌∷◌, length, Option, Some, None, refl, sym, ap, ◌∙◌, subst, arith}
-use Rattle.std.specs.List.{list_any}
-use Rattle.std.proofs.lemmas.Bool.{and_parts, not-true, eqb-true, eqb-false, false≢true}
+use Rattle.std.proofs.Common.{◌≡◌, ℕ, ◌+◌, ◌<◌, ◌≤◌, zero, suc, Bool, true, false, cond, eqb, ◌||◌, List, ◌∷◌, length, Option, Some, None, refl, sym, ap, ◌∙◌, arith}
+use Rattle.std.proofs.lemmas.Bool.{not-true, eqb-true, eqb-false, false≢true}
 use Rattle.be_base.specs.declared.names.AttrNo.{AttrNo}
-use Rattle.be_base.specs.declared.limits.TheConstants.{LOG_CHANGES}
 use Rattle.be_model.specs.declared.changes.Row.{Row}
 use Rattle.be_model.specs.declared.paths.Hop.{Hop}
 use Rattle.be_model.specs.declared.paths.Hop.TheVariants.{Part, Low, High}
@@ -14,7 +12,7 @@ use Rattle.be_model.specs.Rows.{has}
 use Rattle.be_model.specs.Schemas.{Attributes, range_of, numbered}
 use Rattle.be_model.proofs.InSchema.{range_below}
 use Rattle.be_model.proofs.Spans.{none_outside}
-use Rattle.be_shape.specs.Shape.{Known, is_used, can_split}
+use Rattle.be_shape.specs.Shape.{Known, is_used}
 use Rattle.be_shape.specs.Children.{known_below, is_open, may_pass}
 use Rattle.be_shape.proofs.BitsLeft.{bits_left, whole_bits, low_left, high_left}
 

@@ -1,25 +1,21 @@
 -- A node whose children or leaf have changed.
-use Rattle.std.proofs.Common.{◌≡◌, ◌<◌, ◌≤◌, ℕ, Bool, true, false, not, cond, eqb, ltb, ◌&&◌, ◌||◌, List, [], ◌∷◌, ◌++◌, length, None, Some, refl, sym, ap, ◌∙◌, subst, arith}
+use Rattle.std.proofs.Common.{◌≡◌, ◌<◌, Bool, true, false, cond, eqb, ltb, ◌&&◌, List, [], ◌∷◌, ◌++◌, None, Some, refl, sym, ap, ◌∙◌, subst, arith}
 use Rattle.std.specs.Prelude.{IsPermutation}
-use Rattle.std.specs.List.{list_all, list_any, flat_map, AllByRecursion}
-use Rattle.std.proofs.lemmas.Bool.{and_parts, and_from, ltb-true, ltb-false, lt-ltb, eqb-false, eq-eqb}
+use Rattle.std.specs.List.{flat_map, AllByRecursion}
+use Rattle.std.proofs.lemmas.Bool.{and_parts, and_from, ltb-false, lt-ltb, eqb-false}
 use Rattle.std.proofs.lemmas.List.{append_assoc, append-nil}
 use Rattle.std.proofs.lemmas.List.Concat.{flat_map-append}
-use Rattle.std.proofs.lemmas.List.Folds.{list_all-append, list_any-append}
-use Rattle.std.proofs.lemmas.List.Sorted.{IsPermutation-append_comm, IsPermutation-append_left, IsPermutation-append_right, IsPermutation-trans, IsPermutation-refl}
 use Rattle.be_base.specs.declared.names.AttrNo.{AttrNo}
 use Rattle.be_model.specs.declared.changes.Row.{Row}
 use Rattle.be_model.specs.declared.paths.Hop.{Hop}
 use Rattle.be_model.specs.declared.paths.Hop.TheVariants.{Part, Low, High}
 use Rattle.be_model.specs.Forms.{attrs_rise}
 use Rattle.be_model.specs.Schemas.{Attributes}
-use Rattle.be_shape.specs.Plain.{Plain, node, Parts, no_part, part, Half, no_half, half, rows_below, leaf_of, parts_under}
-use Rattle.be_shape.specs.Shape.{Known, everywhere, is_placed_at, is_drawn_at, is_pruned_at, is_settled_at, spans_inside, attrs_of}
-use Rattle.be_shape.specs.Children.{roots_of, root_of, children, known_below, is_open, may_pass, with_part, with_child, with_leaf}
-use Rattle.be_shape.specs.Paths.{part_on, in_half, child}
-use Rattle.be_shape.proofs.Children.{Each-append, Each-parts, Each-from_test, test_from_Each, Levels, levels, from_levels, below, rows_of, rows_are}
-use Rattle.be_shape.proofs.Placed.{Placed, placed, is_placed_from}
-use Rattle.be_shape.proofs.Levels.{holds_rows, pruned_is, passes_one, drawn_is}
+use Rattle.be_shape.specs.Plain.{Plain, node, Parts, no_part, part, no_half, half, rows_below, leaf_of, parts_under}
+use Rattle.be_shape.specs.Shape.{Known, everywhere, is_placed_at, is_drawn_at, is_pruned_at, is_settled_at, attrs_of}
+use Rattle.be_shape.specs.Children.{roots_of, root_of, children, with_part, with_child}
+use Rattle.be_shape.specs.Paths.{part_on, child}
+use Rattle.be_shape.proofs.Children.{Each-append, Each-parts, from_levels, below, rows_of, rows_are}
 use Rattle.be_insert.specs.Right.{is_right_at}
 use Rattle.be_insert.proofs.Lists.{swap_last}
 

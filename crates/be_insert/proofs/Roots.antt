@@ -1,21 +1,20 @@
 -- A tree's root, and what its type keeps.
-use Rattle.std.proofs.Common.{◌≡◌, ◌<◌, Bool, true, false, not, eqb, ltb, ◌&&◌, ◌||◌, List, [], ◌∷◌, ◌++◌, None, Result, Ok, Err, OnOk, OnErr, IfErr, refl, sym, ap, ◌∙◌, subst, arith}
+use Rattle.std.proofs.Common.{◌≡◌, Bool, true, false, eqb, ◌&&◌, List, [], ◌∷◌, ◌++◌, Result, Ok, Err, OnOk, OnErr, IfErr, sym, ◌∙◌, subst}
 use Rattle.std.specs.Prelude.{IsPermutation}
-use Rattle.std.specs.List.{list_all, list_any, AllByRecursion}
+use Rattle.std.specs.List.{list_any, AllByRecursion}
 use Rattle.std.specs.Arc.{arc_value}
 use Rattle.std.specs.declared.sync.Arc.{Arc}
 use Rattle.std.proofs.lemmas.Bool.{and_parts, and_from}
 use Rattle.std.proofs.lemmas.List.{append-nil}
 use Rattle.be_base.specs.declared.names.NoMemory.{NoMemory}
-use Rattle.be_base.specs.declared.limits.TheConstants.{LOG_CHANGES}
 use Rattle.be_model.specs.declared.changes.Row.{Row}
 use Rattle.be_model.specs.Rows.{id_of}
-use Rattle.be_model.specs.ByIds.{by_ids, put_by_id, has_id, ids_differ}
+use Rattle.be_model.specs.ByIds.{put_by_id, has_id, ids_differ}
 use Rattle.be_model.specs.Schemas.{Attributes}
 use Rattle.be_model.proofs.RowsByIds.{put_last, has_by_ids}
 use Rattle.be_shape.specs.declared.trees.Tree.{Tree}
 use Rattle.be_shape.specs.Plain.{Plain, plain, rows_below, contents}
-use Rattle.be_shape.specs.Shape.{Known, nothing, everywhere, is_placed_at, is_drawn_at, is_pruned_at, is_settled_at, is_placed, is_drawn, is_pruned, is_settled, may_stand, rows_lie}
+use Rattle.be_shape.specs.Shape.{Known, nothing, everywhere, is_placed_at, is_drawn_at, is_pruned_at, is_settled_at}
 use Rattle.be_shape.proofs.Children.{where_known, levels, from_levels, below}
 use Rattle.be_model.specs.declared.paths.Hop.{Hop}
 use Rattle.be_shape.specs.Children.{children}

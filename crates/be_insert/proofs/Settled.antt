@@ -1,9 +1,8 @@
 -- A leaf that has a row too much is split.
-use Rattle.std.proofs.Common.{◌≡◌, ◌<◌, ◌≤◌, ◌+◌, ◌-◌, ℕ, Bool, true, false, not, cond, leb, ltb, ◌&&◌, ◌||◌, List, [], ◌∷◌, ◌++◌, length, take, slice_get, None, Some, Option, Result, Ok, Err, OnErr, IfErr, refl, sym, ap, ◌∙◌, subst, arith, length-append}
+use Rattle.std.proofs.Common.{◌≡◌, ◌<◌, ◌+◌, ◌-◌, ℕ, Bool, true, false, not, cond, leb, ltb, ◌&&◌, ◌||◌, List, [], ◌∷◌, ◌++◌, length, take, slice_get, None, Some, Result, Ok, Err, OnErr, IfErr, refl, sym, ap, ◌∙◌, subst, arith, length-append}
 use Rattle.std.specs.Prelude.{IsPermutation}
 use Rattle.std.specs.List.{list_all, list_any, filter}
-use Rattle.std.proofs.lemmas.Bool.{and_parts, and_from, not-true, not-false, or_parts, or_cases, false≢true}
-use Rattle.std.proofs.lemmas.List.{append-nil}
+use Rattle.std.proofs.lemmas.Bool.{and_parts, and_from, not-true, not-false, or_parts}
 use Rattle.std.proofs.lemmas.List.Sorted.{length_permutation}
 use Rattle.std.specs.Arc.{arc_value}
 use Rattle.std.specs.declared.sync.Arc.{Arc}
@@ -17,14 +16,14 @@ use Rattle.be_model.specs.Lies.{row_lies}
 use Rattle.be_model.specs.Rows.{id_of}
 use Rattle.be_model.specs.Schemas.{Attributes, IsSchema}
 use Rattle.be_shape.specs.Plain.{Plain, node, no_part, no_half, rows_below, leaf_of, with_row}
-use Rattle.be_shape.specs.Shape.{Known, is_settled_at, is_stuck, may_stand}
+use Rattle.be_shape.specs.Shape.{Known, is_stuck, may_stand}
 use Rattle.be_shape.specs.Paths.{child}
 use Rattle.be_shape.specs.Children.{known_below, is_open, may_pass, with_child, with_leaf}
-use Rattle.be_shape.proofs.Children.{rows_are, rows_of}
+use Rattle.be_shape.proofs.Children.{rows_are}
 use Rattle.be_insert.specs.Right.{IsRight, settles, is_filled, IsFilled}
-use Rattle.be_insert.proofs.Lists.{all_front, filter_passes, filter_keeps, filter_some}
+use Rattle.be_insert.proofs.Lists.{all_front, filter_passes, filter_keeps}
 use Rattle.be_insert.proofs.Steps.{Leaves, split, settled_is}
-use Rattle.be_insert.proofs.Fills.{HasLast, has_last, cut, stays, not_there, Passing, passing, alone, leaf_filled, inside_below, stuck_stay, last_put}
+use Rattle.be_insert.proofs.Fills.{has_last, cut, stays, not_there, Passing, passing, alone, leaf_filled, inside_below, stuck_stay, last_put}
 use Rattle.be_insert.proofs.AtPlaces.{front_stuck}
 use Rattle.be_insert.proofs.LevelsLeft.{levels_left, falls}
 

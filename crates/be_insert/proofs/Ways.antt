@@ -1,20 +1,20 @@
 -- The way of a row at a node.
-use Rattle.std.proofs.Common.{◌≡◌, ◌<◌, ◌≤◌, ◌+◌, ◌-◌, ℕ, ℤ, pos, zero, suc, Bool, true, false, not, cond, ◌&&◌, ◌||◌, List, [], ◌∷◌, ◌++◌, length, slice_get, None, Some, Option, IfSome, refl, sym, ap, ◌∙◌, subst, arith, length-append}
-use Rattle.std.specs.Prelude.{IsPermutation, int_lt, option_map}
+use Rattle.std.proofs.Common.{◌≡◌, ◌+◌, ℕ, ℤ, pos, Bool, true, false, cond, ◌||◌, List, [], ◌∷◌, ◌++◌, length, slice_get, None, Some, Option, IfSome, refl, sym, ap, ◌∙◌, subst, length-append}
+use Rattle.std.specs.Prelude.{int_lt, option_map}
 use Rattle.std.specs.List.{list_any}
 use Rattle.std.proofs.lemmas.Bool.{or_from, or_parts}
-use Rattle.std.proofs.lemmas.List.{append_assoc, append-nil}
+use Rattle.std.proofs.lemmas.List.{append_assoc}
 use Rattle.std.proofs.lemmas.List.Folds.{list_any-append}
 use Rattle.be_base.specs.declared.names.AttrNo.{AttrNo}
 use Rattle.be_model.specs.declared.changes.Row.{Row}
 use Rattle.be_model.specs.declared.paths.Hop.{Hop}
-use Rattle.be_model.specs.declared.paths.Hop.TheVariants.{Part, Low, High}
+use Rattle.be_model.specs.declared.paths.Hop.TheVariants.{Low, High}
 use Rattle.be_model.specs.Rows.{has}
 use Rattle.be_model.specs.Schemas.{Attributes}
 use Rattle.be_score.specs.Scores.{weight}
 use Rattle.be_shape.specs.Plain.{Plain, node, Parts, no_part, part, Half, no_half, half}
 use Rattle.be_shape.specs.Shape.{NodeRange, known, lower, upper, fits_half, attrs_of}
-use Rattle.be_shape.specs.Children.{roots_of, root_of, children, may_pass}
+use Rattle.be_shape.specs.Children.{roots_of, root_of, may_pass}
 use Rattle.be_insert.specs.Ways.{heavier, better_part, best_from, IsWay, NoWay}
 
 pub low_way : (s : Attributes) (r : NodeRange) (rows : List Row) (parts : Parts) (low high : Half) (row : Row) → fits_half s (known (lower r) []) low row ≡ true → IsWay s r (node rows parts low high) row (Low, 0)

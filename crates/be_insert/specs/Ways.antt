@@ -1,5 +1,5 @@
 -- Where a row goes at a node.
-use Rattle.std.specs.Prelude.{◌≡◌, ℕ, ℤ, pos, ◌+◌, Bool, true, false, List, [], ◌∷◌, slice_get, int_lt, Option, Some, None, if◌then◌else◌}
+use Rattle.std.specs.Prelude.{◌≡◌, ℕ, ℤ, pos, ◌+◌, true, false, List, [], ◌∷◌, slice_get, int_lt, Option, Some, None, if◌then◌else◌}
 use Rattle.std.specs.List.{list_any}
 use Rattle.be_base.specs.declared.names.AttrNo.{AttrNo}
 use Rattle.be_model.specs.declared.changes.Row.{Row}

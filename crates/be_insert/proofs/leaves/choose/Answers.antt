@@ -1,7 +1,5 @@
-use Rattle.std.proofs.Common.{◌≡◌, true, false, refl, sym, ap, ◌∙◌, subst}
-use Rattle.std.specs.List.{list_any}
+use Rattle.std.proofs.Common.{◌≡◌, true, false, refl, sym, ◌∙◌, subst}
 use Rattle.std.proofs.lemmas.Bool.{false≢true, not_from_false}
-use Rattle.be_model.specs.Rows.{has}
 use Rattle.be_shape.specs.Shape.{is_used}
 use Rattle.be_insert.specs.Spots.{known_of}
 use Rattle.be_insert.proofs.Choices.{chosen, no_half, all_stuck, used_of}

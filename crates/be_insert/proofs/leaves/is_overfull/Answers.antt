@@ -1,11 +1,10 @@
-use Rattle.std.proofs.Common.{◌≡◌, true, sym, ap, ◌∙◌, ◌<◌, length, subst, arith}
+use Rattle.std.proofs.Common.{◌≡◌, true, sym, ap, ◌∙◌, subst, arith}
 use Rattle.std.specs.Arc.{arc_value}
-use Rattle.be_base.specs.declared.limits.TheConstants.{LEAF_ROWS}
 use Rattle.be_model.specs.Lies.{row_lies}
 use Rattle.be_model.proofs.Attributes.{all_at}
 use Rattle.be_shape.specs.Shape.{is_stuck}
 use Rattle.be_insert.specs.Spots.{known_of}
-use Rattle.be_insert.proofs.AtPlaces.{all_next, all_fails, all_taken, front_stuck, settled_few, settled_stuck, overfull}
+use Rattle.be_insert.proofs.AtPlaces.{all_next, all_fails, all_taken, front_stuck, settled_stuck, overfull}
 use Rattle.be_insert.proofs.leaves.is_overfull.Goals as goal
 
 pub is_stuck-requires : goal.is_stuck-requires

@@ -1,5 +1,5 @@
-use Rattle.std.proofs.Common.{◌≡◌, ◌<◌, ◌≤◌, ◌+◌, ◌-◌, ◌++◌, ◌∷◌, [], true, false, not, length, take, sym, ap, ◌∙◌, subst, arith, length-append}
-use Rattle.std.specs.List.{filter, list_all, remove}
+use Rattle.std.proofs.Common.{◌≡◌, ◌++◌, ◌∷◌, [], true, false, not, length, take, sym, ap, ◌∙◌, subst, arith, length-append}
+use Rattle.std.specs.List.{filter, list_all}
 use Rattle.std.specs.Arc.{arc_value}
 use Rattle.std.proofs.lemmas.List.{append_assoc}
 use Rattle.std.proofs.lemmas.Bool.{not_from_false}

@@ -1,17 +1,16 @@
-use Rattle.std.proofs.Common.{◌≡◌, ◌<◌, ◌++◌, ◌∷◌, [], true, length, slice_get, Some, sym, ap, ◌∙◌, subst, rules, arith}
+use Rattle.std.proofs.Common.{◌≡◌, ◌++◌, ◌∷◌, [], true, slice_get, Some, sym, ap, ◌∙◌, subst, rules, arith}
 use Rattle.std.specs.Prelude.{IsPermutation}
 use Rattle.std.specs.Arc.{arc_value}
 use Rattle.be_model.specs.declared.paths.Hop.TheVariants.{Part, Low, High}
 use Rattle.be_shape.specs.declared.nodes.Node.TheViews.{out-Node, out-Part, the_lemmas}
-use Rattle.std.specs.Vec.{with_item}
 use Rattle.std.specs.Box.{with_value}
 use Rattle.std.specs.List.{slice_set}
 use Rattle.be_base.specs.declared.names.AttrNo.{AttrNo}
 use Rattle.be_shape.specs.declared.nodes.Part.{Part as PartOf, roll-Part}
 use Rattle.be_shape.specs.declared.nodes.Node.TheFolds.{fold-roll-Part}
-use Rattle.be_shape.specs.Plain.{Plain, plain, plain_node, plain_part, node, half, parts_as, half_as, part_as, rows_below, leaf_of, parts_under}
+use Rattle.be_shape.specs.Plain.{Plain, plain, plain_node, plain_part, node, half, parts_as, half_as, rows_below, leaf_of, parts_under}
 use Rattle.be_shape.specs.Shape.{attrs_of, spans_inside}
-use Rattle.be_shape.specs.Children.{children, roots_of, root_of, known_below, may_pass, is_open}
+use Rattle.be_shape.specs.Children.{children, roots_of, root_of, known_below, may_pass}
 use Rattle.be_shape.proofs.Plains.{plain_out, part_out, plain_roll}
 use Rattle.be_insert.specs.Right.{IsRight}
 use Rattle.be_insert.specs.Refusals.{back}

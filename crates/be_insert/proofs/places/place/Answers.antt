@@ -1,12 +1,11 @@
-use Rattle.std.proofs.Common.{◌≡◌, ◌++◌, ◌∷◌, [], true, sym, ap, ◌∙◌, subst}
+use Rattle.std.proofs.Common.{◌≡◌, ◌++◌, ◌∷◌, [], true, sym, ◌∙◌, subst}
 use Rattle.std.specs.Prelude.{IsPermutation}
 use Rattle.std.specs.Arc.{arc_value}
 use Rattle.be_model.specs.Forms.{IsConj}
-use Rattle.be_model.specs.Schemas.{Attributes}
 use Rattle.be_shape.specs.Plain.{plain, rows_below}
 use Rattle.be_shape.specs.Shape.{nothing, may_stand}
 use Rattle.be_shape.proofs.Plains.{plain_out, plain_roll}
-use Rattle.be_shape.proofs.RootPut.{IsRoot, may_stand_from}
+use Rattle.be_shape.proofs.RootPut.{may_stand_from}
 use Rattle.be_insert.specs.Right.{IsRight}
 use Rattle.be_insert.specs.Refusals.{back}
 use Rattle.be_insert.specs.Spots.{known_of}

@@ -2,8 +2,8 @@ use Rattle.std.proofs.Common.{◌≡◌, ℕ, ℤ, true, [], Some, None, option_
 use Rattle.be_model.specs.declared.paths.Hop.TheVariants.{Part, Low, High}
 use Rattle.be_model.specs.Rows.{has}
 use Rattle.be_shape.specs.declared.nodes.Node.TheViews.{out-Node, out-Part}
-use Rattle.be_shape.specs.Plain.{plain, parts_as, half_as}
-use Rattle.be_shape.specs.Shape.{known, fits_half, attrs_of, lower, upper}
+use Rattle.be_shape.specs.Plain.{parts_as, half_as}
+use Rattle.be_shape.specs.Shape.{known, fits_half, attrs_of}
 use Rattle.be_shape.proofs.Plains.{plain_out, part_out}
 use Rattle.be_insert.specs.Ways.{IsWay, NoWay, best_from}
 use Rattle.be_insert.proofs.PartPlaces.{attr_there, part_within}

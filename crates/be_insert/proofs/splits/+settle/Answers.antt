@@ -1,18 +1,14 @@
-use Rattle.std.proofs.Common.{◌≡◌, ◌<◌, ◌+◌, ◌-◌, ◌++◌, ◌∷◌, List, cond, leb, [], true, false, not, length, take, filter, slice_get, Some, sym, ap, ◌∙◌, subst, rules, arith}
+use Rattle.std.proofs.Common.{◌≡◌, ◌+◌, ◌-◌, List, cond, leb, true, not, length, take, filter, slice_get, sym, ap, ◌∙◌, subst, arith}
 use Rattle.std.specs.List.{list_all, list_any}
 use Rattle.std.specs.Arc.{arc_value}
 use Rattle.be_base.specs.declared.limits.TheConstants.{LEAF_ROWS}
 use Rattle.be_model.specs.declared.changes.Row.{Row}
 use Rattle.be_model.specs.Lies.{row_lies}
-use Rattle.be_shape.specs.declared.nodes.Node.TheViews.{out-Node, the_lemmas}
-use Rattle.be_shape.specs.Plain.{plain, node, no_part, no_half, leaf_of, rows_below}
-use Rattle.be_shape.specs.Shape.{Known, is_settled_at}
-use Rattle.be_shape.specs.Children.{known_below, may_pass, with_child, with_leaf}
+use Rattle.be_shape.specs.Plain.{plain, node, no_part, no_half, leaf_of}
+use Rattle.be_shape.specs.Children.{known_below, may_pass, with_leaf}
 use Rattle.be_shape.proofs.Plains.{plain_out}
-use Rattle.be_insert.specs.Right.{IsRight, IsFilled, settles}
+use Rattle.be_insert.specs.Right.{IsFilled, settles}
 use Rattle.be_insert.specs.Spots.{known_of}
-use Rattle.be_insert.proofs.Steps.{Leaves, settled_is}
-use Rattle.be_insert.proofs.Fills.{stays}
 use Rattle.be_insert.proofs.LevelsLeft.{levels_left}
 use Rattle.be_insert.proofs.Settled.{row_lie, leaf_may, ready, finish, last_of, front_stays, without_last, stays_settled}
 use Rattle.be_insert.proofs.splits.+settle.Goals as goal

@@ -1,10 +1,9 @@
-use Rattle.std.proofs.Common.{◌≡◌, rules, sym, ap, ◌∙◌}
+use Rattle.std.proofs.Common.{◌≡◌, ap, ◌∙◌}
 use Rattle.std.specs.List.{insert}
 use Rattle.be_shape.specs.declared.nodes.Part.{Part, roll-Part}
 use Rattle.be_base.specs.declared.names.AttrNo.{AttrNo}
 use Rattle.be_shape.specs.declared.nodes.Node.TheFolds.{fold-roll-Part}
 use Rattle.be_shape.specs.Plain.{Plain, plain, plain_node, plain_part, part_as, parts_as}
-use Rattle.be_shape.proofs.Plains.{part_out}
 use Rattle.be_insert.specs.Rooms.{part_place}
 use Rattle.be_insert.proofs.PartPlaces.{parts_put}
 use Rattle.be_insert.proofs.splits.put_part.Goals as goal
