@@ -1,38 +1,45 @@
 #!/usr/bin/env bash
-# Prints lines per second and peak memory of `run` for 1,000 subscriptions and 20,000 events on one core,
-# and how the time grows at twice the subscriptions and at twice the events. No part of the gate.
+# Prints what a SUB and a PUB take in `run`, and its memory, at 1,000, 10,000 and 100,000 subscriptions, and how the
+# time grows at twice the subscriptions and at twice the events. No part of the gate.
+# shellcheck source=common.sh
 . "$(dirname "${BASH_SOURCE[0]}")/common.sh"
 use_program
 pin=()
 ! taskset -c 0 true 2>/dev/null || pin=(taskset -c 0)
 awk -v what=schema -f "$top/bench/workload.awk" >"$room/schema.txt"
 
-serve() {
-    "${pin[@]}" "$program" run "$room/schema.txt" <"$room/script.txt" >"$room/out.txt"
-}
-
-# measure SUBS EVENTS: the least seconds of processor time of nine runs
+# measure RUNS SUBS EVENTS: the least processor seconds of that many runs
 measure() {
-    awk -v what=script -v subs="$1" -v events="$2" -f "$top/bench/workload.awk" >"$room/script.txt"
-    local TIMEFORMAT='%3U %3S'
-    for _ in 1 2 3 4 5 6 7 8 9; do
-        { time serve; } 2>&1
-    done | awk '{ took = $1 + $2; if (NR == 1 || took < least) least = took } END { print least }'
+    awk -v what=script -v subs="$2" -v events="$3" -f "$top/bench/workload.awk" >"$room/script.txt"
+    least "$1" "$room/script.txt" "${pin[@]}" "$program" run "$room/schema.txt"
 }
 
-subs="$(measure 2000 20000)"
-events="$(measure 1000 40000)"
-both="$(measure 2000 40000)"
-base="$(measure 1000 20000)"
-hits="$(awk '$1 == "HIT" { events++; hits += $3 } END { printf "%.2f", hits / events }' "$room/out.txt")"
-peak=unknown
-if [ -x /usr/bin/time ]; then
-    peak="$(/usr/bin/time -f %M "$program" run "$room/schema.txt" 2>&1 >/dev/null <"$room/script.txt")"
-fi
-awk -v base="$base" -v peak="$peak" -v hits="$hits" -v subs="$subs" -v events="$events" -v both="$both" 'BEGIN {
-    printf "1,000 subscriptions, 20,000 events: %.3f s, %d lines a second\n", base, 21000 / base
-    printf "memory at most: %s kB; hits an event: %s\n", peak, hits
-    printf "twice the subscriptions: %.3f s, %.2f times\n", subs, subs / base
-    printf "twice the events: %.3f s, %.2f times\n", events, events / base
-    printf "twice both: %.3f s, %.2f times\n", both, both / base
+# row SUBS EVENTS: a row of the table
+row() {
+    local kept all
+    kept="$(measure 5 "$1" 0)" && all="$(measure 3 "$1" "$2")" || exit 1
+    awk -v subs="$1" -v events="$2" -v kept="$kept" -v all="$all" \
+        -v memory="$(peak "$room/script.txt" "$program" run "$room/schema.txt")" '
+        $1 == "HIT" { hits += $3 }
+        END {
+            subs_told = substr(subs, 1, length(subs) - 3) "," substr(subs, length(subs) - 2)
+            printf "| %s | %.1f µs | %.0f µs | %.1f | %.1f MB |\n", subs_told, 1e6 * kept / subs, 1e6 * (all - kept) / events, hits / events, memory / 1024
+        }' "$room/out.txt"
+}
+
+echo '| Subscriptions | a SUB takes | a PUB takes | hits of a PUB | memory at most |'
+echo '|---|---|---|---|---|'
+row 1000 20000
+row 10000 5000
+row 100000 1000
+
+base="$(measure 9 1000 20000)"
+subs="$(measure 9 2000 20000)"
+events="$(measure 9 1000 40000)"
+both="$(measure 9 2000 40000)"
+awk -v base="$base" -v subs="$subs" -v events="$events" -v both="$both" 'BEGIN {
+    printf "1,000 subscriptions and 20,000 events: %.2f s, %d lines a second\n", base, 21000 / base
+    printf "with twice the subscriptions: %.2f times as long\n", subs / base
+    printf "with twice the events: %.2f times as long\n", events / base
+    printf "with twice both: %.2f times as long\n", both / base
 }'

@@ -55,7 +55,7 @@ tokens-BeginsNoToken (b ∷ rest) h =
     let outer = or_parts (is_word_byte b || is_mark b) (b == 33 && starts_with is_equal rest) h.1 in
     let inner = or_parts (is_word_byte b) (is_mark b) outer.0 in
     let joins : (is_paired b ≡ false) ⊎ (starts_with is_equal rest ≡ false) =
-      elim (and_cases (b == 33) (starts_with is_equal rest) outer.1) [ inl no_bang ↦ inl (unpaired b inner.1 no_bang) | inr no_equal ↦ inr no_equal ] in
+    elim (and_cases (b == 33) (starts_with is_equal rest) outer.1) [ inl no_bang ↦ inl (unpaired b inner.1 no_bang) | inr no_equal ↦ inr no_equal ] in
     tokens_stray b rest (stray_lexeme b inner.0 h.0 inner.1) inner.0 joins
 
 -- what a scan answers where no token begins
@@ -133,8 +133,8 @@ first_paired b long short (c ∷ rest) joined alone = by_next (c == 61) refl
   where
     by_next : (t : Bool) → (c == 61) ≡ t → HasFirstToken (b ∷ c ∷ rest)
     by_next true is =
-      let same : c ≡ 61 = eqb-true c 61 is in
-      (long, rest, rw same (joined rest))
+        let same : c ≡ 61 = eqb-true c 61 is in
+        (long, rest, rw same (joined rest))
     by_next false other = (short, c ∷ rest, alone other)
 
 first_less : (rest : Text) → HasFirstToken (60 ∷ rest)
@@ -162,9 +162,9 @@ first_token : (b : ℕ) (rest : Text) → begins_token b rest ≡ true → HasFi
 first_token b rest h =
     elim (or_cases (is_word_byte b || is_mark b) (b == 33 && starts_with is_equal rest) h) [
       | inl plain ↦ elim (or_cases (is_word_byte b) (is_mark b) plain) [
-          | inl is_word ↦ first_word b rest is_word
-          | inr is ↦ first_mark b rest (at_mark b is)
-        ]
+        | inl is_word ↦ first_word b rest is_word
+        | inr is ↦ first_mark b rest (at_mark b is)
+      ]
       | inr bang ↦
           let parts = and_parts (b == 33) (starts_with is_equal rest) bang in
           let is : b ≡ 33 = eqb-true b 33 parts.0 in

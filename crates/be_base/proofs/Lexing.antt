@@ -1,12 +1,12 @@
 -- The tokens of a text, by what it begins with.
-use Rattle.std.proofs.Common.{◌≢◌, ◌+◌, ◌<◌, suc, zero, length, take, drop, get_or, length-drop, ◌≡◌, ℕ, ◌==◌, ◌||◌, ◌&&◌, Bool, true, false, cond, List, [], ◌∷◌, ◌++◌, Some, None, inl, inr, ◌⊎◌, sym, ap, ◌∙◌, arith, refl}
-use Rattle.std.proofs.lemmas.Bool.{and_parts}
+use Rattle.std.proofs.Common.{◌<◌, suc, zero, length, take, drop, length-drop, ◌≡◌, ℕ, ◌==◌, ◌||◌, Bool, true, false, cond, List, [], ◌∷◌, ◌++◌, None, inl, inr, ◌⊎◌, ap, ◌∙◌, arith, refl}
+use Rattle.std.proofs.lemmas.Bool.{and_parts, cond_both}
 use Rattle.std.proofs.lemmas.Bool.Decides.{nat_tests}
-use Rattle.std.proofs.lemmas.List.{at_drop_more, take-append-drop}
+use Rattle.std.proofs.lemmas.List.{take-append-drop}
 use Rattle.std.specs.List.{list_all}
 use Rattle.be_base.specs.Text.{Text, is_word_byte}
 use Rattle.be_base.specs.Fronts.{is_equal, starts_with}
-use Rattle.be_base.specs.Tokens.{Lexeme, word, less_or_equal, equal, not_equal, greater_or_equal, blank, stray, is_blank, lexeme_of, put_before, lexemes, put_token, tokens_in, tokens}
+use Rattle.be_base.specs.Tokens.{Lexeme, word, less, less_or_equal, equal, not_equal, greater_or_equal, greater, open_brace, close_brace, comma, blank, stray, is_blank, lexeme_of, put_before, lexemes, put_token, tokens_in, tokens}
 
 -- a byte that joins a `=` behind it
 abbrev pub is_paired : ℕ → Bool
@@ -20,52 +20,39 @@ abbrev begins_equal : List Lexeme → Bool
 begins_equal (equal ∷ rest) = true
 begins_equal rest = false
 
-cond_keeps : {A : Type 0} (f : A → Bool) (r c : Bool) (x y : A) → f x ≡ r → f y ≡ r → f (cond c x y) ≡ r
-cond_keeps f r true x y p q = p
-cond_keeps f r false x y p q = q
-
-cond_else : {A : Type 0} (f : A → Bool) (r c : Bool) (x y : A) → c ≡ false → f y ≡ r → f (cond c x y) ≡ r
-cond_else f r true x y h q = absurd (cc)
-cond_else f r false x y h q = q
-
 pub list_all_head : (p : ℕ → Bool) (b : ℕ) (text : Text) → list_all p (b ∷ text) ≡ true → (p b ≡ true) × (list_all p text ≡ true)
 list_all_head p b text h = and_parts (p b) (list_all p text) h
 
-lexeme_no_word : (b : ℕ) (rest : List Lexeme) → is_word_byte b ≡ false → begins_word (lexeme_of b ∷ rest) ≡ false
-lexeme_no_word b rest h =
-    let f = λ (t : Lexeme). begins_word (t ∷ rest) in
-    rw h
-    (cond_keeps f false (b == 60) _ _ refl (cond_keeps f false (b == 61) _ _ refl (cond_keeps f false (b == 62) _ _ refl
-    (cond_keeps f false (b == 123) _ _ refl (cond_keeps f false (b == 125) _ _ refl (cond_keeps f false (b == 44) _ _ refl
-    (cond_keeps f false (is_blank b) _ _ refl refl)))))))
+-- a byte alone, by what it is
+lexeme_by : (P : Lexeme → Type 0) (b : ℕ) → (is_word_byte b ≡ true → P (word (b ∷ []))) → P less → (is_equal b ≡ true → P equal)
+    → P greater → P open_brace → P close_brace → P comma → P blank → P (stray b) → P (lexeme_of b)
+lexeme_by P b w l e g o c m n s =
+    cond_both (is_word_byte b) _ _ P w (λ _. cond_both (b == 60) _ _ P (λ _. l) (λ _. cond_both (b == 61) _ _ P e (λ _.
+    cond_both (b == 62) _ _ P (λ _. g) (λ _. cond_both (b == 123) _ _ P (λ _. o) (λ _. cond_both (b == 125) _ _ P (λ _. c) (λ _.
+    cond_both (b == 44) _ _ P (λ _. m) (λ _. cond_both (is_blank b) _ _ P (λ _. n) (λ _. s))))))))
 
-lexeme_no_equal : (b : ℕ) (rest : List Lexeme) → is_equal b ≡ false → begins_equal (lexeme_of b ∷ rest) ≡ false
-lexeme_no_equal b rest h =
-    let f = λ (t : Lexeme). begins_equal (t ∷ rest) in
-    rw h
-    (cond_keeps f false (is_word_byte b) _ _ refl (cond_keeps f false (b == 60) _ _ refl (cond_keeps f false (b == 62) _ _ refl
-    (cond_keeps f false (b == 123) _ _ refl (cond_keeps f false (b == 125) _ _ refl (cond_keeps f false (b == 44) _ _ refl
-    (cond_keeps f false (is_blank b) _ _ refl refl)))))))
-
-put_no_word : (b : ℕ) (ls : List Lexeme) → is_word_byte b ≡ false → begins_word (put_before b ls) ≡ false
-put_no_word b (word text ∷ rest) h = cond_else begins_word false (is_word_byte b) _ _ h (lexeme_no_word b _ h)
-put_no_word b (equal ∷ rest) h =
-    cond_keeps begins_word false (b == 60) _ _ refl (cond_keeps begins_word false (b == 62) _ _ refl (cond_keeps begins_word false (b == 33) _ _ refl (lexeme_no_word b _ h)))
-put_no_word b ls h = lexeme_no_word b _ h
-
-put_no_equal : (b : ℕ) (ls : List Lexeme) → is_equal b ≡ false → begins_equal (put_before b ls) ≡ false
-put_no_equal b (word text ∷ rest) h = cond_keeps begins_equal false (is_word_byte b) _ _ refl (lexeme_no_equal b _ h)
-put_no_equal b (equal ∷ rest) h =
-    cond_keeps begins_equal false (b == 60) _ _ refl (cond_keeps begins_equal false (b == 62) _ _ refl (cond_keeps begins_equal false (b == 33) _ _ refl (lexeme_no_equal b _ h)))
-put_no_equal b ls h = lexeme_no_equal b _ h
+-- a byte before others, by what it joins
+put_by : (P : List Lexeme → Type 0) (b : ℕ) (ls : List Lexeme) → ((text : Text) (rest : List Lexeme) → is_word_byte b ≡ true → P (word (b ∷ text) ∷ rest))
+    → ((rest : List Lexeme) → P (less_or_equal ∷ rest)) → ((rest : List Lexeme) → P (greater_or_equal ∷ rest)) → ((rest : List Lexeme) → P (not_equal ∷ rest))
+    → P (lexeme_of b ∷ ls) → P (put_before b ls)
+put_by P b (word text ∷ rest) w l g n alone = cond_both (is_word_byte b) _ _ P (w text rest) (λ _. alone)
+put_by P b (equal ∷ rest) w l g n alone =
+    cond_both (b == 60) _ _ P (λ _. l rest) (λ _. cond_both (b == 62) _ _ P (λ _. g rest) (λ _. cond_both (b == 33) _ _ P (λ _. n rest) (λ _. alone)))
+put_by P b ls w l g n alone = alone
 
 lexemes_no_word : (text : Text) → starts_with is_word_byte text ≡ false → begins_word (lexemes text) ≡ false
 lexemes_no_word [] h = refl
-lexemes_no_word (b ∷ text) h = put_no_word b (lexemes text) h
+lexemes_no_word (b ∷ text) h =
+    let P : List Lexeme → Type 0 = λ ls. begins_word ls ≡ false in
+    put_by P b (lexemes text) (λ t rest is. absurd (cc)) (λ rest. refl) (λ rest. refl) (λ rest. refl)
+    (lexeme_by (λ t. P (t ∷ lexemes text)) b (λ is. absurd (cc)) refl (λ is. refl) refl refl refl refl refl refl)
 
 lexemes_no_equal : (text : Text) → starts_with is_equal text ≡ false → begins_equal (lexemes text) ≡ false
 lexemes_no_equal [] h = refl
-lexemes_no_equal (b ∷ text) h = put_no_equal b (lexemes text) h
+lexemes_no_equal (b ∷ text) h =
+    let P : List Lexeme → Type 0 = λ ls. begins_equal ls ≡ false in
+    put_by P b (lexemes text) (λ t rest is. refl) (λ rest. refl) (λ rest. refl) (λ rest. refl)
+    (lexeme_by (λ t. P (t ∷ lexemes text)) b (λ is. refl) refl (λ is. absurd (cc)) refl refl refl refl refl refl)
 
 unpaired : (b : ℕ) (x y z w : List Lexeme) → is_paired b ≡ false → cond (b == 60) x (cond (b == 62) y (cond (b == 33) z w)) ≡ w
 unpaired b x y z w h = grind (arith, nat_tests)
@@ -149,13 +136,6 @@ tokens_blanks [] text h = refl
 tokens_blanks (b ∷ blanks) text h =
     let k = list_all_head is_blank b blanks h in
     tokens_blank b (blanks ++ text) k.0 ∙ tokens_blanks blanks text k.1
-
--- a text of blanks has no token
-pub tokens_all_blank : (text : Text) → list_all is_blank text ≡ true → tokens text ≡ Some []
-tokens_all_blank [] h = refl
-tokens_all_blank (b ∷ text) h =
-    let k = list_all_head is_blank b text h in
-    tokens_blank b text k.0 ∙ tokens_all_blank text k.1
 
 -- a byte that no token has
 pub tokens_stray : (b : ℕ) (text : Text) → lexeme_of b ≡ stray b → is_word_byte b ≡ false

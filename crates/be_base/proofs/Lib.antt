@@ -5,3 +5,5 @@ pub mod Lexing
 pub mod Joined
 pub mod FirstTokenLemmas
 pub mod Decimals
+pub mod SetReadings
+pub mod SetTokens

@@ -1,5 +1,5 @@
 -- The form of names.
-use Rattle.std.proofs.Common.{◌≡◌, ◌≢◌, ◌+◌, Option, ℕ, suc, get_or, cond, not, ltb, false, ◌&&◌, sym, ◌-◌, ◌<◌, ◌≤◌, List, [], ◌∷◌, ◌++◌, length, take, drop, Bool, true, Some, None, Ok, arith, refl, length-append, length-drop}
+use Rattle.std.proofs.Common.{◌≡◌, ◌≢◌, ◌+◌, Option, ℕ, suc, get_or, cond, not, ltb, leb, false, ◌∙◌, ◌&&◌, sym, ◌-◌, ◌<◌, ◌≤◌, List, [], ◌∷◌, ◌++◌, length, take, drop, Bool, true, Some, None, Ok, arith, refl, length-append, length-drop}
 use Rattle.std.proofs.Math.ListN.{replicate}
 use Rattle.std.proofs.lemmas.List.{take_at, drop_at, drop-replicate, length-replicate}
 use Rattle.std.proofs.lemmas.Str.{IsUtf8-from_ascii}
@@ -9,7 +9,7 @@ use Rattle.std.specs.Str.{IsAscii, IsUtf8}
 use Rattle.std.specs.List.{list_all, position, position_or_len}
 use Rattle.std.proofs.lemmas.List.Folds.{list_all_at}
 use Rattle.std.proofs.lemmas.List.Quantifiers.{position-Some}
-use Rattle.std.proofs.lemmas.Bool.{not-true}
+use Rattle.std.proofs.lemmas.Bool.{not-true, le-leb, leb-true}
 use Rattle.std.proofs.lemmas.Bool.Decides.{nat_tests}
 use Rattle.be_base.specs.declared.limits.TheConstants.{NAME_BYTES}
 use Rattle.be_base.specs.Text.{Text, IsName, is_word_byte, is_stray, name_of}
@@ -28,14 +28,18 @@ words_IsAscii (b ∷ text) h =
 pub IsUtf8-from_words : (text : Text) → list_all is_word_byte text ≡ true → IsUtf8 text
 IsUtf8-from_words text h = IsUtf8-from_ascii text (words_IsAscii text h)
 
-one_more : (w rest : Bool) (n m : ℕ) → suc n ≤ cond (not (not w)) (1 + m) 0 → (n ≤ m → rest ≡ true) → (w && rest) ≡ true
-one_more true rest n m h k = k (omega arith)
-one_more false rest n m h k = absurd (omega arith)
+one_more : (w rest : Bool) (n m : ℕ) → leb n m ≡ rest → leb (suc n) (cond (not (not w)) (1 + m) 0) ≡ (w && rest)
+one_more true rest n m h = grind (arith, nat_tests)
+one_more false rest n m h = grind (arith, nat_tests)
+
+-- no stray byte stands anywhere exactly where all are bytes of words
+stray_nowhere : (text : Text) → leb (length text) (position_or_len is_stray text) ≡ list_all is_word_byte text
+stray_nowhere [] = refl
+stray_nowhere (b ∷ text) =
+    one_more (is_word_byte b) (list_all is_word_byte text) (length text) (position_or_len is_stray text) (stray_nowhere text)
 
 all_words : (text : Text) → length text ≤ position_or_len is_stray text → list_all is_word_byte text ≡ true
-all_words [] h = refl
-all_words (b ∷ text) h =
-    one_more (is_word_byte b) (list_all is_word_byte text) (length text) (position_or_len is_stray text) h (all_words text)
+all_words text h = sym (stray_nowhere text) ∙ le-leb (length text) (position_or_len is_stray text) h
 
 no_place : (r : Option ℕ) (n m : ℕ) → r ≡ None → r ≡ cond (ltb n m) (Some n) None → m ≤ n
 no_place r n m e h = grind (arith, nat_tests)
@@ -65,19 +69,9 @@ made text new rest h e r =
     let whole : length (text ++ drop (length text) zeros) ≡ NAME_BYTES = omega (arith, h.short, length-append text (drop (length text) zeros), length-drop {A = ℕ} (length text) zeros, length-replicate {A = ℕ} NAME_BYTES 0) in
     rw (e, r, front, back) (h, h.short, whole, drop-replicate (length text) NAME_BYTES 0)
 
-at_least : (w : Bool) (n m : ℕ) → w ≡ true → n ≤ m → suc n ≤ cond (not (not w)) (1 + m) 0
-at_least true n m h k = omega arith
-at_least false n m h k = absurd (cc)
-
-no_place_from_all : (text : Text) → list_all is_word_byte text ≡ true → length text ≤ position_or_len is_stray text
-no_place_from_all [] h = omega arith
-no_place_from_all (b ∷ text) h =
-    let k = list_all_head is_word_byte b text h in
-    at_least (is_word_byte b) (length text) (position_or_len is_stray text) k.0 (no_place_from_all text k.1)
-
 -- a text of the form of a name is that name
 pub name_of-Ok : (text : Text) → IsName text → name_of text ≡ Ok text
-name_of-Ok text h = grind (arith, nat_tests, h.some, h.short, no_place_from_all text h.bytes)
+name_of-Ok text h = grind (arith, nat_tests, h.some, h.short, leb-true (length text) (position_or_len is_stray text) (stray_nowhere text ∙ h.bytes))
 
 -- a name that a text is is the text, and has the form of a name
 pub IsName-from_name_of : (text name : Text) → name_of text ≡ Ok name → (name ≡ text) × IsName text

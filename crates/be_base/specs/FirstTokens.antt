@@ -40,9 +40,9 @@ pub record AreFromTheLeft : Type 0 where
   pub blanks : (b : ℕ) (rest : Text) → is_blank b ≡ true → tokens (b ∷ rest) ≡ tokens rest
   -- the longest token comes first, and then those of the rest
   pub longest : (token : Lexeme) (text rest : Text) → IsFirstToken token text rest
-    → tokens text ≡ option_map (λ later. token ∷ later) (tokens rest)
+      → tokens text ≡ option_map (λ later. token ∷ later) (tokens rest)
   -- there is one where the first byte begins a token
   pub some : (b : ℕ) (rest : Text) → begins_token b rest ≡ true
-    → (token : Lexeme) × (after : Text) × IsFirstToken token (b ∷ rest) after
+      → (token : Lexeme) × (after : Text) × IsFirstToken token (b ∷ rest) after
   -- and else the text has no tokens
   pub strays : (text : Text) → BeginsNoToken text → tokens text ≡ None

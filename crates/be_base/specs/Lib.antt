@@ -7,3 +7,5 @@ pub mod Tokens
 pub mod Fronts
 pub mod FirstTokens
 pub mod Scans
+pub mod Readers
+pub mod Sets

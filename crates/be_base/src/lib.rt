@@ -8,7 +8,9 @@ mod laws;
 mod limits;
 mod names;
 mod numbers;
+mod readers;
 mod refusals;
+mod sets;
 mod tokens;
 
 pub use laws::tokens_are_from_the_left;
@@ -20,4 +22,6 @@ pub use limits::{
 };
 pub use names::{AttrNo, Id, Name, NameFault, NoMemory, NoRead, SessionNo};
 pub use numbers::{read_count, read_int};
+pub use readers::{after_brace, after_word, is_end, read_word};
+pub use sets::{SetValue, read_value};
 pub use tokens::{Scan, Token, after_blanks, is_blank, is_word_byte, next_token};

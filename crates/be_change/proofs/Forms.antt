@@ -1,16 +1,16 @@
 -- Well formed lists, their beginnings, and beginnings of one list.
-use Rattle.std.proofs.Common.{◌≡◌, ◌⊎◌, inl, inr, ℕ, zero, suc, ◌<◌, ◌≤◌, ◌==◌, Bool, true, false, cond, List, [], ◌∷◌, ◌++◌, length, take, drop, Some, slice_get, refl, sym, ap, ◌∙◌, subst, arith, append_assoc, length-append}
+use Rattle.std.proofs.Common.{◌≡◌, ◌≢◌, ◌⊎◌, inl, inr, ℕ, zero, suc, ◌<◌, ◌≤◌, ◌==◌, Bool, true, false, cond, List, [], ◌∷◌, ◌++◌, length, take, drop, Some, slice_get, refl, sym, ap, ◌∙◌, subst, arith, append_assoc}
 use Rattle.std.proofs.lemmas.Bool.{and_parts, and_from, eqb-true, eq-eqb, or_left, or_right, false_from_ne_true, both_ways}
 use Rattle.std.proofs.lemmas.Option.{slice_get_within}
 use Rattle.std.proofs.lemmas.List.{append-nil, take_at, take-append-drop, take-append-le}
 use Rattle.std.proofs.lemmas.List.Elements.{filter-append}
 use Rattle.std.proofs.lemmas.List.Folds.{list_all-append, list_any-append}
-use Rattle.be_model.specs.declared.changes.Row.{Row}
+use Rattle.be_base.specs.Lists.{BeginsWith}
 use Rattle.be_model.specs.Schemas.{Attributes}
 use Rattle.be_model.specs.Matching.{Assignments}
-use Rattle.be_change.specs.History.{Text, Entry, subscribed, unsubscribed, left, session_of, serial_of, is_leave_of, entries_of, has_left, live, hits, is_live_name, is_live_name_of, IsWellFormed, IsWellFormedAfter, MayFollow}
+use Rattle.be_change.specs.History.{Entry, left, session_of, serial_of, is_leave_of, entries_of, has_left, live, hits, Opens, IsWellFormed, IsWellFormedAfter, MayFollow}
 use Rattle.be_change.specs.Walk.{names_of_session}
-use Rattle.be_change.specs.Sound.{Sound, MayAppend, StartsWith, all_lie, entry_lies}
+use Rattle.be_change.specs.Sound.{Sound, MayAppend, all_lie, entry_lies}
 
 abbrev FormedAfter : List Entry → List Entry → Type 0
 FormedAfter xs h = IsWellFormedAfter h xs
@@ -31,24 +31,15 @@ after_join h (x ∷ xs) ys a b = (a.0, after_join (h ++ x ∷ []) xs ys a.1 (sub
 pub formed_append : (h : List Entry) (e : Entry) → IsWellFormed h → MayFollow h e → IsWellFormed (h ++ e ∷ [])
 formed_append h e w m = after_join [] h (e ∷ []) w (m, tt)
 
-pub formed_subscribed : (h : List Entry) (k n : ℕ) (row : Row) → IsWellFormed h → n ≡ length (entries_of k h) → has_left k h ≡ false → is_live_name row.name (live h) ≡ false → row.id.0 ≡ length h → row.session.0 ≡ k
-    → IsWellFormed (h ++ subscribed k n row ∷ [])
-formed_subscribed h k n row w serial present free id of =
-    formed_append h (subscribed k n row) w (record { serial = serial; present = present; allowed = (free, id, of) })
-
-pub formed_unsubscribed : (h : List Entry) (k n : ℕ) (name : Text) → IsWellFormed h → n ≡ length (entries_of k h) → has_left k h ≡ false → is_live_name_of k name (live h) ≡ true
-    → IsWellFormed (h ++ unsubscribed k n name ∷ [])
-formed_unsubscribed h k n name w serial present live_name =
-    formed_append h (unsubscribed k n name) w (record { serial = serial; present = present; allowed = live_name })
-
-pub formed_left : (h : List Entry) (k n : ℕ) → IsWellFormed h → n ≡ length (entries_of k h) → has_left k h ≡ false → IsWellFormed (h ++ left k n ∷ [])
-formed_left h k n w serial present = formed_append h (left k n) w (record { serial = serial; present = present; allowed = tt })
+-- an entry of a session that isn't 0 may stand behind the opening
+pub no_opening : (h : List Entry) (e : Entry) → session_of e ≢ 0 → session_of e ≡ 0 → Opens h e
+no_opening h e apart is = absurd (apart is)
 
 -- a beginning of a well formed list is well formed
 pub formed_front : (xs ys : List Entry) → IsWellFormed (xs ++ ys) → IsWellFormed xs
 formed_front xs ys w = after_front [] xs ys w
 
-pub formed_starts : (h seen : List Entry) → StartsWith h seen → IsWellFormed h → IsWellFormed seen
+pub formed_starts : (h seen : List Entry) → BeginsWith h seen → IsWellFormed h → IsWellFormed seen
 formed_starts h seen s w = formed_front seen s.0 (subst IsWellFormed s.1 w)
 
 pub formed_take : (n : ℕ) (h : List Entry) → IsWellFormed h → IsWellFormed (take n h)
@@ -63,6 +54,10 @@ induction_from : (P : List Entry → Type 0) (h es : List Entry) → IsWellForme
 induction_from P h [] w p step a = subst P (sym (append-nil h)) p
 induction_from P h (e ∷ es) w p step a =
     subst P (append_assoc h (e ∷ []) es) (induction_from P (h ++ e ∷ []) es (formed_append h e w a.0) (step h e w a.0 p) step a.1)
+
+-- an entry of session 0 is a Sub, and every entry before it is of session 0
+pub opening_first : (h more : List Entry) (e : Entry) → IsWellFormed (h ++ e ∷ more) → session_of e ≡ 0 → Opens h e
+opening_first h more e w = (after_back [] h (e ∷ more) w).0.opening
 
 -- what holds of the empty list, and is kept by each entry that may follow, holds of each well formed list
 pub formed_induction : (P : List Entry → Type 0) (h : List Entry) → IsWellFormed h → P [] → ((g : List Entry) (e : Entry) → IsWellFormed g → MayFollow g e → P g → P (g ++ e ∷ [])) → P h
@@ -137,41 +132,6 @@ hits_prefix h more n e within = ap (λ (l : List Entry). hits l e) (take-append-
 
 pub names_prefix : (h more : List Entry) (n k : ℕ) → n ≤ length h → names_of_session k (take n (h ++ more)) ≡ names_of_session k (take n h)
 names_prefix h more n k within = ap (λ (l : List Entry). names_of_session k l) (take-append-le n h more within)
-
-pub starts_same : (h : List Entry) → StartsWith h h
-starts_same h = ([], sym (append-nil h))
-
-pub starts_append : (h more : List Entry) → StartsWith (h ++ more) h
-starts_append h more = (more, refl)
-
-pub starts_along : (a b c : List Entry) → StartsWith a b → StartsWith b c → StartsWith a c
-starts_along a b c s t = (t.0 ++ s.0, s.1 ∙ (ap (λ (l : List Entry). l ++ s.0) t.1 ∙ append_assoc c t.0 s.0))
-
-pub starts_length : (h seen : List Entry) → StartsWith h seen → length seen ≤ length h
-starts_length h seen s = omega (arith, ap length s.1, length-append seen s.0)
-
--- what a list begins with is its first entries
-pub starts_take : (h seen : List Entry) → StartsWith h seen → take (length seen) h ≡ seen
-starts_take h seen s = ap (λ (l : List Entry). take (length seen) l) s.1 ∙ take_at seen s.0 (length seen) refl
-
-pub take_starts : (n : ℕ) (h : List Entry) → StartsWith h (take n h)
-take_starts n h = (drop n h, sym (take-append-drop n h))
-
--- of two beginnings of one list the shorter begins the longer
-pub starts_shorter : (h a b : List Entry) → StartsWith h a → StartsWith h b → length a ≤ length b → StartsWith b a
-starts_shorter h a b s t short =
-    let n : length a ≤ length b = short in
-    let first : take (length a) b ≡ a =
-    sym (ap (λ (l : List Entry). take (length a) l) t.1 ∙ take-append-le (length a) b t.0 n) ∙ starts_take h a s in
-    (drop (length a) b, sym (ap (λ (l : List Entry). l ++ drop (length a) b) (sym first) ∙ take-append-drop (length a) b))
-
--- a beginning that is as long as the list is the list
-pub starts_whole : (h seen : List Entry) → StartsWith h seen → length h ≤ length seen → seen ≡ h
-starts_whole h seen s long = sym (s.1 ∙ (ap (λ (l : List Entry). seen ++ l) (none s.0 (omega (arith, ap length s.1, length-append seen s.0))) ∙ append-nil seen))
-  where
-    none : (l : List Entry) → length l ≡ 0 → l ≡ []
-    none [] e = refl
-    none (x ∷ l) e = absurd (omega arith)
 
 abbrev EachFollows : List Entry → Type 0
 EachFollows h = (i : ℕ) (e : Entry) → slice_get h i ≡ Some e → MayFollow (take i h) e

@@ -2,8 +2,14 @@ pub mod Extends
 pub mod Grows
 pub mod Forms
 pub mod Names
+pub mod Owners
 pub mod Alone
+pub mod Openings
 pub mod Places
 pub mod Examples
 pub mod Free
 pub mod Walks
+pub mod Placed
+pub mod Below
+pub mod Hits
+pub mod Boxes

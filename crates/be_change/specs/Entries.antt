@@ -2,13 +2,14 @@
 use Rattle.std.specs.Prelude.{◌≡◌, ℕ, ◌+◌, ◌-◌, ◌≤◌, List, [], ◌∷◌, length, map, min, Option, Some, None}
 use Rattle.std.specs.Arc.{arc_value}
 use Rattle.std.specs.declared.sync.Arc.{Arc}
+use Rattle.be_base.specs.declared.limits.TheConstants.{LOG_CHANGES}
 use Rattle.be_model.specs.declared.changes.Change.{Change}
 use Rattle.be_model.specs.declared.changes.Row.{Row}
 pub use Rattle.be_model.specs.Entries.{entry_of}
-use Rattle.be_change.specs.History.{Entry, subscribed, unsubscribed, left, Live}
+use Rattle.be_change.specs.History.{Entry, subscribed, unsubscribed, left, ByIds}
 
 -- rows by ids, as plain data
-abbrev pub live_in : {Z : Type 0} → List (ℕ × Arc Row Z) → Live
+abbrev pub live_in : {Z : Type 0} → List (ℕ × Arc Row Z) → ByIds
 live_in xs = map (λ (x : ℕ × Arc Row _). (x.0, arc_value x.1)) xs
 
 abbrev pub entries_in : {Z : Type 0} → List (Arc Change Z) → List Entry
@@ -35,10 +36,6 @@ row_in (Some (subscribed k n row)) = Some row
 row_in (Some (unsubscribed k n name)) = None
 row_in (Some (left k n)) = None
 
--- 2^48: no list has more entries, those counted for which there is room
-abbrev pub most_entries : ℕ
-most_entries = 281474976710656
-
 -- the changes, and how many more can be put without memory
 pub record Log : Type 0 where
   pub list : List Entry
@@ -49,10 +46,10 @@ log list spare = record { list = list; spare = spare }
 
 -- the room behind so many changes
 abbrev pub spare_of : (len capacity : ℕ) → ℕ
-spare_of len capacity = min capacity most_entries - len
+spare_of len capacity = min capacity LOG_CHANGES - len
 
 -- what the type keeps
 pub record IsLog (h : List Entry) (capacity : ℕ) : Type 0 where
   pub fits : length h ≤ capacity
-  pub few : length h ≤ most_entries
+  pub few : length h ≤ LOG_CHANGES
   pub ids : IdsArePlaces h

@@ -1,9 +1,11 @@
 -- The list of changes as plain data: what is live after it, and when it is well formed.
 use Rattle.std.specs.Prelude.{◌≡◌, ℕ, ◌+◌, ◌==◌, ◌&&◌, Bool, true, false, not, List, [], ◌∷◌, ◌++◌, length, map, filter, if◌then◌else◌}
-use Rattle.std.specs.List.{list_any}
+use Rattle.std.specs.List.{list_any, list_all}
+use Rattle.be_base.specs.declared.limits.TheConstants.{COUNT_END}
 pub use Rattle.be_base.specs.Text.{Text, same_text}
 pub use Rattle.be_model.specs.Entries.{Entry, subscribed, unsubscribed, left}
 use Rattle.be_model.specs.declared.changes.Row.{Row}
+pub use Rattle.be_model.specs.ByIds.{ByIds, row_at}
 use Rattle.be_model.specs.Matching.{Assignments, satisfies}
 
 abbrev pub session_of : Entry → ℕ
@@ -30,7 +32,7 @@ has_left k h = list_any (is_leave_of k) h
 
 -- where a session stands: how many entries it has, or 2^63 where it has left
 abbrev pub stand : ℕ → List Entry → ℕ
-stand k h = if has_left k h then 9223372036854775808 else length (entries_of k h)
+stand k h = if has_left k h then COUNT_END else length (entries_of k h)
 
 -- the places of one session's entries, where the list begins at this place
 abbrev pub places_from : ℕ → ℕ → List Entry → List ℕ
@@ -41,9 +43,14 @@ places_from k place (e ∷ es) =
 abbrev pub places_of : ℕ → List Entry → List ℕ
 places_of k h = places_from k 0 h
 
--- live rows by their ids, which rise: a finite map from id to row
-abbrev pub Live : Type 0
-Live = List (ℕ × Row)
+-- the entries of one session, each with its place, where the list begins at this place
+abbrev pub placed_from : ℕ → ℕ → List Entry → List (ℕ × Entry)
+placed_from k place [] = []
+placed_from k place (e ∷ es) =
+    if session_of e == k then (place, e) ∷ placed_from k (place + 1) es else placed_from k (place + 1) es
+
+abbrev pub placed_of : ℕ → List Entry → List (ℕ × Entry)
+placed_of k h = placed_from k 0 h
 
 abbrev pub has_name : Text → ℕ × Row → Bool
 has_name name r = same_text r.1.name name
@@ -52,31 +59,49 @@ abbrev pub is_of : ℕ → ℕ × Row → Bool
 is_of k r = r.1.session.0 == k
 
 -- the live rows after one more entry, which stands at place `id`
-abbrev pub after_entry : Live → ℕ → Entry → Live
+abbrev pub after_entry : ByIds → ℕ → Entry → ByIds
 after_entry l id (subscribed k n row) = l ++ (id, row) ∷ []
 after_entry l id (unsubscribed k n name) = filter (λ r. not (is_of k r && has_name name r)) l
 after_entry l id (left k n) = filter (λ r. not (is_of k r)) l
 
-abbrev pub live_from : Live → ℕ → List Entry → Live
+abbrev pub live_from : ByIds → ℕ → List Entry → ByIds
 live_from l id [] = l
 live_from l id (e ∷ es) = live_from (after_entry l id e) (id + 1) es
 
 -- the rows that are live after these changes
-abbrev pub live : List Entry → Live
+abbrev pub live : List Entry → ByIds
 live h = live_from [] 0 h
 
-abbrev pub is_live_name : Text → Live → Bool
+abbrev pub is_live_name : Text → ByIds → Bool
 is_live_name name l = list_any (has_name name) l
 
-abbrev pub is_live_name_of : ℕ → Text → Live → Bool
+abbrev pub is_live_name_of : ℕ → Text → ByIds → Bool
 is_live_name_of k name l = list_any (λ r. is_of k r && has_name name r) l
 
-abbrev pub names_of : Live → List Text
+abbrev pub names_of : ByIds → List Text
 names_of l = map (λ (r : ℕ × Row). r.1.name) l
 
--- the names of the live rows that the event satisfies, by rising id
+-- the live rows that the event satisfies, by rising id
+abbrev pub hit_rows : List Entry → Assignments → ByIds
+hit_rows h e = filter (λ (r : ℕ × Row). satisfies e r.1.conj) (live h)
+
+-- their names
 abbrev pub hits : List Entry → Assignments → List Text
-hits h e = names_of (filter (λ (r : ℕ × Row). satisfies e r.1.conj) (live h))
+hits h e = names_of (hit_rows h e)
+
+abbrev pub is_sub : Entry → Bool
+is_sub (subscribed k n row) = true
+is_sub (unsubscribed k n name) = false
+is_sub (left k n) = false
+
+-- session 0 is nobody: its entries are the opening of the list
+abbrev pub is_opening : Entry → Bool
+is_opening e = session_of e == 0
+
+-- the entry is a Sub, and every entry before it is of session 0
+pub record Opens (h : List Entry) (e : Entry) : Type 0 where
+  pub sub : is_sub e ≡ true
+  pub first : list_all is_opening h ≡ true
 
 -- what an entry's kind asks of the list before it
 abbrev pub IsAllowed : List Entry → Entry → Type 0
@@ -85,8 +110,10 @@ IsAllowed h (subscribed k n row) =
 IsAllowed h (unsubscribed k n name) = is_live_name_of k name (live h) ≡ true
 IsAllowed h (left k n) = Unit {0}
 
--- the entry may follow the list: it has its session's next serial, its session hasn't left, and its kind is allowed
+-- the entry may follow the list: where it is of session 0 it belongs to the opening, it has its session's next serial,
+-- its session hasn't left, and its kind is allowed
 pub record MayFollow (h : List Entry) (e : Entry) : Type 0 where
+  pub opening : session_of e ≡ 0 → Opens h e
   pub serial : serial_of e ≡ length (entries_of (session_of e) h)
   pub present : has_left (session_of e) h ≡ false
   pub allowed : IsAllowed h e

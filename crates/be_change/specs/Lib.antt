@@ -3,7 +3,9 @@ pub mod Entries
 pub mod Sound
 pub mod Requests
 pub mod Walk
+pub mod Box
 pub mod Made
 pub mod LiveRows
+pub mod Opening
 pub mod Alone
 pub mod Laws

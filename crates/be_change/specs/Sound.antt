@@ -1,5 +1,5 @@
--- Lists of changes that are well formed and lie in a schema, and beginnings of lists.
-use Rattle.std.specs.Prelude.{◌≡◌, Bool, true, List, ◌++◌}
+-- Lists of changes that are well formed and lie in a schema.
+use Rattle.std.specs.Prelude.{◌≡◌, Bool, true, List}
 use Rattle.std.specs.List.{list_all}
 use Rattle.be_model.specs.Schemas.{Attributes}
 pub use Rattle.be_model.specs.Lies.{entry_lies}
@@ -16,7 +16,3 @@ pub record Sound (s : Attributes) (h : List Entry) : Type 0 where
 pub record MayAppend (s : Attributes) (h : List Entry) (e : Entry) : Type 0 where
   pub follows : MayFollow h e
   pub lies : entry_lies s e ≡ true
-
--- the list begins with these entries
-abbrev pub StartsWith : List Entry → List Entry → Type 0
-StartsWith h seen = (rest : List Entry) × (h ≡ seen ++ rest)

@@ -1,6 +1,6 @@
 //! Laws of the list of changes. Each function's contract is a law, which its proof shows; to call one does nothing.
 
-ghost use Rattle.be_change.specs.Laws.{FormIsByPlace, FormIsKept, BeginningsAreFormed, SerialsCount, ByeIsLast, LiveIdsRise, LiveNamesDiffer, UnsubRemovesOne, BeginningsStay, LegalIsKept, WalkIsKept, LiveGrows, ToldNumbersRise};
+ghost use Rattle.be_change.specs.Laws.{FormIsByPlace, FormIsKept, BeginningsAreFormed, SerialsCount, ByeIsLast, LiveIdsRise, LiveNamesDiffer, UnsubRemovesOne, BeginningsStay, LegalIsKept, LegalFromBelow, WalkIsKept, LiveGrows, ToldNumbersRise, OpeningIsFirst, EntriesArePlaced, PlacesAreKept, TablesOpen, HitsAreSatisfied, BoxIsWithin, LettersAreNotes};
 
 /// A list is well formed exactly where each entry may follow those before it.
 pub fn form_is_by_place()
@@ -65,4 +65,44 @@ pub fn live_grows()
 /// Replies that are legal over a list are legal over each longer one.
 pub fn walk_is_kept()
     ensures { WalkIsKept }
+{}
+
+/// A session that is legal though it was told of some entries before it is legal where it was told of fewer.
+pub fn legal_from_below()
+    ensures { LegalFromBelow }
+{}
+
+/// An entry of session 0 is a Sub, and every entry before it is of session 0.
+pub fn opening_is_first()
+    ensures { OpeningIsFirst }
+{}
+
+/// A session's entries with their places are its places and its entries, and each stands at its place.
+pub fn entries_are_placed()
+    ensures { EntriesArePlaced }
+{}
+
+/// Other sessions' entries leave a session's where they are.
+pub fn places_are_kept()
+    ensures { PlacesAreKept }
+{}
+
+/// A table opens a well formed list of session 0 alone, in which each of its rows is live at its place.
+pub fn tables_open()
+    ensures { TablesOpen }
+{}
+
+/// The rows that an event hits are the live rows that it satisfies, in their order.
+pub fn hits_are_satisfied()
+    ensures { HitsAreSatisfied }
+{}
+
+/// A letter box never holds more letters than it may.
+pub fn box_is_within()
+    ensures { BoxIsWithin }
+{}
+
+/// The letters that a session's own event puts into its box are letters for it.
+pub fn letters_are_notes()
+    ensures { LettersAreNotes }
 {}

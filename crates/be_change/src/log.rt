@@ -3,17 +3,15 @@
 ghost use Rattle.std.specs.Prelude.{◌≡◌, ℕ, ◌+◌, ◌-◌, ◌<◌, ◌≤◌, ◌==◌, [], ◌∷◌, ◌++◌, length, slice_get, Some, option_map, OnOk, OnErr, IfErr, IsOk};
 ghost use Rattle.std.specs.List.{count_by, list_any};
 ghost use Rattle.std.specs.Arc.{arc_value};
+ghost use Rattle.be_base.specs.declared.limits.TheConstants.{LOG_CHANGES};
 ghost use Rattle.be_change.specs.History.{session_of, entries_of, is_leave_of, has_left, stand};
-ghost use Rattle.be_change.specs.Entries.{entry_of, log, most_entries, row_in, HasIdAt, IdsArePlaces};
+ghost use Rattle.be_change.specs.Entries.{entry_of, log, row_in, HasIdAt, IdsArePlaces};
 
-use be_base::{Id, LOG_CHANGES, NoMemory, SessionNo};
+use be_base::{COUNT_END, Id, LOG_CHANGES, NoMemory, SessionNo};
 use be_model::{Change, Row};
 use std::alloc::Global;
 use std::marker::Model;
 use std::sync::Arc;
-
-/// Where a session stands that has left.
-const HAS_LEFT: u64 = 9_223_372_036_854_775_808;
 
 /// The list of changes. It only grows. The id of each subscription's row is the place of its change.
 #[derive(Drop)]
@@ -46,7 +44,7 @@ impl ChangeLog {
 
     pub fn len(&self) -> u64
         ensures len { result ≡ length self.now.list }
-        ensures most { result + self.now.spare ≤ most_entries }
+        ensures most { result + self.now.spare ≤ LOG_CHANGES }
         ensures ids { IdsArePlaces self.now.list }
     {
         self.changes.len() as u64
@@ -70,10 +68,8 @@ impl ChangeLog {
     pub fn row(&self, id: Id) -> Option<&Arc<Row>>
         ensures { option_map (λ row. arc_value row.now) result ≡ row_in (slice_get self.now.list id.0) }
     {
-        match self.changes.get(id.0 as usize) {
-            Some(change) => row_of(change),
-            None => None,
-        }
+        let change = self.changes.get(id.0 as usize)?;
+        row_of(change)
     }
 
     /// Makes room for `n` more changes.
@@ -87,10 +83,8 @@ impl ChangeLog {
         if n > LOG_CHANGES - self.changes.len() {
             return Err(NoMemory);
         }
-        match self.changes.reserve(n) {
-            Ok(()) => Ok(()),
-            Err(_) => Err(NoMemory),
-        }
+        self.changes.reserve(n)?;
+        Ok(())
     }
 
     /// Puts a change last, or hands it back.
@@ -128,7 +122,7 @@ impl ChangeLog {
         ensures { result ≡ stand session.0 self.now.list }
     {
         if self.has_left(session) {
-            HAS_LEFT
+            COUNT_END
         } else {
             self.count_of(session)
         }

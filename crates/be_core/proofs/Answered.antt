@@ -1,15 +1,17 @@
 -- One act keeps what worlds keep, and answers each session legally.
 use Rattle.std.proofs.Common.{◌≡◌, ℕ, ◌+◌, ◌-◌, ◌==◌, ◌≤◌, Bool, true, false, ◌||◌, cond, List, [], ◌∷◌, ◌++◌, length, Option, Some, None, refl, sym, ap, ◌∙◌, subst, arith, length-append, eq-eqb}
 use Rattle.std.proofs.lemmas.Bool.{eqb-true, or_left, or_right, or_from}
+use Rattle.std.proofs.Math.Bool.{or-false}
 use Rattle.std.proofs.lemmas.List.{append-nil}
+use Rattle.be_base.proofs.Beginnings.{BeginsWith-same, BeginsWith-append}
+use Rattle.be_model.specs.Schemas.{Attributes}
 use Rattle.be_change.specs.History.{Entry, subscribed, unsubscribed, left, session_of, is_leave_of, entries_of, has_left, places_of}
 use Rattle.be_change.specs.Requests.{Request, subscribe, unsubscribe, quit, Reply, held, Exchange}
 use Rattle.be_change.specs.Walk.{Walk, having_changed, having_ended, IsChangeOf, IsAcceptedAt, Answers, IsLegal, accepted}
 use Rattle.be_change.specs.Walk as walk
-use Rattle.be_change.proofs.Extends.{places_kept}
-use Rattle.be_change.proofs.Forms.{formed_append, entries_of-append, starts_same, starts_append}
-use Rattle.be_change.proofs.Places.{left-append}
-use Rattle.be_change.proofs.Alone.{places_snoc, accepted_last, present_snoc}
+use Rattle.be_change.proofs.Forms.{formed_append, entries_of-append}
+use Rattle.be_change.proofs.Places.{places_kept, places_snoc, left-append}
+use Rattle.be_change.proofs.Alone.{accepted_last, present_snoc}
 use Rattle.be_core.specs.declared.acts.CoreReply.{CoreReply}
 use Rattle.be_core.specs.declared.acts.CoreReply.TheVariants.{Nothing}
 use Rattle.be_core.specs.Acts.{Deed, is_by}
@@ -54,13 +56,13 @@ world_published s w = record {
 }
 
 -- each act keeps what a world keeps, splits nobody, and only adds to the list
-pub step_kept : (s : State) (d : Deed) → IsWorld s → IsKept s (step s d)
-step_kept s d w = step_outcomes s d (IsKept s) w (record {
-  stays = λ r e whole. record { world = w; whole = whole; grows = starts_same s.list };
-  published = record { world = world_published s w; whole = refl; grows = starts_same s.list };
-  told = λ j covers. record { world = world_seeing j s.published s w (omega arith); whole = refl; grows = starts_same s.list };
-  looked = λ j n r l. record { world = world_seeing j n s w l.within; whole = l.whole; grows = starts_same s.list };
-  changed = λ j e r c. record { world = world_changed s d j e r w c; whole = c.whole; grows = starts_append s.list (e ∷ []) };
+pub step_kept : (s : State) (d : Deed) → is_by 0 d ≡ false → IsWorld s → IsKept s (step s d)
+step_kept s d by w = step_outcomes s d (IsKept s) by w (record {
+  stays = λ r e whole. record { world = w; whole = whole; grows = BeginsWith-same s.list };
+  published = record { world = world_published s w; whole = refl; grows = BeginsWith-same s.list };
+  told = λ j covers. record { world = world_seeing j s.published s w (omega arith); whole = refl; grows = BeginsWith-same s.list };
+  looked = λ j n r l. record { world = world_seeing j n s w l.within; whole = l.whole; grows = BeginsWith-same s.list };
+  changed = λ j e r c. record { world = world_changed s d j e r w c; whole = c.whole; grows = BeginsWith-append s.list (e ∷ []) };
 })
 
 -- the session's exchange, where the act is its own and has one
@@ -70,7 +72,7 @@ exchange_in k d r = cond (is_by k d) (exchange_of (request_in d) (reply_in r)) [
 -- the act is answered legally to the session, over the list that comes of it
 pub record Answered (k : ℕ) (s : State) (d : Deed) (w : Walk) (r : State × CoreReply) : Type 0 where
   pub next : Walk
-  pub legal : IsLegal k r.0.list (exchange_in k d r.1) w next
+  pub legal : (x : Attributes) → IsLegal x k r.0.list (exchange_in k d r.1) w next
   pub follows : Follows k r.0 next
   pub only : places_of k r.0.list ≡ places_of k s.list ++ accepted (exchange_in k d r.1)
 
@@ -89,16 +91,16 @@ other_reply b q a f = ap (λ (c : Bool). cond c (exchange_of q a) []) f
 unanswered : (k : ℕ) (s : State) (d : Deed) (w : Walk) (r : State × CoreReply) → exchange_in k d r.1 ≡ [] → Follows k r.0 w → places_of k r.0.list ≡ places_of k s.list → Answered k s d w r
 unanswered k s d w r e f places = record {
   next = w;
-  legal = subst (λ (ps : List Exchange). IsLegal k r.0.list ps w w) (sym e) refl;
+  legal = λ x. subst (λ (ps : List Exchange). IsLegal x k r.0.list ps w w) (sym e) refl;
   follows = f;
   only = places ∙ (sym (append-nil (places_of k s.list)) ∙ ap (λ (ps : List Exchange). places_of k s.list ++ accepted ps) (sym e));
 }
 
-answered_one : (k : ℕ) (s : State) (d : Deed) (w next : Walk) (r : State × CoreReply) (q : Request) (a : Reply) → exchange_in k d r.1 ≡ (q, a) ∷ [] → w.ended ≡ false → Answers k r.0.list q a w next
+answered_one : (k : ℕ) (s : State) (d : Deed) (w next : Walk) (r : State × CoreReply) (q : Request) (a : Reply) → exchange_in k d r.1 ≡ (q, a) ∷ [] → w.ended ≡ false → ((x : Attributes) → Answers x k r.0.list q a w next)
     → Follows k r.0 next → places_of k r.0.list ≡ places_of k s.list ++ accepted ((q, a) ∷ []) → Answered k s d w r
 answered_one k s d w next r q a e open_ answers f places = record {
   next = next;
-  legal = subst (λ (ps : List Exchange). IsLegal k r.0.list ps w next) (sym e) (open_, next, answers, refl);
+  legal = λ x. subst (λ (ps : List Exchange). IsLegal x k r.0.list ps w next) (sym e) (open_, next, answers x, refl);
   follows = f;
   only = places ∙ ap (λ (ps : List Exchange). places_of k s.list ++ accepted ps) (sym e);
 }
@@ -119,7 +121,7 @@ answered_looked_own k n s d w r f l t =
     let one : seen_by k (having_seen k n s.seen) ≡ n = seen-own k n s.seen in
     answered_one k s d w (walk.having_seen n w) (after_seeing k n s, r) l.request l.reply
     (one_reply (is_by k d) (request_in d) (reply_in r) l.request l.reply (l.by k ∙ t) l.asked l.answered)
-    (f.ended ∙ l.present) (l.answers w f)
+    (f.ended ∙ l.present) (λ x. l.answers x w f)
     (record { seen = omega arith; own = f.own; serial = f.serial; ended = f.ended })
     (sym (append-nil (places_of k s.list)) ∙ ap (λ (l : List ℕ). places_of k s.list ++ l) (sym l.uncounted))
 
@@ -159,20 +161,20 @@ accepted_at k n s w q e f is covers it =
 
 -- an accepted change moves the session's walk, over the list that has it last
 accepted_next : (k n : ℕ) (s : State) (w : Walk) (q : Request) (e : Entry) → Follows k s w → n ≡ length s.list + 1 → seen_by k s.seen ≤ length s.list → has_left k s.list ≡ false → session_of e ≡ k
-    → IsChangeOf k (length (entries_of k s.list)) (length s.list) q e → (next : Walk) × Answers k (s.list ++ e ∷ []) q (held n) w next × Follows k (after_change e s) next
+    → IsChangeOf k (length (entries_of k s.list)) (length s.list) q e → (next : Walk) × ((x : Attributes) → Answers x k (s.list ++ e ∷ []) q (held n) w next) × Follows k (after_change e s) next
 accepted_next k n s w (subscribe name conj) (subscribed j m row) f is covers present of it = (
   having_changed n w,
-  (accepted_at k n s w (subscribe name conj) (subscribed j m row) f is covers it, refl),
+  λ x. (accepted_at k n s w (subscribe name conj) (subscribed j m row) f is covers it, refl),
   follows_changed k n s w (having_changed n w) (subscribed j m row) f is of refl refl refl (f.ended ∙ (present ∙ sym (present_snoc k s.list (subscribed j m row) present refl))),
 )
 accepted_next k n s w (unsubscribe name) (unsubscribed j m gone) f is covers present of it = (
   having_changed n w,
-  (accepted_at k n s w (unsubscribe name) (unsubscribed j m gone) f is covers it, refl),
+  λ x. (accepted_at k n s w (unsubscribe name) (unsubscribed j m gone) f is covers it, refl),
   follows_changed k n s w (having_changed n w) (unsubscribed j m gone) f is of refl refl refl (f.ended ∙ (present ∙ sym (present_snoc k s.list (unsubscribed j m gone) present refl))),
 )
 accepted_next k n s w quit (left j m) f is covers present of it = (
   having_ended (having_changed n w),
-  (accepted_at k n s w quit (left j m) f is covers it, refl),
+  λ x. (accepted_at k n s w quit (left j m) f is covers it, refl),
   follows_changed k n s w (having_ended (having_changed n w)) (left j m) f is of refl refl refl
       (sym (left-append k s.list (left j m ∷ []) ∙ or_right (has_left k s.list) (has_left k (left j m ∷ [])) (or_left (j == k) false (eq-eqb j k of)))),
 )
@@ -182,10 +184,6 @@ left_by_other : (k : ℕ) (e : Entry) → (session_of e == k) ≡ false → is_l
 left_by_other k (subscribed j n row) f = refl
 left_by_other k (unsubscribed j n name) f = refl
 left_by_other k (left j n) f = f
-
-or_false : (a b : Bool) → b ≡ false → (a || b) ≡ a
-or_false true b f = refl
-or_false false b f = f
 
 -- a change of another session leaves the session where it was
 follows_other : (k : ℕ) (s : State) (w : Walk) (e : Entry) → Follows k s w → (session_of e == k) ≡ false → Follows k (after_change e s) w
@@ -197,7 +195,7 @@ follows_other k s w e f apart =
       own = omega (arith, f.own, length-append s.list (e ∷ []));
       serial = f.serial ∙ ap (λ (l : List Entry). length l) (sym entries);
       ended =
-          f.ended ∙ sym (left-append k s.list (e ∷ []) ∙ or_false (has_left k s.list) (is_leave_of k e || false) (or_from (is_leave_of k e) false (left_by_other k e apart) refl));
+          f.ended ∙ sym (left-append k s.list (e ∷ []) ∙ (ap (λ (b : Bool). has_left k s.list || b) (or_from (is_leave_of k e) false (left_by_other k e apart) refl) ∙ or-false (has_left k s.list)));
     }
 
 answered_changed_own : (k : ℕ) (s : State) (d : Deed) (w : Walk) (e : Entry) (r : CoreReply) → IsWorld s → Follows k s w → Changed s d k e r → (k == k) ≡ true → Answered k s d w (after_change e s, r)
@@ -226,8 +224,8 @@ answered_changed k s d w i f j e r c = which (j == k) refl
         (places_kept k s.list (e ∷ []) (ap (λ (b : Bool). cond b (0 ∷ []) []) apart))
 
 -- each act is answered legally to each session, over the list that comes of it
-pub step_answered : (k : ℕ) (s : State) (d : Deed) (w : Walk) → IsWorld s → Follows k s w → Answered k s d w (step s d)
-step_answered k s d w i f = step_outcomes s d (Answered k s d w) i (record {
+pub step_answered : (k : ℕ) (s : State) (d : Deed) (w : Walk) → is_by 0 d ≡ false → IsWorld s → Follows k s w → Answered k s d w (step s d)
+step_answered k s d w by i f = step_outcomes s d (Answered k s d w) by i (record {
   stays = λ r e whole. unanswered k s d w (s, r) (no_reply (is_by k d) (request_in d) (reply_in r) e) f refl;
   published =
       unanswered k s d w (record s { published = length s.list }, Nothing) (no_reply (is_by k d) (request_in d) None refl)

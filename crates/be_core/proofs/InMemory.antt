@@ -5,14 +5,14 @@ use Rattle.std.specs.List.{slice_get, list_any, position}
 use Rattle.std.specs.Arc.{arc_value}
 use Rattle.std.specs.declared.sync.Arc.{Arc}
 use Rattle.std.proofs.Math.ListN.{set}
-use Rattle.std.proofs.lemmas.Bool.{or_parts}
+use Rattle.std.proofs.lemmas.Bool.{cond-true, cond-false, or_parts}
 use Rattle.std.proofs.lemmas.List.{take_more, length-take-le, map-append}
 use Rattle.std.proofs.lemmas.List.Quantifiers.{position-Some}
 use Rattle.std.proofs.lemmas.Option.{slice_get_within, get_or_from_slice_get}
 use Rattle.be_base.specs.declared.names.SessionNo.{SessionNo}
 use Rattle.be_model.specs.declared.changes.Row.{Row}
 use Rattle.be_model.proofs.Lists.{position-none}
-use Rattle.be_change.specs.History.{Entry, Live, live, after_entry}
+use Rattle.be_change.specs.History.{Entry, ByIds, live, after_entry}
 use Rattle.be_change.proofs.Grows.{live-append}
 use Rattle.be_change.specs.Entries.{HasIdAt, HaveIdsFrom, IdsArePlaces}
 use Rattle.be_core.specs.declared.acts.Act.{Act}
@@ -20,7 +20,6 @@ use Rattle.be_core.specs.declared.acts.CoreReply.{CoreReply}
 use Rattle.be_core.specs.Acts.{Deed, deed_of, deeds_of}
 use Rattle.be_core.specs.World.{Seen, having_seen, State, step, run}
 use Rattle.be_core.specs.Memory.{live_in}
-use Rattle.be_core.proofs.Naming.{cond_true, cond_false}
 use Rattle.be_core.proofs.Runs.{run-snoc}
 
 map_if : {Z : Type 0} (b : Bool) (x : ℕ × Arc Row Z) (xs : List (ℕ × Arc Row Z)) → live_in (cond b (x ∷ xs) xs) ≡ cond b ((x.0, arc_value x.1) ∷ live_in xs) (live_in xs)
@@ -32,7 +31,7 @@ pub filter_live : {Z : Type 0} (p : ℕ × Row → Bool) (xs : List (ℕ × Arc 
 filter_live p [] = refl
 filter_live p (x ∷ xs) =
     map_if (p (x.0, arc_value x.1)) x (filter (λ y. p (y.0, arc_value y.1)) xs)
-    ∙ ap (λ (l : Live). cond (p (x.0, arc_value x.1)) ((x.0, arc_value x.1) ∷ l) l) (filter_live p xs)
+    ∙ ap (λ (l : ByIds). cond (p (x.0, arc_value x.1)) ((x.0, arc_value x.1) ∷ l) l) (filter_live p xs)
 
 -- what is live after one more change
 pub live_more : (h : List Entry) (i : ℕ) (e : Entry) → slice_get h i ≡ Some e → live (take (i + 1) h) ≡ after_entry (live (take i h)) i e
@@ -44,10 +43,10 @@ live_more h i e at =
 set_first : (k n : ℕ) (rs : Seen) (i : ℕ) (d : SessionNo × ℕ) → i < length rs → ((get_or rs i d).0.0 == k) ≡ true → ((j : ℕ) → j < i → ((get_or rs j d).0.0 == k) ≡ false)
     → set rs i ((get_or rs i d).0, n) ≡ having_seen k n rs
 set_first k n [] i d inside at before = absurd (omega arith)
-set_first k n (x ∷ xs) zero d inside at before = sym (cond_true (x.0.0 == k) ((x.0, n) ∷ xs) (x ∷ having_seen k n xs) at)
+set_first k n (x ∷ xs) zero d inside at before = sym (cond-true (x.0.0 == k) ((x.0, n) ∷ xs) (x ∷ having_seen k n xs) at)
 set_first k n (x ∷ xs) (suc i) d inside at before =
     ap (λ (l : Seen). x ∷ l) (set_first k n xs i d (omega arith) at (λ j less. before (suc j) (omega arith)))
-    ∙ sym (cond_false (x.0.0 == k) ((x.0, n) ∷ xs) (x ∷ having_seen k n xs) (before zero (omega arith)))
+    ∙ sym (cond-false (x.0.0 == k) ((x.0, n) ∷ xs) (x ∷ having_seen k n xs) (before zero (omega arith)))
 
 -- what is seen is written where the session stands
 pub seen_set : (k n : ℕ) (rs : Seen) (i : ℕ) (r : SessionNo × ℕ) → position (λ x. x.0.0 == k) rs ≡ Some i → r ≡ get_or rs i r → set rs i (r.0, n) ≡ having_seen k n rs
@@ -60,7 +59,7 @@ pub seen_push : (k n : ℕ) (rs : Seen) → list_any (λ x. x.0.0 == k) rs ≡ f
 seen_push k n [] e = refl
 seen_push k n (x ∷ xs) e =
     let both = or_parts (x.0.0 == k) (list_any (λ (y : SessionNo × ℕ). y.0.0 == k) xs) e in
-    cond_false (x.0.0 == k) ((x.0, n) ∷ xs) (x ∷ having_seen k n xs) both.0 ∙ ap (λ (l : Seen). x ∷ l) (seen_push k n xs both.1)
+    cond-false (x.0.0 == k) ((x.0, n) ∷ xs) (x ∷ having_seen k n xs) both.0 ∙ ap (λ (l : Seen). x ∷ l) (seen_push k n xs both.1)
 
 pub seen_new : (k n : ℕ) (rs : Seen) → position (λ x. x.0.0 == k) rs ≡ None → having_seen k n rs ≡ rs ++ (record { 0 = k }, n) ∷ []
 seen_new k n rs e = seen_push k n rs ((position-none (λ (x : SessionNo × ℕ). x.0.0 == k) rs).0 e)

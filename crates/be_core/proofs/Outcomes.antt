@@ -1,10 +1,11 @@
 -- What may come of one act.
-use Rattle.std.proofs.Common.{◌≡◌, ℕ, ◌+◌, ◌==◌, ◌≤◌, Bool, true, false, not, ◌&&◌, ◌||◌, cond, List, [], ◌∷◌, length, take, Option, Some, None, refl, sym, ap, ◌∙◌, subst, arith}
+use Rattle.std.proofs.Common.{◌≡◌, ◌≢◌, ℕ, ◌+◌, ◌==◌, ◌≤◌, Bool, true, false, not, ◌&&◌, ◌||◌, cond, List, [], ◌∷◌, length, take, Option, Some, None, refl, sym, ap, ◌∙◌, subst, arith, eq-eqb}
 use Rattle.std.specs.Prelude.{nat_le}
-use Rattle.std.proofs.lemmas.Bool.{and_parts, or_parts, eqb-true, not-true}
+use Rattle.std.proofs.lemmas.Bool.{cond_both, and_parts, or_parts, eqb-true, not-true, both_ways}
 use Rattle.std.proofs.lemmas.Bool.Decides.{nat_tests}
 use Rattle.std.proofs.lemmas.List.{take_all}
 use Rattle.be_model.specs.declared.changes.Row.{Row}
+use Rattle.be_model.specs.Schemas.{Attributes}
 use Rattle.be_model.specs.Matching.{Assignments}
 use Rattle.be_change.specs.History.{Text, Entry, subscribed, unsubscribed, left, session_of, serial_of, entries_of, has_left, live, hits, is_of, is_live_name, is_live_name_of, IsAllowed, MayFollow}
 use Rattle.be_change.specs.Requests.{Request, publish, quit, Reply, held, dup, none, other, hit, Exchange}
@@ -12,12 +13,13 @@ use Rattle.be_change.specs.Walk.{Walk, Answers, IsChangeOf, IsRefusedAt, HasName
 use Rattle.be_change.specs.Walk as walk
 use Rattle.be_change.specs.Requests as requests
 use Rattle.be_change.proofs.Grows.{rising_live}
+use Rattle.be_change.proofs.Forms.{no_opening}
 use Rattle.be_core.specs.declared.acts.CoreReply.{CoreReply}
 use Rattle.be_core.specs.declared.acts.CoreReply.TheVariants.{Taken, Held, Dup, NoName, Other, Left, Hits, Nothing}
 use Rattle.be_core.specs.Acts.{Deed, asks, publishes, reshapes, reads, tells, leaves, is_by}
 use Rattle.be_core.specs.World.{State, seen_by, is_pending, is_pending_of, is_ahead, is_deaf, is_next_of, is_bye, named, after_seeing, after_change, split, subscribe, unsubscribe, change_next, ask, leave, read, tell, step, is_split, IsWorld}
 use Rattle.be_core.specs.Sessions.{request_in, reply_in}
-use Rattle.be_core.proofs.Naming.{if_cases, named_none, named_at, named_of, named_of_another}
+use Rattle.be_core.proofs.Naming.{named_none, named_at, named_of, named_of_another}
 
 -- the session's walk has come as far as the state
 pub record Follows (k : ℕ) (s : State) (w : Walk) : Type 0 where
@@ -38,7 +40,7 @@ pub record Looked (s : State) (d : Deed) (j n : ℕ) (r : CoreReply) : Type 0 wh
   pub present : has_left j s.list ≡ false
   pub covers : seen_by j s.seen ≤ n
   pub within : n ≤ s.published
-  pub answers : (w : Walk) → Follows j s w → Answers j s.list request reply w (walk.having_seen n w)
+  pub answers : (x : Attributes) (w : Walk) → Follows j s w → Answers x j s.list request reply w (walk.having_seen n w)
 
 -- the session made the act, and its change was accepted
 pub record Changed (s : State) (d : Deed) (j : ℕ) (e : Entry) (r : CoreReply) : Type 0 where
@@ -67,14 +69,19 @@ refused_at k s w i all f = record { covers = omega (arith, f.seen, i.seen k); co
 
 -- what is known where a session's change is looked at
 pub record IsHeard (k : ℕ) (s : State) : Type 0 where
+  pub session : k ≢ 0
   pub world : IsWorld s
   pub present : has_left k s.list ≡ false
   pub all : length s.list ≡ s.published
 
-heard : (k : ℕ) (s : State) → IsWorld s → is_deaf k s ≡ false → IsHeard k s
-heard k s w f =
+-- an act that isn't session 0's is of a session
+session_acts : (k : ℕ) → (k == 0) ≡ false → k ≢ 0
+session_acts k f e = both_ways (k == 0) f (eq-eqb k 0 e)
+
+heard : (k : ℕ) (s : State) → (k == 0) ≡ false → IsWorld s → is_deaf k s ≡ false → IsHeard k s
+heard k s by w f =
     let both = or_parts (has_left k s.list) (is_pending s) f in
-    record { world = w; present = both.0; all = all_published s w both.1 }
+    record { session = session_acts k by; world = w; present = both.0; all = all_published s w both.1 }
 
 -- the change is the session's next
 pub record IsNext (k : ℕ) (s : State) (e : Entry) : Type 0 where
@@ -90,6 +97,7 @@ next_of k s e t =
 
 may_follow : (k : ℕ) (s : State) (e : Entry) → IsHeard k s → IsNext k s e → IsAllowed s.list e → MayFollow s.list e
 may_follow k s e h n a = record {
+  opening = no_opening s.list e (λ z. h.session (sym n.of ∙ z));
   serial = n.serial ∙ ap (λ (j : ℕ). length (entries_of j s.list)) (sym n.of);
   present = ap (λ (j : ℕ). has_left j s.list) n.of ∙ h.present;
   allowed = a;
@@ -108,7 +116,7 @@ looked_dup k s j n row r h is = record {
   present = h.present;
   covers = h.world.seen k;
   within = omega arith;
-  answers = λ w f. (
+  answers = λ x w f. (
     refused_at k s w h.world h.all f,
     at_whole s.list s.published (λ l. HasNameAt (live l) r.0 row.name) h.all (named_at row.name (live s.list) r (rising_live s.list) is).1,
     refl,
@@ -128,7 +136,7 @@ looked_none k s j n name h is = record {
   present = h.present;
   covers = h.world.seen k;
   within = omega arith;
-  answers = λ w f. (
+  answers = λ x w f. (
     refused_at k s w h.world h.all f,
     at_whole s.list s.published (λ l. is_live_name name (live l) ≡ false) h.all (named_none name (live s.list) is),
     refl,
@@ -148,7 +156,7 @@ looked_other k s j n name r h is of = record {
   present = h.present;
   covers = h.world.seen k;
   within = omega arith;
-  answers = λ w f. (
+  answers = λ x w f. (
     refused_at k s w h.world h.all f,
     at_whole s.list s.published (λ l. HasNameOfAnotherAt k (live l) r.0 name) h.all (named_of_another k name (live s.list) r (rising_live s.list) is of),
     refl,
@@ -168,7 +176,7 @@ looked_hits k n e s w present covers within = record {
   present = present;
   covers = covers;
   within = within;
-  answers = λ v f. (record { covers = omega (arith, f.seen); within = omega (arith, w.within) }, refl, refl);
+  answers = λ x v f. (record { covers = omega (arith, f.seen); within = omega (arith, w.within) }, refl, refl);
 }
 
 changed_sub : (k : ℕ) (s : State) (j n : ℕ) (row : Row) → IsHeard k s → IsNext k s (subscribed j n row) → named row.name (live s.list) ≡ None → row.id.0 ≡ length s.list → row.session.0 ≡ k
@@ -209,7 +217,7 @@ changed_leave k s h = record {
   answered = refl;
   whole = refl;
   of = refl;
-  may = record { serial = refl; present = h.present; allowed = tt };
+  may = record { opening = no_opening s.list (left k (length (entries_of k s.list))) h.session; serial = refl; present = h.present; allowed = tt };
   all = h.all;
   is_it = (refl, refl);
 }
@@ -226,7 +234,7 @@ sub_outcomes : (k : ℕ) (s : State) (j n : ℕ) (row : Row) (P : State × CoreR
     → Holds s (asks k (subscribed j n row)) P → P (subscribe k (subscribed j n row) row s o)
 sub_outcomes k s j n row P (Some r) is h next p = p.looked k s.published (Dup s.published (record { 0 = r.0 })) (looked_dup k s j n row r h is)
 sub_outcomes k s j n row P None is h next p =
-    if_cases (row.id.0 == length s.list && row.session.0 == k) (after_change (subscribed j n row) s, Taken (length s.list + 1)) (s, Nothing) P
+    cond_both (row.id.0 == length s.list && row.session.0 == k) (after_change (subscribed j n row) s, Taken (length s.list + 1)) (s, Nothing) P
     (λ t.
     let both = and_parts (row.id.0 == length s.list) (row.session.0 == k) t in
     p.changed k (subscribed j n row) (Taken (length s.list + 1))
@@ -237,7 +245,7 @@ unsub_outcomes : (k : ℕ) (s : State) (j n : ℕ) (name : Text) (P : State × C
     → Holds s (asks k (unsubscribed j n name)) P → P (unsubscribe k (unsubscribed j n name) s o)
 unsub_outcomes k s j n name P None is h next p = p.looked k s.published (NoName s.published) (looked_none k s j n name h is)
 unsub_outcomes k s j n name P (Some r) is h next p =
-    if_cases (is_of k r) (after_change (unsubscribed j n name) s, Taken (length s.list + 1)) (after_seeing k s.published s, Other s.published (record { 0 = r.0 })) P
+    cond_both (is_of k r) (after_change (unsubscribed j n name) s, Taken (length s.list + 1)) (after_seeing k s.published s, Other s.published (record { 0 = r.0 })) P
     (λ t. p.changed k (unsubscribed j n name) (Taken (length s.list + 1)) (changed_unsub k s j n name r h next is t))
     (λ f. p.looked k s.published (Other s.published (record { 0 = r.0 })) (looked_other k s j n name r h is f))
 
@@ -246,33 +254,33 @@ change_outcomes k (subscribed j n row) s P h next p = sub_outcomes k s j n row P
 change_outcomes k (unsubscribed j n name) s P h next p = unsub_outcomes k s j n name P (named name (live s.list)) refl h next p
 change_outcomes k (left j n) s P h next p = p.stays Nothing refl refl
 
-ask_outcomes : (k : ℕ) (e : Entry) (s : State) (P : State × CoreReply → Type 0) → IsWorld s → Holds s (asks k e) P → P (ask k e s)
-ask_outcomes k e s P w p =
-    if_cases (is_deaf k s || not (is_next_of k s.list e)) (s, Nothing) (cond (is_ahead k s) (split k s) (change_next k e s)) P
+ask_outcomes : (k : ℕ) (e : Entry) (s : State) (P : State × CoreReply → Type 0) → (k == 0) ≡ false → IsWorld s → Holds s (asks k e) P → P (ask k e s)
+ask_outcomes k e s P by w p =
+    cond_both (is_deaf k s || not (is_next_of k s.list e)) (s, Nothing) (cond (is_ahead k s) (split k s) (change_next k e s)) P
     (λ t. p.stays Nothing refl refl)
     (λ f.
     let both = or_parts (is_deaf k s) (not (is_next_of k s.list e)) f in
-    if_cases (is_ahead k s) (split k s) (change_next k e s) P
+    cond_both (is_ahead k s) (split k s) (change_next k e s) P
     (λ a. absurd (not_ahead k s w a))
-    (λ a. change_outcomes k e s P (heard k s w both.0) (next_of k s e (from_not_false (is_next_of k s.list e) both.1)) p))
+    (λ a. change_outcomes k e s P (heard k s by w both.0) (next_of k s e (from_not_false (is_next_of k s.list e) both.1)) p))
   where
     from_not_false : (b : Bool) → not b ≡ false → b ≡ true
     from_not_false true e = refl
     from_not_false false e = absurd cc
 
-leave_outcomes : (k : ℕ) (s : State) (P : State × CoreReply → Type 0) → IsWorld s → Holds s (leaves k) P → P (leave k s)
-leave_outcomes k s P w p =
+leave_outcomes : (k : ℕ) (s : State) (P : State × CoreReply → Type 0) → (k == 0) ≡ false → IsWorld s → Holds s (leaves k) P → P (leave k s)
+leave_outcomes k s P by w p =
     let e : Entry = left k (length (entries_of k s.list)) in
-    if_cases (is_deaf k s) (s, Nothing) (cond (is_ahead k s) (split k s) (after_change e s, Left (length s.list + 1))) P
+    cond_both (is_deaf k s) (s, Nothing) (cond (is_ahead k s) (split k s) (after_change e s, Left (length s.list + 1))) P
     (λ t. p.stays Nothing refl refl)
     (λ f.
-    if_cases (is_ahead k s) (split k s) (after_change e s, Left (length s.list + 1)) P
+    cond_both (is_ahead k s) (split k s) (after_change e s, Left (length s.list + 1)) P
     (λ a. absurd (not_ahead k s w a))
-    (λ a. p.changed k e (Left (length s.list + 1)) (changed_leave k s (heard k s w f))))
+    (λ a. p.changed k e (Left (length s.list + 1)) (changed_leave k s (heard k s by w f))))
 
 read_outcomes : (k n : ℕ) (e : Assignments) (s : State) (P : State × CoreReply → Type 0) → IsWorld s → Holds s (reads k n e) P → P (read k n e s)
 read_outcomes k n e s P w p =
-    if_cases (not (has_left k s.list) && (nat_le (seen_by k s.seen) n && nat_le n s.published)) (after_seeing k n s, Hits n (hits (take n s.list) e)) (s, Nothing) P
+    cond_both (not (has_left k s.list) && (nat_le (seen_by k s.seen) n && nat_le n s.published)) (after_seeing k n s, Hits n (hits (take n s.list) e)) (s, Nothing) P
     (λ t.
     let one = and_parts (not (has_left k s.list)) (nat_le (seen_by k s.seen) n && nat_le n s.published) t in
     let two = and_parts (nat_le (seen_by k s.seen) n) (nat_le n s.published) one.1 in
@@ -286,18 +294,18 @@ read_outcomes k n e s P w p =
 
 tell_outcomes : (k : ℕ) (s : State) (P : State × CoreReply → Type 0) → IsWorld s → Holds s (tells k) P → P (tell k s)
 tell_outcomes k s P w p =
-    if_cases (is_pending_of k s) (s, Held (length s.list)) (cond (is_ahead k s) (split k s) (after_seeing k s.published s, Nothing)) P
+    cond_both (is_pending_of k s) (s, Held (length s.list)) (cond (is_ahead k s) (split k s) (after_seeing k s.published s, Nothing)) P
     (λ t. p.stays (Held (length s.list)) refl refl)
     (λ f.
-    if_cases (is_ahead k s) (split k s) (after_seeing k s.published s, Nothing) P
+    cond_both (is_ahead k s) (split k s) (after_seeing k s.published s, Nothing) P
     (λ a. absurd (not_ahead k s w a))
     (λ a. p.told k (w.seen k)))
 
 -- what holds of each of these holds of the step
-pub step_outcomes : (s : State) (d : Deed) (P : State × CoreReply → Type 0) → IsWorld s → Holds s d P → P (step s d)
-step_outcomes s (asks k e) P w p = ask_outcomes k e s P w p
-step_outcomes s publishes P w p = p.published
-step_outcomes s reshapes P w p = p.stays Nothing refl refl
-step_outcomes s (reads k n e) P w p = read_outcomes k n e s P w p
-step_outcomes s (tells k) P w p = tell_outcomes k s P w p
-step_outcomes s (leaves k) P w p = leave_outcomes k s P w p
+pub step_outcomes : (s : State) (d : Deed) (P : State × CoreReply → Type 0) → is_by 0 d ≡ false → IsWorld s → Holds s d P → P (step s d)
+step_outcomes s (asks k e) P by w p = ask_outcomes k e s P by w p
+step_outcomes s publishes P by w p = p.published
+step_outcomes s reshapes P by w p = p.stays Nothing refl refl
+step_outcomes s (reads k n e) P by w p = read_outcomes k n e s P w p
+step_outcomes s (tells k) P by w p = tell_outcomes k s P w p
+step_outcomes s (leaves k) P by w p = leave_outcomes k s P by w p

@@ -1,19 +1,21 @@
 -- Acts in a row.
-use Rattle.std.proofs.Common.{◌≡◌, ℕ, ◌+◌, ◌==◌, ◌≤◌, Bool, true, false, cond, List, [], ◌∷◌, ◌++◌, length, refl, sym, ap, ◌∙◌, subst, arith, append_assoc, inl}
+use Rattle.std.proofs.Common.{◌≡◌, ℕ, false, List, [], ◌∷◌, ◌++◌, length, refl, sym, ap, ◌∙◌, subst, arith, append_assoc, inl}
 use Rattle.std.specs.List.{list_any}
-use Rattle.std.proofs.lemmas.Bool.{or_from}
+use Rattle.std.proofs.lemmas.Bool.{or_from, or_parts}
 use Rattle.std.proofs.lemmas.List.{append-nil}
-use Rattle.be_change.specs.History.{Entry, subscribed, unsubscribed, left, session_of, is_leave_of, entries_of, has_left, places_from, places_of}
+use Rattle.be_base.specs.Lists.{BeginsWith}
+use Rattle.be_base.proofs.Beginnings.{BeginsWith-same, BeginsWith-along}
+use Rattle.be_model.specs.Schemas.{Attributes}
+use Rattle.be_change.specs.History.{Entry, entries_of, places_of}
 use Rattle.be_change.specs.Requests.{Exchange}
-use Rattle.be_change.specs.Walk.{Walk, IsLegal, IsLegalSession, accepted}
-use Rattle.be_change.specs.Walk as walk
-use Rattle.be_change.specs.Sound.{StartsWith}
+use Rattle.be_change.specs.Walk.{Walk, beginning_at, IsLegal, IsLegalSession, accepted}
 use Rattle.be_change.proofs.Extends.{legal-append}
 use Rattle.be_change.proofs.Walks.{legal-join}
+use Rattle.be_change.proofs.Below.{session_below}
+use Rattle.be_change.proofs.Places.{no_places}
 use Rattle.be_change.proofs.Alone.{accepted-append}
-use Rattle.be_change.proofs.Forms.{starts_same, starts_along}
 use Rattle.be_core.specs.declared.acts.CoreReply.{CoreReply}
-use Rattle.be_core.specs.Acts.{Deed, asks, publishes, reshapes, reads, tells, leaves}
+use Rattle.be_core.specs.Acts.{Deed, asks, publishes, reshapes, reads, tells, leaves, is_by, AreOfSessions}
 use Rattle.be_core.specs.World.{State, beginning, seen_by, step, after_acts, replies, run, is_split, IsWorld}
 use Rattle.be_core.specs.Sessions.{exchanges, EachIsLegal, replies_beside, beside_reshapes, ReshapesChangeNothing}
 use Rattle.be_core.proofs.Outcomes.{Follows}
@@ -23,83 +25,80 @@ use Rattle.be_core.proofs.Answered.{step_kept, step_answered, exchange_in}
 pub beginning_is_world : IsWorld beginning
 beginning_is_world = record { formed = tt; within = omega arith; one_less = omega arith; seen = λ k. omega arith }
 
-pub acts_kept : (s : State) (acts : List Deed) → IsWorld s → IsWorld (after_acts s acts)
-acts_kept s [] w = w
-acts_kept s (a ∷ acts) w = acts_kept (step s a).0 acts (step_kept s a w).world
+-- of acts of sessions the first is a session's, and so are the others
+first_act : (a : Deed) (acts : List Deed) → AreOfSessions (a ∷ acts) → (is_by 0 a ≡ false) × AreOfSessions acts
+first_act a acts o = or_parts (is_by 0 a) (list_any (is_by 0) acts) o
 
-pub acts_grow : (s : State) (acts : List Deed) → IsWorld s → StartsWith (after_acts s acts).list s.list
-acts_grow s [] w = starts_same s.list
-acts_grow s (a ∷ acts) w =
-    let one = step_kept s a w in
-    starts_along (after_acts (step s a).0 acts).list (step s a).0.list s.list (acts_grow (step s a).0 acts one.world) one.grows
+pub acts_kept : (s : State) (acts : List Deed) → AreOfSessions acts → IsWorld s → IsWorld (after_acts s acts)
+acts_kept s [] o w = w
+acts_kept s (a ∷ acts) o w =
+    let by = first_act a acts o in
+    acts_kept (step s a).0 acts by.1 (step_kept s a by.0 w).world
 
-pub acts_whole : (s : State) (acts : List Deed) → IsWorld s → list_any is_split (replies s acts) ≡ false
-acts_whole s [] w = refl
-acts_whole s (a ∷ acts) w = let one = step_kept s a w in or_from (is_split (step s a).1) (list_any is_split (replies (step s a).0 acts)) one.whole (acts_whole (step s a).0 acts one.world)
+pub acts_grow : (s : State) (acts : List Deed) → AreOfSessions acts → IsWorld s → BeginsWith (after_acts s acts).list s.list
+acts_grow s [] o w = BeginsWith-same s.list
+acts_grow s (a ∷ acts) o w =
+    let by = first_act a acts o in
+    let one = step_kept s a by.0 w in
+    BeginsWith-along (after_acts (step s a).0 acts).list (step s a).0.list s.list (acts_grow (step s a).0 acts by.1 one.world) one.grows
+
+pub acts_whole : (s : State) (acts : List Deed) → AreOfSessions acts → IsWorld s → list_any is_split (replies s acts) ≡ false
+acts_whole s [] o w = refl
+acts_whole s (a ∷ acts) o w =
+    let by = first_act a acts o in
+    let one = step_kept s a by.0 w in
+    or_from (is_split (step s a).1) (list_any is_split (replies (step s a).0 acts)) one.whole (acts_whole (step s a).0 acts by.1 one.world)
 
 -- acts in a row are answered legally to the session, over the list that comes of them
 record AllAnswered (k : ℕ) (s : State) (acts : List Deed) (w : Walk) : Type 0 where
   pub next : Walk
-  pub legal : IsLegal k (after_acts s acts).list (exchanges k acts (replies s acts)) w next
+  pub legal : (x : Attributes) → IsLegal x k (after_acts s acts).list (exchanges k acts (replies s acts)) w next
   pub only : places_of k (after_acts s acts).list ≡ places_of k s.list ++ accepted (exchanges k acts (replies s acts))
 
-acts_answered : (k : ℕ) (s : State) (acts : List Deed) (w : Walk) → IsWorld s → Follows k s w → AllAnswered k s acts w
-acts_answered k s [] w i f = record { next = w; legal = refl; only = sym (append-nil (places_of k s.list)) }
-acts_answered k s (a ∷ acts) w i f =
-    let kept = step_kept s a i in
-    let one = step_answered k s a w i f in
+acts_answered : (k : ℕ) (s : State) (acts : List Deed) (w : Walk) → AreOfSessions acts → IsWorld s → Follows k s w → AllAnswered k s acts w
+acts_answered k s [] w o i f = record { next = w; legal = λ x. refl; only = sym (append-nil (places_of k s.list)) }
+acts_answered k s (a ∷ acts) w o i f =
+    let by = first_act a acts o in
+    let kept = step_kept s a by.0 i in
+    let one = step_answered k s a w by.0 i f in
     let s' : State = (step s a).0 in
-    let rest = acts_answered k s' acts one.next kept.world one.follows in
+    let rest = acts_answered k s' acts one.next by.1 kept.world one.follows in
     let ps : List Exchange = exchange_in k a (step s a).1 in
     let qs : List Exchange = exchanges k acts (replies s' acts) in
-    let grown = acts_grow s' acts kept.world in
+    let grown = acts_grow s' acts by.1 kept.world in
     record {
       next = rest.next;
-      legal =
-          legal-join k (after_acts s' acts).list ps qs w one.next rest.next
-          (subst (λ (h : List Entry). IsLegal k h ps w one.next) (sym grown.1) (legal-append k s'.list grown.0 ps w one.next one.legal))
-          rest.legal;
+      legal = λ x.
+          legal-join x k (after_acts s' acts).list ps qs w one.next rest.next
+          (subst (λ (h : List Entry). IsLegal x k h ps w one.next) (sym grown.1) (legal-append x k s'.list grown.0 ps w one.next (one.legal x)))
+          (rest.legal x);
       only =
           rest.only ∙ (ap (λ (l : List ℕ). l ++ accepted qs) one.only
           ∙ (append_assoc (places_of k s.list) (accepted ps) (accepted qs) ∙ ap (λ (l : List ℕ). places_of k s.list ++ l) (sym (accepted-append ps qs))));
     }
 
-no_places : (k n : ℕ) (h : List Entry) → entries_of k h ≡ [] → (places_from k n h ≡ []) × (has_left k h ≡ false)
-no_places k n [] e = (refl, refl)
-no_places k n (x ∷ xs) e = which (session_of x == k) refl e (λ f. no_places k (n + 1) xs f)
-  where
-    leaves_not : (x : Entry) → (session_of x == k) ≡ false → is_leave_of k x ≡ false
-    leaves_not (subscribed j m row) f = refl
-    leaves_not (unsubscribed j m name) f = refl
-    leaves_not (left j m) f = f
-
-    which : (b : Bool) → (session_of x == k) ≡ b → cond b (x ∷ entries_of k xs) (entries_of k xs) ≡ [] → (entries_of k xs ≡ [] → (places_from k (n + 1) xs ≡ []) × (has_left k xs ≡ false))
-        → (places_from k n (x ∷ xs) ≡ []) × (has_left k (x ∷ xs) ≡ false)
-    which true t e more = absurd cc
-    which false t e more =
-        let rest = more e in
-        (ap (λ (b : Bool). cond b (n ∷ places_from k (n + 1) xs) (places_from k (n + 1) xs)) t ∙ rest.0, or_from (is_leave_of k x) (has_left k xs) (leaves_not x t) rest.1)
-
--- a session without an entry has a walk from each number that isn't beyond what it has seen
-follows_new : (k m : ℕ) (s : State) → entries_of k s.list ≡ [] → m ≤ seen_by k s.seen → Follows k s (walk.having_seen m walk.beginning)
-follows_new k m s none_of within = record {
-  seen = within;
+-- a session without an entry has a walk from what it has seen
+follows_new : (k : ℕ) (s : State) → entries_of k s.list ≡ [] → Follows k s (beginning_at (seen_by k s.seen))
+follows_new k s none_of = record {
+  seen = omega arith;
   own = omega arith;
   serial = ap (λ (l : List Entry). length l) (sym none_of);
   ended = sym (no_places k 0 s.list none_of).1;
 }
 
-from_none : (k : ℕ) (s : State) (acts : List Deed) (w : Walk) → entries_of k s.list ≡ [] → AllAnswered k s acts w → places_of k (after_acts s acts).list ≡ accepted (exchanges k acts (replies s acts))
-from_none k s acts w none_of a = a.only ∙ ap (λ (l : List ℕ). l ++ accepted (exchanges k acts (replies s acts))) (no_places k 0 s.list none_of).0
-
 -- the replies to each session without an entry are legal over the list that comes of the acts
-pub each_legal : (s : State) (acts : List Deed) → IsWorld s → EachIsLegal s acts (run s acts)
-each_legal s acts i k none_of =
-    let from_nothing = acts_answered k s acts (walk.having_seen 0 walk.beginning) i (follows_new k 0 s none_of (omega arith)) in
-    let from_seen = acts_answered k s acts (walk.having_seen (seen_by k s.seen) walk.beginning) i (follows_new k (seen_by k s.seen) s none_of (omega arith)) in (
-      record { end = from_nothing.next; legal = from_nothing.legal; only = inl (from_none k s acts (walk.having_seen 0 walk.beginning) none_of from_nothing) },
-      record { end = from_seen.next; legal = from_seen.legal; only = from_none k s acts (walk.having_seen (seen_by k s.seen) walk.beginning) none_of from_seen },
-    )
+pub each_legal : (s : State) (acts : List Deed) → AreOfSessions acts → IsWorld s → EachIsLegal s acts (run s acts)
+each_legal s acts o i k none_of =
+    let all = acts_answered k s acts (beginning_at (seen_by k s.seen)) o i (follows_new k s none_of) in
+    let ps : List Exchange = exchanges k acts (replies s acts) in
+    let only : places_of k (after_acts s acts).list ≡ accepted ps = all.only ∙ ap (λ (l : List ℕ). l ++ accepted ps) (no_places k 0 s.list none_of).0 in
+    let covers : (x : Attributes) → IsLegalSession x k (seen_by k s.seen) (after_acts s acts).list ps =
+    λ x. record { end = all.next; legal = all.legal x; only = inl only } in
+    record {
+      legal = λ x. session_below x k 0 (seen_by k s.seen) (after_acts s acts).list ps (omega arith) (covers x);
+      covers = covers;
+      only = only;
+    }
 
 -- a Reshape changes no other reply
 pub beside_reshapes_same : (s : State) (acts : List Deed) → replies_beside acts (replies s acts) ≡ replies s (beside_reshapes acts)

@@ -1,14 +1,14 @@
 -- What one session asked of the core and was answered, as its lines and their replies.
 use Rattle.std.specs.Prelude.{◌≡◌, ℕ, false, List, [], ◌∷◌, ◌++◌, filter, not, Option, Some, None, if◌then◌else◌}
 use Rattle.std.specs.List.{list_any}
+use Rattle.be_model.specs.Schemas.{Attributes}
 use Rattle.be_change.specs.History.{Entry, subscribed, unsubscribed, left, entries_of, places_of}
 use Rattle.be_change.specs.Requests.{Request, publish, quit, Reply, held, dup, none, other, hit, split, Exchange}
 use Rattle.be_change.specs.Requests as requests
-use Rattle.be_change.specs.Walk.{Walk, IsLegal, IsLegalSession, accepted}
-use Rattle.be_change.specs.Walk as walk
+use Rattle.be_change.specs.Walk.{IsLegalSession, accepted}
 use Rattle.be_core.specs.declared.acts.CoreReply.{CoreReply}
 use Rattle.be_core.specs.declared.acts.CoreReply.TheVariants.{Taken, Held, Dup, NoName, Other, Left, Hits, Split, Nothing}
-use Rattle.be_core.specs.Acts.{Deed, asks, publishes, reshapes, reads, tells, leaves, is_by, is_reshape}
+use Rattle.be_core.specs.Acts.{Deed, asks, publishes, reshapes, reads, tells, leaves, is_by, AreOfSessions, is_reshape}
 use Rattle.be_core.specs.World.{State, seen_by, run, is_split, IsWorld}
 
 abbrev pub request_for : Entry → Request
@@ -48,19 +48,18 @@ exchanges k [] replies = []
 exchanges k (a ∷ acts) [] = []
 exchanges k (a ∷ acts) (r ∷ replies) = (if is_by k a then exchange_of (request_in a) (reply_in r) else []) ++ exchanges k acts replies
 
--- the replies are legal over the list to a session that had seen so much before them,
--- and its changes in the list are those that were accepted
-pub record IsLegalAfter (k seen : ℕ) (h : List Entry) (ps : List Exchange) : Type 0 where
-  pub end : Walk
-  pub legal : IsLegal k h ps (walk.having_seen seen walk.beginning) end
+-- to a session that had seen so much before them, the exchanges are legal over the list, and its changes in the list are
+-- exactly those that were accepted. No reply tells a cost, so the schema doesn't matter
+pub record IsAnswered (k seen : ℕ) (h : List Entry) (ps : List Exchange) : Type 0 where
+  pub legal : (s : Attributes) → IsLegalSession s k 0 h ps
+  -- they cover what it had seen, too
+  pub covers : (s : Attributes) → IsLegalSession s k seen h ps
   pub only : places_of k h ≡ accepted ps
 
 -- acts that came upon the first state, and had these replies, led to the second:
--- to each session without an entry in the first list, the replies are legal over the second list
+-- each session without an entry in the first list is answered legally over the second list
 abbrev pub EachIsLegal : State → List Deed → State × List CoreReply → Type 0
-EachIsLegal s acts r =
-    (k : ℕ) → entries_of k s.list ≡ []
-    → IsLegalSession k r.0.list (exchanges k acts r.1) × IsLegalAfter k (seen_by k s.seen) r.0.list (exchanges k acts r.1)
+EachIsLegal s acts r = (k : ℕ) → entries_of k s.list ≡ [] → IsAnswered k (seen_by k s.seen) r.0.list (exchanges k acts r.1)
 
 -- the replies to the acts that aren't a Reshape
 abbrev pub replies_beside : List Deed → List CoreReply → List CoreReply
@@ -76,17 +75,17 @@ beside_reshapes acts = filter (λ a. not (is_reshape a)) acts
 abbrev pub ReshapesChangeNothing : State → List Deed → State × List CoreReply → Type 0
 ReshapesChangeNothing s acts r = run s (beside_reshapes acts) ≡ (r.0, replies_beside acts r.1)
 
--- each run keeps what a world keeps
+-- each run of acts of sessions keeps what a world keeps
 abbrev pub RunsKeep : Type 0
-RunsKeep = (s : State) (acts : List Deed) → IsWorld s → IsWorld (run s acts).0
+RunsKeep = (s : State) (acts : List Deed) → AreOfSessions acts → IsWorld s → IsWorld (run s acts).0
 
 -- no session is told that it has seen more than is published
 abbrev pub NoneIsSplit : Type 0
-NoneIsSplit = (s : State) (acts : List Deed) → IsWorld s → list_any is_split (run s acts).1 ≡ false
+NoneIsSplit = (s : State) (acts : List Deed) → AreOfSessions acts → IsWorld s → list_any is_split (run s acts).1 ≡ false
 
 -- what each session without an entry is answered is legal
 abbrev pub RunsAreLegal : Type 0
-RunsAreLegal = (s : State) (acts : List Deed) → IsWorld s → EachIsLegal s acts (run s acts)
+RunsAreLegal = (s : State) (acts : List Deed) → AreOfSessions acts → IsWorld s → EachIsLegal s acts (run s acts)
 
 -- with every Reshape taken out, the other acts have the same replies
 abbrev pub ShapeIsUnseen : Type 0

@@ -1,10 +1,10 @@
 -- The core as plain data: what each act answers, and what it makes of the list.
 use Rattle.std.specs.Prelude.{◌≡◌, ℕ, ◌+◌, ◌≤◌, ◌==◌, ◌&&◌, ◌||◌, Bool, true, false, not, nat_lt, nat_le, List, [], ◌∷◌, ◌++◌, length, take, Option, Some, None, slice_get, if◌then◌else◌}
 use Rattle.be_base.specs.declared.names.SessionNo.{SessionNo}
+use Rattle.be_base.specs.Lists.{BeginsWith}
 use Rattle.be_model.specs.declared.changes.Row.{Row}
 use Rattle.be_model.specs.Matching.{Assignments}
-use Rattle.be_change.specs.History.{Text, Entry, subscribed, unsubscribed, left, session_of, serial_of, entries_of, has_left, Live, live, hits, has_name, is_of, IsWellFormed}
-use Rattle.be_change.specs.Sound.{StartsWith}
+use Rattle.be_change.specs.History.{Text, Entry, subscribed, unsubscribed, left, session_of, serial_of, entries_of, has_left, ByIds, live, hits, has_name, is_of, IsWellFormed}
 use Rattle.be_core.specs.declared.acts.CoreReply.{CoreReply}
 use Rattle.be_core.specs.declared.acts.CoreReply.TheVariants.{Taken, Held, Dup, NoName, Other, Left, Hits, Split, Nothing}
 use Rattle.be_core.specs.Acts.{Deed, asks, publishes, reshapes, reads, tells, leaves}
@@ -64,7 +64,7 @@ abbrev pub is_next_of : ℕ → List Entry → Entry → Bool
 is_next_of k h e = not (is_bye e) && (session_of e == k && serial_of e == length (entries_of k h))
 
 -- the first live row of this name
-abbrev pub named : Text → Live → Option (ℕ × Row)
+abbrev pub named : Text → ByIds → Option (ℕ × Row)
 named name [] = None
 named name (r ∷ rs) = if has_name name r then Some r else named name rs
 
@@ -180,4 +180,4 @@ is_split Nothing = false
 pub record IsKept (s : State) (r : State × CoreReply) : Type 0 where
   pub world : IsWorld r.0
   pub whole : is_split r.1 ≡ false
-  pub grows : StartsWith r.0.list s.list
+  pub grows : BeginsWith r.0.list s.list

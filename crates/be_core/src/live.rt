@@ -49,13 +49,8 @@ fn add_change(rows: &mut Vec<(u64, Arc<Row>)>, id: u64, change: &Change) -> Resu
 fn add_row(rows: &mut Vec<(u64, Arc<Row>)>, id: u64, row: &Arc<Row>) -> Result<(), NoMemory>
     ensures { OnOk result (live_in rows.new.items ≡ live_in rows.old.items ++ (id, arc_value row.now) ∷ []) }
 {
-    match Arc::try_clone(row) {
-        Ok(row) => match rows.push((id, row)) {
-            Ok(()) => Ok(()),
-            Err(_) => Err(NoMemory),
-        },
-        Err(_) => Err(NoMemory),
-    }
+    rows.push((id, Arc::try_clone(row)?))?;
+    Ok(())
 }
 
 fn drop_named(rows: &mut Vec<(u64, Arc<Row>)>, session: SessionNo, name: &Name)

@@ -25,15 +25,10 @@ pub(crate) fn note_seen(
     ensures { OnOk result (rows.new.items ≡ having_seen session.0 n rows.old.items) }
 {
     match place_of(rows.as_slice(), session) {
-        Some(place) => {
-            rows[place].1 = n;
-            Ok(())
-        }
-        None => match rows.push((session, n)) {
-            Ok(()) => Ok(()),
-            Err(_) => Err(NoMemory),
-        },
+        Some(place) => rows[place].1 = n,
+        None => rows.push((session, n))?,
     }
+    Ok(())
 }
 
 fn place_of(rows: &[(SessionNo, u64)], session: SessionNo) -> Option<usize>

@@ -102,7 +102,7 @@ impl Core {
     {
         match self.log.push(change) {
             Ok(()) => Ok(self.log.len()),
-            Err(_) => Err(NoMemory),
+            Err((_, no_memory)) => Err(no_memory),
         }
     }
 
@@ -126,13 +126,8 @@ impl Core {
         requires { HasIdAt (length self.old.log.list) (entry_of (arc_value change.now)) }
         ensures { IfOk result (λ r. (state_of self.new, r) ≡ taken (entry_of (arc_value change.now)) (state_of self.old)) }
     {
-        match Arc::try_clone(change) {
-            Ok(change) => {
-                let n = self.put(change)?;
-                Ok(CoreReply::Taken { n })
-            }
-            Err(_) => Err(NoMemory),
-        }
+        let n = self.put(Arc::try_clone(change)?)?;
+        Ok(CoreReply::Taken { n })
     }
 
     // The change is a Sub of this row.
@@ -227,13 +222,9 @@ impl Core {
         ensures { IfOk result (λ r. (state_of self.new, r) ≡ parted session.0 (state_of self.old)) }
     {
         let serial = self.log.count_of(session);
-        match Arc::new(alloc, Change::Bye { session, serial }) {
-            Ok(bye) => {
-                let n = self.put(bye)?;
-                Ok(CoreReply::Left { n })
-            }
-            Err(_) => Err(NoMemory),
-        }
+        let bye = Arc::new(alloc, Change::Bye { session, serial })?;
+        let n = self.put(bye)?;
+        Ok(CoreReply::Left { n })
     }
 
     fn leave(&mut self, alloc: Global, session: SessionNo) -> Result<CoreReply, NoMemory>

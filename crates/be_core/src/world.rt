@@ -83,24 +83,20 @@ fn run_all(alloc: Global, core: &mut Core, acts: &[Act]) -> Result<Vec<CoreReply
 fn add_reply(replies: &mut Vec<CoreReply>, reply: CoreReply) -> Result<(), NoMemory>
     ensures { OnOk result (replies.new.items ≡ replies.old.items ++ reply ∷ []) }
 {
-    match replies.push(reply) {
-        Ok(()) => Ok(()),
-        Err(_) => Err(NoMemory),
-    }
+    replies.push(reply)?;
+    Ok(())
 }
 
 fn copy(alloc: Global, core: &Core) -> Result<Core, NoMemory>
     ensures { IfOk result (λ copy. state_of copy ≡ state_of core.now) }
 {
     let log = copy_log(alloc, &core.log)?;
-    match Vec::from_slice(alloc, core.seen.as_slice()) {
-        Ok(seen) => Ok(Core {
-            log,
-            published: core.published,
-            seen,
-        }),
-        Err(_) => Err(NoMemory),
-    }
+    let seen = Vec::from_slice(alloc, core.seen.as_slice())?;
+    Ok(Core {
+        log,
+        published: core.published,
+        seen,
+    })
 }
 
 fn copy_log(alloc: Global, log: &ChangeLog) -> Result<ChangeLog, NoMemory>
@@ -117,11 +113,8 @@ fn add_change(log: &mut ChangeLog, change: &Arc<Change>) -> Result<(), NoMemory>
     requires { HasIdAt (length log.old.list) (entry_of (arc_value change.now)) }
     ensures { OnOk result (log.new.list ≡ log.old.list ++ entry_of (arc_value change.now) ∷ []) }
 {
-    match Arc::try_clone(change) {
-        Ok(change) => match log.push(change) {
-            Ok(()) => Ok(()),
-            Err(_) => Err(NoMemory),
-        },
-        Err(_) => Err(NoMemory),
+    match log.push(Arc::try_clone(change)?) {
+        Ok(()) => Ok(()),
+        Err((_, no_memory)) => Err(no_memory),
     }
 }

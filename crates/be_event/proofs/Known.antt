@@ -1,18 +1,18 @@
 -- A fault of an event names attributes of the schema.
-use Rattle.std.proofs.Common.{◌≡◌, ℤ, ◌<◌, Bool, true, false, cond, List, [], ◌∷◌, ◌++◌, length, find, Option, Some, None, option_map, option_and_then, Result, Ok, Err, IfErr, refl, subst, is_some}
+use Rattle.std.proofs.Common.{◌≡◌, ℕ, ◌<◌, Bool, true, false, cond, List, [], ◌∷◌, ◌++◌, length, find, Option, Some, None, option_map, option_and_then, Result, Ok, Err, IfErr, refl, subst, is_some}
 use Rattle.std.specs.List.{cons_option}
 use Rattle.std.specs.Option.{option_or}
 use Rattle.be_base.specs.Text.{Text}
 use Rattle.be_base.specs.Tokens.{tokens}
 use Rattle.be_base.specs.declared.names.AttrNo.{AttrNo}
-use Rattle.be_model.specs.Assigned.{value_at}
-use Rattle.be_model.specs.Matching.{Assignments, value_of}
+use Rattle.be_model.specs.SetTexts.{has_outside, meant_values}
+use Rattle.be_model.specs.Matching.{Assignments, values_of}
 use Rattle.be_model.specs.Schemas.{Attributes, attribute_named}
 use Rattle.be_model.proofs.NamedBelow.{named_below}
-use Rattle.be_event.specs.Written.{WrittenItem, written}
-use Rattle.be_event.specs.Events.{unknown_attr, is_outside, outside_domain, assignments, again_after, stands_twice, fault_in, judged, meaning, by_attribute, event, Reads, IsKnown}
+use Rattle.be_event.specs.Grammar.{WrittenItem, words_of, written}
+use Rattle.be_event.specs.Events.{unknown_attr, is_outside, outside_domain, large_set, assigned, assignments, again_after, stands_twice, fault_in, judged, meaning, by_attribute, event, Reads, IsKnown}
 use Rattle.be_event.specs.declared.events.EventFault.{EventFault}
-use Rattle.be_event.specs.declared.events.EventFault.TheVariants.{Bad, Attr, Dom, Twice, NoMemory}
+use Rattle.be_event.specs.declared.events.EventFault.TheVariants.{Bad, Attr, Dom, Twice, Many, NoMemory}
 
 -- what is known of a fault that may be there
 abbrev Knows : Attributes → Option EventFault → Type 0
@@ -40,18 +40,18 @@ assigned_below : (s : Attributes) (items : List WrittenItem) → AreBelow s (ass
 assigned_below s [] = tt
 assigned_below s (item ∷ items) = by_attr (attribute_named s item.attr) refl (assigned_below s items)
   where
-    put : (a : AttrNo) (v : Option ℤ) → a.0 < length s → AreBelow s (assignments s items) → AreBelow s (cons_option (option_map (λ x. (a, x)) v) (assignments s items))
-    put a None below rest = rest
-    put a (Some v) below rest = (below, rest)
+    put : (a : AttrNo) (words : List Text) (b : Bool) → a.0 < length s → AreBelow s (assignments s items) → AreBelow s (cons_option (cond b None (Some (a, meant_values s a words))) (assignments s items))
+    put a words true below rest = rest
+    put a words false below rest = (below, rest)
 
     by_attr : (a : Option AttrNo) → attribute_named s item.attr ≡ a → AreBelow s (assignments s items)
-        → AreBelow s (cons_option (option_and_then (λ b. option_map (λ v. (b, v)) (value_at s b item.value)) a) (assignments s items))
+        → AreBelow s (cons_option (option_and_then (λ b. assigned s b (words_of item.values)) a) (assignments s items))
     by_attr None e rest = rest
-    by_attr (Some a) e rest = put a (value_at s a item.value) (named_below s item.attr a e) rest
+    by_attr (Some a) e rest = put a (words_of item.values) (has_outside s a (words_of item.values)) (named_below s item.attr a e) rest
 
 knows_again : (s : Attributes) (before items : Assignments) → AreBelow s items → Knows s (option_map (λ a. Twice a) (again_after before items))
 knows_again s before [] below = tt
-knows_again s before (item ∷ items) below = step (is_some (value_of before item.0)) (knows_again s (before ++ item ∷ []) items below.1)
+knows_again s before (item ∷ items) below = step (is_some (values_of before item.0)) (knows_again s (before ++ item ∷ []) items below.1)
   where
     step : (b : Bool) → Knows s (option_map (λ a. Twice a) (again_after (before ++ item ∷ []) items))
         → Knows s (option_map (λ a. Twice a) (cond b (Some item.0) (again_after (before ++ item ∷ []) items)))
@@ -62,12 +62,16 @@ knows_either : (s : Attributes) (a b : Option EventFault) → Knows s a → Know
 knows_either s None b x y = y
 knows_either s (Some fault) b x y = x
 
+knows_many : (s : Attributes) (count : Option ℕ) → Knows s (option_map (λ n. Many n) count)
+knows_many s None = tt
+knows_many s (Some n) = tt
+
 knows_fault : (s : Attributes) (items : List WrittenItem) → Knows s (fault_in s items)
 knows_fault s items =
-    knows_either s (option_map (λ n. Attr n) (unknown_attr s items)) (option_or (option_map (λ a. Dom a) (outside_domain s items)) (option_map (λ a. Twice a) (stands_twice (assignments s items))))
-    (knows_unknown s (unknown_attr s items))
-    (knows_either s (option_map (λ a. Dom a) (outside_domain s items)) (option_map (λ a. Twice a) (stands_twice (assignments s items)))
-    (knows_outside s (find (is_outside s) items)) (knows_again s [] (assignments s items) (assigned_below s items)))
+    knows_either s (option_map (λ n. Attr n) (unknown_attr s items)) _ (knows_unknown s (unknown_attr s items))
+    (knows_either s (option_map (λ a. Dom a) (outside_domain s items)) _ (knows_outside s (find (is_outside s) items))
+    (knows_either s (option_map (λ a. Twice a) (stands_twice (assignments s items))) (option_map (λ n. Many n) (large_set items))
+    (knows_again s [] (assignments s items) (assigned_below s items)) (knows_many s (large_set items))))
 
 known_judged : (s : Attributes) (e : Assignments) (f : Option EventFault) (fault : EventFault) → Knows s f → judged e f ≡ Err fault → IsKnown s fault
 known_judged s e None fault k is = absurd cc
@@ -77,11 +81,12 @@ known_meant : (s : Attributes) (items : Option (List WrittenItem)) (fault : Even
 known_meant s None fault e = let same : Bad ≡ fault = cc in subst (IsKnown s) same tt
 known_meant s (Some items) fault e = known_judged s (by_attribute (length s) (assignments s items)) (fault_in s items) fault (knows_fault s items) e
 
-known_read : (s : Attributes) (text : Text) (fault : EventFault) → Reads (Err fault) (event s text) → IsKnown s fault
+pub known_read : (s : Attributes) (text : Text) (fault : EventFault) → Reads (Err fault) (event s text) → IsKnown s fault
 known_read s text (Dom a) r = known_meant s (option_and_then written (tokens text)) (Dom a) r
 known_read s text (Twice a) r = known_meant s (option_and_then written (tokens text)) (Twice a) r
 known_read s text Bad r = tt
 known_read s text (Attr name) r = tt
+known_read s text (Many count) r = tt
 known_read s text NoMemory r = tt
 
 pub known_answer : (s : Attributes) (text : Text) (result : Result Assignments EventFault) → Reads result (event s text) → IfErr result (IsKnown s)

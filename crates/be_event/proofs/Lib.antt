@@ -1,10 +1,10 @@
 pub mod Grammar
 pub mod RoundTrip
 pub mod SchemaForms
-pub mod Items
-pub mod FirstLines
+pub mod Notes
 pub mod WordLemmas
 pub mod Scans
 pub mod Built
 pub mod Readings
 pub mod Known
+pub mod GivenSets

@@ -10,9 +10,11 @@ use Rattle.be_model.specs.declared.schemas.Attribute.{Attribute}
 use Rattle.be_model.specs.declared.schemas.Domain.{Domain}
 use Rattle.be_model.specs.declared.schemas.Domain.TheVariants.{Int, Sym}
 use Rattle.be_model.specs.Schemas.{Attributes, IsSchema, attribute_of, names_of_attributes, is_among_texts, all_differ, is_domain}
-use Rattle.be_model.proofs.Attributes.{and_both, IsSchema-push}
-use Rattle.be_event.specs.Written.{is_name}
-use Rattle.be_event.specs.SchemaTexts.{words, is_remark, means_nothing, int_domain, sym_domain, domain_of, declared, repeats, is_out_of_range, has_many, first_kind, kind_of, judged, judge, declaration, schema_from, text_lines, schema_of}
+use Rattle.be_model.proofs.Attributes.{IsSchema-push}
+use Rattle.std.proofs.lemmas.Bool.{and_from}
+use Rattle.be_event.specs.Grammar.{is_name}
+use Rattle.be_io.specs.FileLines.{file_lines}
+use Rattle.be_event.specs.SchemaTexts.{words, is_remark, means_nothing, int_domain, sym_domain, domain_of, declared, repeats, is_out_of_range, has_many, first_kind, kind_of, judged, judge, declaration, schema_from, schema_of}
 use Rattle.be_event.specs.Declarations.{names_declared, declared_on, flaws_of, flawed, JudgesWords}
 use Rattle.be_event.specs.declared.schema_texts.Declared.{Declared}
 use Rattle.be_event.specs.declared.schema_texts.Flaws.{Flaws}
@@ -150,7 +152,7 @@ valid : (d : Domain) → HasWord d → repeats d ≡ false → is_out_of_range d
 valid (Int lo hi) w a b c = double (is_domain (Int lo hi)) b
 valid (Sym words) w a b c =
     let k = enough (length words) w c in
-    and_both (leb 1 (length words) && leb (length words) 4096) (all_differ words) (and_both (leb 1 (length words)) (leb (length words) 4096) k.0 k.1) (double (all_differ words) a)
+    and_from (leb 1 (length words) && leb (length words) 4096) (all_differ words) (and_from (leb 1 (length words)) (leb (length words) 4096) k.0 k.1) (double (all_differ words) a)
 
 -- an attribute without fault may be put last
 pub may_be_put : (s : Attributes) (a : Attribute) → IsSchema s → HasWord a.domain → kind_of (names_of_attributes s) a ≡ None → IsSchema (s ++ a ∷ [])
@@ -218,42 +220,42 @@ judge_by (Some kind) a x h = absurd (cc)
 pub record Scanned (text rest : Text) (number : ℕ) (names : List Text) : Type 0 where
   pub attributes : Attributes
   pub named : names ≡ names_of_attributes attributes
-  pub same : schema_from (number + 1) attributes (text_lines rest) ≡ schema_of text
+  pub same : schema_from (number + 1) attributes (file_lines rest) ≡ schema_of text
   pub within : number + length rest ≤ length text
 
 pub scanned_nothing : (text : Text) (names : List Text) → names ≡ [] → Scanned text text 0 names
 scanned_nothing text names e = record { attributes = []; named = e; same = refl; within = omega arith }
 
 -- the next line means nothing
-pub scanned_remark : (text rest line after : Text) (number : ℕ) (names : List Text) → text_lines rest ≡ line ∷ text_lines after → length after < length rest
+pub scanned_remark : (text rest line after : Text) (number : ℕ) (names : List Text) → file_lines rest ≡ line ∷ file_lines after → length after < length rest
     → JudgesWords names (words line) Nothing → Scanned text rest number names → Scanned text after (number + 1) names
 scanned_remark text rest line after number names lines shorter j p =
     record {
       attributes = p.attributes;
       named = p.named;
-      same = sym (schema_from-nothing (number + 1) p.attributes line (text_lines after) j) ∙ ap (λ ls. schema_from (number + 1) p.attributes ls) (sym lines) ∙ p.same;
+      same = sym (schema_from-nothing (number + 1) p.attributes line (file_lines after) j) ∙ ap (λ ls. schema_from (number + 1) p.attributes ls) (sym lines) ∙ p.same;
       within = let w = p.within in omega arith;
     }
 
 -- the next line declares an attribute
-pub scanned_declares : (text rest line after : Text) (number : ℕ) (names new : List Text) (name : Text) → text_lines rest ≡ line ∷ text_lines after → length after < length rest
+pub scanned_declares : (text rest line after : Text) (number : ℕ) (names new : List Text) (name : Text) → file_lines rest ≡ line ∷ file_lines after → length after < length rest
     → JudgesWords names (words line) (Declares name) → new ≡ names ++ name ∷ [] → Scanned text rest number names → Scanned text after (number + 1) new
 scanned_declares text rest line after number names new name lines shorter j put p =
     let a = j.1 in
     record {
       attributes = p.attributes ++ a ∷ [];
       named = put ∙ ap (λ n. names ++ n ∷ []) (sym j.3) ∙ ap (λ ns. ns ++ a.name ∷ []) p.named ∙ sym (map-append (λ (x : Attribute). x.name) p.attributes (a ∷ []));
-      same = sym (schema_from-declares (number + 1) p.attributes line (text_lines after) a j.0 (ap (λ ns. declaration ns (words line)) (sym p.named) ∙ j.2))
+      same = sym (schema_from-declares (number + 1) p.attributes line (file_lines after) a j.0 (ap (λ ns. declaration ns (words line)) (sym p.named) ∙ j.2))
           ∙ ap (λ ls. schema_from (number + 1) p.attributes ls) (sym lines) ∙ p.same;
       within = let w = p.within in omega arith;
     }
 
 -- the next line has a fault
-pub scanned_fault : (text rest line after : Text) (number : ℕ) (names : List Text) (kind : SchemaKind) → text_lines rest ≡ line ∷ text_lines after
+pub scanned_fault : (text rest line after : Text) (number : ℕ) (names : List Text) (kind : SchemaKind) → file_lines rest ≡ line ∷ file_lines after
     → JudgesWords names (words line) (Fault kind) → Scanned text rest number names → schema_of text ≡ Err (Line (number + 1) kind)
 scanned_fault text rest line after number names kind lines j p =
     sym p.same ∙ ap (λ ls. schema_from (number + 1) p.attributes ls) lines
-    ∙ schema_from-fault (number + 1) p.attributes line (text_lines after) kind j.0 (ap (λ ns. declaration ns (words line)) (sym p.named) ∙ j.1)
+    ∙ schema_from-fault (number + 1) p.attributes line (file_lines after) kind j.0 (ap (λ ns. declaration ns (words line)) (sym p.named) ∙ j.1)
 
 -- no line is left
 pub scanned_all : (text rest : Text) (number : ℕ) (names : List Text) → length rest ≡ 0 → Scanned text rest number names → (s : Attributes) × (schema_of text ≡ Ok s)
@@ -275,12 +277,12 @@ room_left names ws name j = room_by names (declared ws) j.1 j.2
 pub record Put (text rest : Text) (s : Attributes) : Type 0 where
   pub number : ℕ
   pub form : IsSchema s
-  pub same : schema_from number s (text_lines rest) ≡ schema_of text
+  pub same : schema_from number s (file_lines rest) ≡ schema_of text
 
 pub put_nothing : (text : Text) (s : Attributes) → s ≡ [] → Put text text s
 put_nothing text s e = record { number = 1; form = rw e (record { few = omega arith; differ = refl; unreserved = refl; domains = refl }); same = rw e refl }
 
-next_is : (text rest line after : Text) (s whole : Attributes) (p : Put text rest s) → text_lines rest ≡ line ∷ text_lines after → schema_of text ≡ Ok whole → schema_from p.number s (line ∷ text_lines after) ≡ Ok whole
+next_is : (text rest line after : Text) (s whole : Attributes) (p : Put text rest s) → file_lines rest ≡ line ∷ file_lines after → schema_of text ≡ Ok whole → schema_from p.number s (line ∷ file_lines after) ≡ Ok whole
 next_is text rest line after s whole p lines ok = ap (λ ls. schema_from p.number s ls) (sym lines) ∙ p.same ∙ ok
 
 form_fault : (n : ℕ) (s whole : Attributes) (line : Text) (lines : List Text) (b : Bool) → means_nothing (words line) ≡ b → declared (words line) ≡ None → schema_from n s (line ∷ lines) ≡ Ok whole → b ≡ true
@@ -288,14 +290,14 @@ form_fault n s whole line lines true e d h = refl
 form_fault n s whole line lines false e d h = let k = schema_from-fault n s line lines Form e (rw d refl) in absurd (cc)
 
 -- the next line declares nothing, and so it means nothing
-pub put_none : (text rest line after : Text) (s whole : Attributes) → text_lines rest ≡ line ∷ text_lines after → schema_of text ≡ Ok whole → None ≡ declared_on (words line) → Put text rest s → Put text after s
+pub put_none : (text rest line after : Text) (s whole : Attributes) → file_lines rest ≡ line ∷ file_lines after → schema_of text ≡ Ok whole → None ≡ declared_on (words line) → Put text rest s → Put text after s
 put_none text rest line after s whole lines ok d p =
     let nothing : means_nothing (words line) ≡ true =
     elim (off_by (means_nothing (words line)) (declared (words line)) d) [
       | inl e ↦ e
-      | inr e ↦ form_fault p.number s whole line (text_lines after) (means_nothing (words line)) refl e (next_is text rest line after s whole p lines ok)
+      | inr e ↦ form_fault p.number s whole line (file_lines after) (means_nothing (words line)) refl e (next_is text rest line after s whole p lines ok)
     ] in
-    record { number = p.number + 1; form = p.form; same = sym (schema_from-nothing p.number s line (text_lines after) nothing) ∙ ap (λ ls. schema_from p.number s ls) (sym lines) ∙ p.same }
+    record { number = p.number + 1; form = p.form; same = sym (schema_from-nothing p.number s line (file_lines after) nothing) ∙ ap (λ ls. schema_from p.number s ls) (sym lines) ∙ p.same }
 
 unflawed : (n : ℕ) (s whole : Attributes) (line : Text) (lines : List Text) (a : Attribute) (o : Option SchemaKind) → means_nothing (words line) ≡ false → declared (words line) ≡ Some a
     → kind_of (names_of_attributes s) a ≡ o → schema_from n s (line ∷ lines) ≡ Ok whole → o ≡ None
@@ -303,19 +305,19 @@ unflawed n s whole line lines a None m d e h = refl
 unflawed n s whole line lines a (Some kind) m d e h =
     let k = schema_from-fault n s line lines kind m (ap (judge (names_of_attributes s)) d ∙ ap (judged a) e) in absurd (cc)
 
-no_flaw : (text rest line after : Text) (s whole : Attributes) (a : Attribute) → text_lines rest ≡ line ∷ text_lines after → schema_of text ≡ Ok whole → Some a ≡ declared_on (words line) → Put text rest s
+no_flaw : (text rest line after : Text) (s whole : Attributes) (a : Attribute) → file_lines rest ≡ line ∷ file_lines after → schema_of text ≡ Ok whole → Some a ≡ declared_on (words line) → Put text rest s
     → kind_of (names_of_attributes s) a ≡ None
 no_flaw text rest line after s whole a lines ok d p =
     let k = on_by (means_nothing (words line)) (declared (words line)) a d in
-    unflawed p.number s whole line (text_lines after) a (kind_of (names_of_attributes s) a) k.0 k.1 refl (next_is text rest line after s whole p lines ok)
+    unflawed p.number s whole line (file_lines after) a (kind_of (names_of_attributes s) a) k.0 k.1 refl (next_is text rest line after s whole p lines ok)
 
 -- the attribute that the next line declares may be put
-pub next_may_be_put : (text rest line after : Text) (s whole : Attributes) (a : Attribute) → text_lines rest ≡ line ∷ text_lines after → schema_of text ≡ Ok whole → Some a ≡ declared_on (words line) → Put text rest s
+pub next_may_be_put : (text rest line after : Text) (s whole : Attributes) (a : Attribute) → file_lines rest ≡ line ∷ file_lines after → schema_of text ≡ Ok whole → Some a ≡ declared_on (words line) → Put text rest s
     → IsSchema (s ++ a ∷ [])
 next_may_be_put text rest line after s whole a lines ok d p =
     may_be_put s a p.form (declared_said (words line) a (on_by (means_nothing (words line)) (declared (words line)) a d).1) (no_flaw text rest line after s whole a lines ok d p)
 
-pub put_next : (text rest line after : Text) (s whole new : Attributes) (a : Attribute) → text_lines rest ≡ line ∷ text_lines after → schema_of text ≡ Ok whole → Some a ≡ declared_on (words line)
+pub put_next : (text rest line after : Text) (s whole new : Attributes) (a : Attribute) → file_lines rest ≡ line ∷ file_lines after → schema_of text ≡ Ok whole → Some a ≡ declared_on (words line)
     → new ≡ s ++ a ∷ [] → Put text rest s → Put text after new
 put_next text rest line after s whole new a lines ok d put p =
     let k = on_by (means_nothing (words line)) (declared (words line)) a d in
@@ -323,8 +325,8 @@ put_next text rest line after s whole new a lines ok d put p =
     record {
       number = p.number + 1;
       form = rw put (next_may_be_put text rest line after s whole a lines ok d p);
-      same = ap (λ x. schema_from (p.number + 1) x (text_lines after)) put
-          ∙ sym (schema_from-declares p.number s line (text_lines after) a k.0 (ap (judge (names_of_attributes s)) k.1 ∙ ap (judged a) none))
+      same = ap (λ x. schema_from (p.number + 1) x (file_lines after)) put
+          ∙ sym (schema_from-declares p.number s line (file_lines after) a k.0 (ap (judge (names_of_attributes s)) k.1 ∙ ap (judged a) none))
           ∙ ap (λ ls. schema_from p.number s ls) (sym lines) ∙ p.same;
     }
 

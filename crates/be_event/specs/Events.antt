@@ -1,16 +1,17 @@
 -- What the text of an event means in a schema, or its first fault.
-use Rattle.std.specs.Prelude.{◌≡◌, ◌<◌, ℕ, ℤ, zero, suc, Bool, false, List, [], ◌∷◌, ◌++◌, length, find, Option, Some, None, option_map, option_and_then, is_some, is_none, Result, Ok, Err, if◌then◌else◌}
+use Rattle.std.specs.Prelude.{◌≡◌, ◌<◌, ℕ, ℤ, zero, suc, Bool, List, [], ◌∷◌, ◌++◌, length, find, nat_lt, Option, Some, None, option_map, option_and_then, is_some, is_none, Result, Ok, Err, codes, if◌then◌else◌}
 use Rattle.std.specs.List.{filter_map}
 use Rattle.std.specs.Option.{option_map_or, option_or}
-use Rattle.be_base.specs.Text.{Text}
-use Rattle.be_base.specs.Tokens.{Lexeme, tokens}
+use Rattle.be_base.specs.Text.{Text, same_text}
+use Rattle.be_base.specs.Tokens.{Lexeme, word, tokens}
+use Rattle.be_base.specs.declared.limits.TheConstants.{SET_VALUES}
 use Rattle.be_base.specs.declared.names.AttrNo.{AttrNo}
-use Rattle.be_model.specs.Matching.{Assignments, value_of}
+use Rattle.be_model.specs.Matching.{Assignments, values_of}
 use Rattle.be_model.specs.Schemas.{Attributes, numbered, attribute_named}
-use Rattle.be_model.specs.Assigned.{value_at}
-use Rattle.be_event.specs.Written.{WrittenItem, written}
+use Rattle.be_model.specs.SetTexts.{has_outside, some_outside, meant_values}
+use Rattle.be_event.specs.Grammar.{WrittenItem, words_of, written}
 use Rattle.be_event.specs.declared.events.EventFault.{EventFault}
-use Rattle.be_event.specs.declared.events.EventFault.TheVariants.{Bad, Attr, Dom, Twice, NoMemory}
+use Rattle.be_event.specs.declared.events.EventFault.TheVariants.{Bad, Attr, Dom, Twice, Many, NoMemory}
 
 abbrev pub is_unknown : Attributes → WrittenItem → Bool
 is_unknown s item = is_none (attribute_named s item.attr)
@@ -19,18 +20,27 @@ is_unknown s item = is_none (attribute_named s item.attr)
 abbrev pub unknown_attr : Attributes → List WrittenItem → Option Text
 unknown_attr s items = option_map (λ (item : WrittenItem). item.attr) (find (is_unknown s) items)
 
--- the attribute is there, and the value is outside its domain
+-- the attribute is there, and one of the values is outside its domain
 abbrev pub is_outside : Attributes → WrittenItem → Bool
-is_outside s item = option_map_or (λ a. is_none (value_at s a item.value)) (attribute_named s item.attr) false
+is_outside s item = some_outside s (attribute_named s item.attr) (words_of item.values)
 
 -- the attribute of the first value outside its domain
 abbrev pub outside_domain : Attributes → List WrittenItem → Option AttrNo
 outside_domain s items = option_and_then (λ (item : WrittenItem). attribute_named s item.attr) (find (is_outside s) items)
 
--- the attribute and its value, where the schema has both
-abbrev pub assignment : Attributes → WrittenItem → Option (AttrNo × ℤ)
-assignment s item =
-    option_and_then (λ a. option_map (λ v. (a, v)) (value_at s a item.value)) (attribute_named s item.attr)
+abbrev pub has_many_values : WrittenItem → Bool
+has_many_values item = nat_lt SET_VALUES (length (words_of item.values))
+
+-- the number of written values of the first set that has more than 64
+abbrev pub large_set : List WrittenItem → Option ℕ
+large_set items = option_map (λ (item : WrittenItem). length (words_of item.values)) (find has_many_values items)
+
+-- the attribute and its set of values, where the schema has all of them
+abbrev pub assigned : Attributes → AttrNo → List Text → Option (AttrNo × List ℤ)
+assigned s a words = if has_outside s a words then None else Some (a, meant_values s a words)
+
+abbrev pub assignment : Attributes → WrittenItem → Option (AttrNo × List ℤ)
+assignment s item = option_and_then (λ a. assigned s a (words_of item.values)) (attribute_named s item.attr)
 
 abbrev pub assignments : Attributes → List WrittenItem → Assignments
 assignments s items = filter_map (assignment s) items
@@ -39,26 +49,27 @@ assignments s items = filter_map (assignment s) items
 abbrev pub again_after : Assignments → Assignments → Option AttrNo
 again_after before [] = None
 again_after before (item ∷ items) =
-    if is_some (value_of before item.0) then Some item.0 else again_after (before ++ item ∷ []) items
+    if is_some (values_of before item.0) then Some item.0 else again_after (before ++ item ∷ []) items
 
 -- the first attribute that stands a second time
 abbrev pub stands_twice : Assignments → Option AttrNo
 stands_twice items = again_after [] items
 
--- the values of the first n places, each with its attribute, where there is one
-abbrev pub by_place : ℕ → (ℕ → Option ℤ) → Assignments
-by_place zero value = []
-by_place (suc n) value = option_map_or (λ v. by_place n value ++ (numbered n, v) ∷ []) (value n) (by_place n value)
+-- the sets of the first n places, each with its attribute, where there is one
+abbrev pub by_place : ℕ → (ℕ → Option (List ℤ)) → Assignments
+by_place zero values = []
+by_place (suc n) values = option_map_or (λ vs. by_place n values ++ (numbered n, vs) ∷ []) (values n) (by_place n values)
 
--- the values of the first n attributes, by rising attribute
+-- the sets of the first n attributes, by rising attribute
 abbrev pub by_attribute : ℕ → Assignments → Assignments
-by_attribute n items = by_place n (λ place. value_of items (numbered place))
+by_attribute n items = by_place n (λ place. values_of items (numbered place))
 
 -- the first fault, in the order of the kinds
 abbrev pub fault_in : Attributes → List WrittenItem → Option EventFault
 fault_in s items =
     option_or (option_map (λ name. Attr name) (unknown_attr s items))
-    (option_or (option_map (λ a. Dom a) (outside_domain s items)) (option_map (λ a. Twice a) (stands_twice (assignments s items))))
+    (option_or (option_map (λ a. Dom a) (outside_domain s items))
+    (option_or (option_map (λ a. Twice a) (stands_twice (assignments s items))) (option_map (λ count. Many count) (large_set items))))
 
 abbrev pub judged : Assignments → Option EventFault → Result Assignments EventFault
 judged e None = Ok e
@@ -71,6 +82,11 @@ meaning s (Some items) = judged (by_attribute (length s) (assignments s items)) 
 -- the event that these tokens are, or the first fault
 abbrev pub event_of : Attributes → Option (List Lexeme) → Result Assignments EventFault
 event_of s ts = meaning s (option_and_then written ts)
+
+-- `-` alone is the empty event
+abbrev pub empty_event : Option (List Lexeme) → Result Assignments EventFault
+empty_event (Some (word w ∷ [])) = if same_text w (codes "-") then Ok [] else Err Bad
+empty_event _ = Err Bad
 
 -- the event that a text is, or its first fault
 abbrev pub event : Attributes → Text → Result Assignments EventFault

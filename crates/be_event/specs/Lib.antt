@@ -1,7 +1,7 @@
-pub mod Written
+pub mod Grammar
 pub mod Events
-pub mod ItemScans
-pub mod Canonical
+pub mod Scan
+pub mod Writing
 pub mod SchemaTexts
 pub mod Words
 pub mod Declarations

@@ -1,25 +1,20 @@
 -- The texts of schemas.
-use Rattle.std.specs.Prelude.{◌≡◌, ℕ, ◌+◌, ◌==◌, ◌||◌, not, Bool, true, false, List, [], ◌∷◌, ◌++◌, length, map, nat_le, nat_lt, Option, Some, None, option_map, option_and_then, Result, Ok, Err, codes, if◌then◌else◌}
+use Rattle.std.specs.Prelude.{◌≡◌, ℕ, ◌+◌, ◌==◌, ◌||◌, not, Bool, true, false, List, [], ◌∷◌, ◌++◌, length, nat_le, nat_lt, Option, Some, None, option_map, option_and_then, Result, Ok, Err, codes, if◌then◌else◌}
 use Rattle.std.specs.List.{list_all}
-use Rattle.std.specs.Str.Lines.{strip_carriage_return}
 use Rattle.be_base.specs.Text.{Text, same_text, name_of}
 use Rattle.be_base.specs.Numbers.{int_of}
 use Rattle.be_base.specs.Tokens.{is_blank}
 use Rattle.be_base.specs.Fronts.{starts_with}
-use Rattle.be_io.specs.Lines.{closed_lines, open_line, last_line}
+use Rattle.be_io.specs.FileLines.{file_lines}
 use Rattle.be_model.specs.declared.schemas.Attribute.{Attribute}
 use Rattle.be_model.specs.declared.schemas.Domain.{Domain}
 use Rattle.be_model.specs.declared.schemas.Domain.TheVariants.{Int, Sym}
 use Rattle.be_model.specs.Schemas.{Attributes, attribute_of, names_of_attributes, reserved_words, is_among_texts, all_differ, is_domain}
-use Rattle.be_event.specs.Written.{is_name}
+use Rattle.be_event.specs.Grammar.{is_name}
 use Rattle.be_event.specs.declared.schema_texts.SchemaFault.{SchemaFault}
 use Rattle.be_event.specs.declared.schema_texts.SchemaFault.TheVariants.{Line, NoMemory}
 use Rattle.be_event.specs.declared.schema_texts.SchemaKind.{SchemaKind}
 use Rattle.be_event.specs.declared.schema_texts.SchemaKind.TheVariants.{Form, Reserved, Twice, Range, Many}
-
--- the lines of a file. A CR directly before an LF isn't part of the line
-abbrev pub text_lines : Text → List Text
-text_lines text = map (λ line. strip_carriage_return line) (closed_lines text) ++ last_line true (open_line text)
 
 -- a byte before words: it is part of the first one, or a word of its own
 abbrev pub put_byte : ℕ → Bool → List Text → List Text
@@ -117,7 +112,7 @@ schema_from n s (line ∷ lines) =
 
 -- the schema that a text is, or its first fault
 abbrev pub schema_of : Text → Result Attributes SchemaFault
-schema_of text = schema_from 1 [] (text_lines text)
+schema_of text = schema_from 1 [] (file_lines text)
 
 -- what a reader answered is what the text is. Memory can run out only where it is a schema
 abbrev pub ReadsSchema : Result Attributes SchemaFault → Result Attributes SchemaFault → Type 0

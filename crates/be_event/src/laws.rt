@@ -1,7 +1,7 @@
 //! Laws of the texts of events. Each function's contract is a law, which its proof shows; to call one does nothing.
 
-ghost use Rattle.be_event.specs.Written.{ReadsAreWritten};
-ghost use Rattle.be_event.specs.Canonical.{TextsAreRead};
+ghost use Rattle.be_event.specs.Grammar.{ReadsAreWritten};
+ghost use Rattle.be_event.specs.Writing.{TextsAreRead};
 
 /// Tokens are read as items exactly where the grammar writes these items as those tokens. So each event has one
 /// reading.

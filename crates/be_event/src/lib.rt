@@ -2,6 +2,8 @@
 #![tactic(auto)]
 
 mod events;
+mod found;
+mod items;
 mod laws;
 mod schema_texts;
 mod words;
@@ -11,6 +13,3 @@ pub use events::{EventFault, read_event};
 pub use laws::{reads_are_written, texts_are_read};
 pub use schema_texts::{SchemaFault, SchemaKind, read_schema};
 pub use writing::write_event;
-
-#[cfg(test)]
-mod tests;

@@ -3,15 +3,15 @@
 ghost use Rattle.std.specs.Prelude.{◌≡◌, ◌<◌, ◌∷◌, Some, Ok, true, length, option_map, is_some, IfOk};
 ghost use Rattle.std.specs.List.{list_any};
 ghost use Rattle.be_base.specs.Text.{same_text};
-ghost use Rattle.std.specs.Str.Lines.{strip_carriage_return};
 ghost use Rattle.be_model.specs.declared.schemas.Domain.TheVariants.{Int};
 ghost use Rattle.be_model.specs.Schemas.{Attributes, attribute_of, is_among_texts, all_differ};
-ghost use Rattle.be_event.specs.SchemaTexts.{words, is_remark, int_domain, sym_domain, domain_of, text_lines, schema_of, ReadsSchema};
+ghost use Rattle.be_event.specs.SchemaTexts.{words, is_remark, int_domain, sym_domain, domain_of, schema_of, ReadsSchema};
 ghost use Rattle.be_event.specs.Declarations.{kind_name, names_declared, JudgesWords, Checks, flaws_of, flawed, declared_on};
 
 use crate::words::{are_different, are_names, count_words, next_word};
 use arrayvec::ArrayVec;
 use be_base::{ATTRIBUTES, Name, NoMemory, SYMBOLS, read_int};
+use be_io::first_line;
 use be_model::{Domain, Names, Schema, is_reserved};
 use std::alloc::Global;
 use std::fmt;
@@ -122,29 +122,6 @@ fn schema_with(alloc: Global, text: &[u8]) -> Result<Schema, NoMemory>
         rest = after;
     }
     Ok(schema)
-}
-
-// The first line of a text, and the text after it.
-fn first_line(text: &[u8]) -> (&[u8], &[u8])
-    requires { 0 < length text.now }
-    ensures lines { text_lines text.now ≡ result.0.now ∷ text_lines result.1.now }
-    ensures shorter { length result.1.now < length text.now }
-{
-    for (place, b) in text.iter().enumerate() {
-        if *b == b'\n' {
-            return (without_cr(&text[..place]), &text[place + 1..]);
-        }
-    }
-    (text, &text[text.len()..])
-}
-
-fn without_cr(line: &[u8]) -> &[u8]
-    ensures { result.now ≡ strip_carriage_return line.now }
-{
-    match line {
-        [before @ .., b'\r'] => before,
-        _ => line,
-    }
 }
 
 // The name of an attribute that was declared.

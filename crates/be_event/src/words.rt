@@ -4,19 +4,12 @@ ghost use Rattle.std.specs.Prelude.{◌≡◌, ◌<◌, ◌≤◌, ◌∷◌, tr
 ghost use Rattle.std.specs.List.{list_all};
 ghost use Rattle.be_base.specs.Text.{name_of};
 ghost use Rattle.be_base.specs.Tokens.{is_blank};
-ghost use Rattle.be_base.specs.Fronts.{starts_with};
 ghost use Rattle.be_model.specs.Schemas.{is_among_texts, all_differ};
-ghost use Rattle.be_event.specs.Written.{is_name};
+ghost use Rattle.be_event.specs.Grammar.{is_name};
 ghost use Rattle.be_event.specs.SchemaTexts.{words, begins_word};
 ghost use Rattle.be_event.specs.Words.{FirstWord};
 
-use be_base::Name;
-
-fn is_blank(b: u8) -> bool
-    ensures { result ≡ is_blank b }
-{
-    b == b' ' || b == b'\t'
-}
+use be_base::{Name, after_blanks, is_blank};
 
 // The first word of a text, and the text after it.
 pub(crate) fn next_word(text: &[u8]) -> Option<(&[u8], &[u8])>
@@ -27,21 +20,6 @@ pub(crate) fn next_word(text: &[u8]) -> Option<(&[u8], &[u8])>
         return None;
     }
     Some(text.split_at(word_len(text)))
-}
-
-// The text from its first byte that is no blank.
-#[tactic(auto, using(crate::proofs::WordLemmas::blank_skipped))]
-fn after_blanks(text: &[u8]) -> &[u8]
-    ensures same { words result.now ≡ words text.now }
-    ensures shorter { length result.now ≤ length text.now }
-    ensures first { starts_with is_blank result.now ≡ false }
-{
-    for (i, b) in text.iter().enumerate() {
-        if !is_blank(*b) {
-            return &text[i..];
-        }
-    }
-    &text[text.len()..]
 }
 
 // How many bytes at the text's front are of a word.

@@ -3,10 +3,10 @@
 ghost use Rattle.std.specs.Prelude.{◌≡◌, ◌++◌, true, All, Ok, IfOk, OnOk};
 ghost use Rattle.be_model.specs.Lies.{item_lies, event_lies};
 ghost use Rattle.be_event.specs.Events.{event};
-ghost use Rattle.be_event.specs.Canonical.{item_text, event_text, IsSpelled};
+ghost use Rattle.be_event.specs.Writing.{item_text, event_text, IsSpelled};
 
 use be_base::{AttrNo, NoMemory};
-use be_model::{Event, Schema};
+use be_model::{Event, Schema, Values};
 use std::alloc::Global;
 
 /// The canonical text of an event.
@@ -23,7 +23,11 @@ pub fn write_event(alloc: Global, schema: &Schema, e: &Event) -> Result<Vec<u8>,
     Ok(text)
 }
 
-fn put_items(schema: &Schema, items: &[(AttrNo, i64)], text: &mut Vec<u8>) -> Result<(), NoMemory>
+fn put_items(
+    schema: &Schema,
+    items: &[(AttrNo, Values)],
+    text: &mut Vec<u8>,
+) -> Result<(), NoMemory>
     requires { event_lies schema.now items.now ≡ true }
     ensures written { OnOk result (text.new.items ≡ text.old.items ++ event_text schema.now items.now) }
     ensures spelled { OnOk result (All (IsSpelled schema.now) items.now) }
@@ -40,12 +44,18 @@ fn put_items(schema: &Schema, items: &[(AttrNo, i64)], text: &mut Vec<u8>) -> Re
     Ok(())
 }
 
-fn put_item(schema: &Schema, item: &(AttrNo, i64), text: &mut Vec<u8>) -> Result<(), NoMemory>
+fn put_item(schema: &Schema, item: &(AttrNo, Values), text: &mut Vec<u8>) -> Result<(), NoMemory>
     requires { item_lies schema.now item.now ≡ true }
     ensures written { OnOk result (text.new.items ≡ text.old.items ++ item_text schema.now item.now) }
     ensures spelled { OnOk result (IsSpelled schema.now item.now) }
 {
-    schema.write_name(item.0, text)?;
-    text.extend_from_slice(b"=")?;
-    schema.write_value(item.0, item.1, text)
+    let (attr, values) = item;
+    schema.write_name(*attr, text)?;
+    match values.as_slice() {
+        [value] => schema.write_behind(b"=", *attr, value, text),
+        values => {
+            text.extend_from_slice(b"=")?;
+            schema.write_set(*attr, values, text)
+        }
+    }
 }

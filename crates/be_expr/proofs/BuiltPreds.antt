@@ -1,23 +1,24 @@
 -- Predicates of a text without a fault.
-use Rattle.std.proofs.Common.{◌≡◌, ℕ, ◌+◌, ◌≤◌, ◌<◌, ◌&&◌, not, Bool, true, false, List, [], ◌∷◌, ◌++◌, append_assoc, length, map, nat_lt, Option, Some, None, Bor, option_map, option_and_then, refl, sym, ◌∙◌, ap, subst, arith}
+use Rattle.std.proofs.Common.{◌≡◌, ℕ, ◌+◌, ◌≤◌, ◌<◌, ◌&&◌, not, true, false, List, [], ◌∷◌, ◌++◌, append_assoc, length, map, nat_lt, Option, Some, None, Bor, option_map, option_and_then, IsSome, refl, sym, ◌∙◌, ap, subst, arith}
 use Rattle.std.specs.List.{list_all}
 use Rattle.std.specs.Option.{is_none, option_map_or}
 use Rattle.std.proofs.lemmas.Bool.Decides.{nat_tests}
-use Rattle.std.proofs.lemmas.Bool.{or_parts}
+use Rattle.std.proofs.lemmas.Bool.{or_parts, and_parts, not-true}
 use Rattle.be_base.specs.Text.{Text}
 use Rattle.be_base.specs.Tokens.{Lexeme}
 use Rattle.be_base.specs.declared.names.AttrNo.{AttrNo}
-use Rattle.be_model.specs.declared.conditions.Op.{Op}
-use Rattle.be_model.specs.declared.conditions.Pred.{Pred}
+use Rattle.be_model.specs.declared.ops.Op.{Op}
+use Rattle.be_model.specs.declared.preds.Pred.{Pred}
 use Rattle.be_model.specs.Schemas.{Attributes, numbered, attribute_named}
-use Rattle.be_model.specs.Assigned.{value_at}
-use Rattle.be_expr.specs.Written.{WrittenOp, between, WrittenPred}
-use Rattle.be_expr.specs.Readings.{Read, with_attr, read_pred}
+use Rattle.be_base.specs.Readers.{Read}
+use Rattle.be_model.specs.Schemas.{value_at}
+use Rattle.be_model.specs.SetTexts.{has_outside}
+use Rattle.be_expr.specs.Grammar.{WrittenOp, between, WrittenPred}
+use Rattle.be_expr.specs.Readings.{with_attr, read_pred}
 use Rattle.be_expr.specs.Parts.{read_end, read_head, end_of, with_values}
 use Rattle.be_expr.specs.Expressions.{words_of, is_unknown, is_outside, has_many_values, meant_pred}
 use Rattle.be_expr.specs.Faults.{preds_in}
-use Rattle.be_expr.specs.Building.{has_unknown_value, FineOp, is_fine, FinePred, FinePreds, op_with, pred_with}
-use Rattle.be_expr.proofs.Grammar.{and_parts}
+use Rattle.be_expr.specs.Build.{FineOp, is_fine, FinePred, FinePreds, op_with, pred_with}
 use Rattle.be_expr.proofs.InParts.{no_pred_first}
 use Rattle.be_expr.proofs.Joining.{before, preds_behind, preds_then, preds_by_first, preds_step, preds_left, left_by_end}
 
@@ -25,22 +26,18 @@ use Rattle.be_expr.proofs.Joining.{before, preds_behind, preds_then, preds_by_fi
 abbrev pub meant_behind : Attributes → List Pred → List WrittenPred → List Pred
 meant_behind s conj ps = conj ++ map (meant_pred s) ps
 
-false_if_not : (b : Bool) → not b ≡ true → b ≡ false
-false_if_not true h = absurd (cc)
-false_if_not false h = refl
-
 pub ends_have_values : (s : Attributes) (a : AttrNo) (v w : Text) (left : Option (List Lexeme)) → FineOp s a (with_values (between v w) left)
     → (is_none (value_at s a v) ≡ false) × (is_none (value_at s a w) ≡ false)
 ends_have_values s a v w None h = absurd h
 ends_have_values s a v w (Some ts) h =
-    let parts = or_parts (is_none (value_at s a v)) (has_unknown_value s a (w ∷ [])) h.0 in
+    let parts = or_parts (is_none (value_at s a v)) (has_outside s a (w ∷ [])) h.0 in
     (parts.0, (or_parts (is_none (value_at s a w)) false parts.1).0)
 
 pub fine_parts : (s : Attributes) (p : WrittenPred) → is_fine s p ≡ true → (is_unknown s p ≡ false) × (is_outside s p ≡ false) × (has_many_values p ≡ false)
 fine_parts s p h =
     let outer = and_parts (not (is_unknown s p) && not (is_outside s p)) (not (has_many_values p)) h in
     let inner = and_parts (not (is_unknown s p)) (not (is_outside s p)) outer.0 in
-    (false_if_not (is_unknown s p) inner.0, false_if_not (is_outside s p) inner.1, false_if_not (has_many_values p) outer.1)
+    (not-true (is_unknown s p) inner.0, not-true (is_outside s p) inner.1, not-true (has_many_values p) outer.1)
 
 pub fine_has_attr : (s : Attributes) (name : Text) (o : Read WrittenOp) → FinePred s (option_map (with_attr name) o) → None ≡ attribute_named s name → ⊥
 fine_has_attr s name None h none = h
@@ -55,7 +52,7 @@ pub fine_op : (s : Attributes) (name : Text) (a : AttrNo) (o : Read WrittenOp) �
 fine_op s name a None h there = h
 fine_op s name a (Some r) h there =
     let parts = fine_parts s (record { attr = name; op = r.0 }) h in
-    (ap (λ (o : Option AttrNo). option_map_or (λ b. has_unknown_value s b (words_of r.0)) o false) there ∙ parts.1, few_values (length (words_of r.0)) parts.2)
+    (ap (λ (o : Option AttrNo). option_map_or (λ b. has_outside s b (words_of r.0)) o false) there ∙ parts.1, few_values (length (words_of r.0)) parts.2)
 
 -- a predicate, by what its operator and values are built into
 pub pred_is_built : (s : Attributes) (name : Text) (a : AttrNo) (op : Op) (o : Read WrittenOp) (left : Option (List Lexeme)) → Some a ≡ attribute_named s name
@@ -133,3 +130,10 @@ one_more_built s conj more x o left after is p q =
 
 pub no_head_is_unfine : (s : Attributes) (o : Option (List Lexeme)) → FinePred s (option_and_then read_pred o) → None ≡ option_and_then read_head o → ⊥
 no_head_is_unfine s o fine h = subst (FinePred s) (no_pred_first o h) fine
+
+-- behind a predicate without a fault the text ends, or goes on with an `and`
+pub end_is_there : (s : Attributes) (n : ℕ) (x : Pred) (o left : Option (List Lexeme)) (end : Option (Option (Bor Text)))
+    → FinePreds s n (option_and_then preds_in o) → option_map (before x) left ≡ option_map (pred_with s) (option_and_then read_pred o) → end_of end ≡ option_and_then read_end left
+    → IsSome end
+end_is_there s n x o left None fine p q = absurd (rest_then s n x (option_and_then read_pred o) left None (subst (FinePreds s n) (preds_by_first o) fine) p q)
+end_is_there s n x o left (Some after) fine p q = refl

@@ -1,20 +1,20 @@
 -- The tokens of canonical texts.
-use Rattle.std.proofs.Common.{◌≡◌, ℤ, false, List, [], ◌∷◌, ◌++◌, map, All, Some, codes, append_assoc, append-nil, refl, sym, ap, ◌∙◌, arith}
-use Rattle.std.specs.List.{join_by}
+use Rattle.std.proofs.Common.{◌≡◌, ℤ, List, [], ◌∷◌, ◌++◌, map, All, Some, codes, append_assoc, append-nil, refl, ap, ◌∙◌, arith}
 use Rattle.std.proofs.lemmas.List.Elements.{All-head, All-tail}
 use Rattle.be_base.specs.Text.{Text, IsWord, is_word_byte}
-use Rattle.be_base.specs.Fronts.{starts_with}
-use Rattle.be_base.specs.Tokens.{Lexeme, word, less, less_or_equal, equal, not_equal, greater_or_equal, greater, open_brace, close_brace, comma, tokens}
-use Rattle.be_base.proofs.Joined.{IsWord-from_name, word_then, word_alone, word_space, space_then, comma_then, open_then, close_then, less_space, less_or_equal_space, equal_space, not_equal_space, greater_or_equal_space, greater_space}
-use Rattle.be_model.specs.declared.conditions.Op.{Op}
-use Rattle.be_model.specs.declared.conditions.Op.TheVariants.{Lt, Le, Eq, Ne, Ge, Gt, Between, OneOf, NoneOf}
-use Rattle.be_model.specs.declared.conditions.Pred.{Pred}
+use Rattle.be_base.specs.Tokens.{Lexeme, word, less, less_or_equal, equal, not_equal, greater_or_equal, greater, tokens}
+use Rattle.be_base.specs.Sets.{set_tokens, set_text}
+use Rattle.be_base.proofs.SetTokens.{AreWords, Ends, set_then}
+use Rattle.be_base.proofs.Joined.{IsWord-from_name, word_then, word_alone, word_space, space_then, less_space, less_or_equal_space, equal_space, not_equal_space, greater_or_equal_space, greater_space}
+use Rattle.be_model.specs.declared.ops.Op.{Op}
+use Rattle.be_model.specs.declared.ops.Op.TheVariants.{Lt, Le, Eq, Ne, Ge, Gt, Between, OneOf, NoneOf}
+use Rattle.be_model.specs.declared.preds.Pred.{Pred}
 use Rattle.be_model.specs.Schemas.{Attributes}
 use Rattle.be_model.specs.Forms.{AreValues, OpForm}
 use Rattle.be_model.specs.Lies.{values_in}
 use Rattle.be_model.specs.Texts.{value_text_at, name_at}
-use Rattle.be_expr.specs.Written.{WrittenOp, compared, between, among, not_among, WrittenPred, value_tokens, set_tokens, op_tokens, pred_tokens, condition_tokens}
-use Rattle.be_expr.specs.Canonical.{set_text, op_text, pred_text, expr_text, IsSpelled}
+use Rattle.be_expr.specs.Grammar.{WrittenOp, compared, between, among, not_among, WrittenPred, op_tokens, pred_tokens, condition_tokens}
+use Rattle.be_expr.specs.Writing.{op_text, pred_text, expr_text, IsSpelled}
 
 -- a comparison, as it is written
 abbrev pub written_op : (ℤ → Text) → Op → WrittenOp
@@ -31,37 +31,10 @@ written_op value (NoneOf vs) = not_among (map value vs)
 abbrev pub written_pred : Attributes → Pred → WrittenPred
 written_pred s p = record { attr = name_at s p.attr; op = written_op (value_text_at s p.attr) p.op }
 
-abbrev AreWords : (ℤ → Text) → List ℤ → Type 0
-AreWords value vs = All (λ v. IsWord (value v)) vs
-
--- a text whose first byte is of no word
-abbrev Ends : Text → Type 0
-Ends rest = starts_with is_word_byte rest ≡ false
-
-values_lexed : (value : ℤ → Text) (v : ℤ) (vs : List ℤ) (rest : Text) (us : List Lexeme) → AreWords value (v ∷ vs) → Ends rest → tokens rest ≡ Some us
-    → tokens (join_by value (codes ",") (v ∷ vs) ++ rest) ≡ Some (value_tokens (map value (v ∷ vs)) ++ us)
-unfolding is_word_byte
-values_lexed value v [] rest us words ends e =
-    ap (λ text. tokens (text ++ rest)) (append-nil (value v))
-    ∙ word_then (value v) rest us (All-head (λ x. IsWord (value x)) v [] words) ends e
-values_lexed value v (w ∷ ws) rest us words ends e =
-    let more = join_by value (codes ",") (w ∷ ws) in
-    let after = values_lexed value w ws rest us (All-tail (λ x. IsWord (value x)) v (w ∷ ws) words) ends e in
-    ap tokens (append_assoc (value v) (44 ∷ more) rest)
-    ∙ word_then (value v) (44 ∷ (more ++ rest)) (comma ∷ (value_tokens (map value (w ∷ ws)) ++ us)) (All-head (λ x. IsWord (value x)) v (w ∷ ws) words) refl
-    (comma_then (more ++ rest) (value_tokens (map value (w ∷ ws)) ++ us) after)
-
 set_lexed : (value : ℤ → Text) (vs : List ℤ) (rest : Text) (us : List Lexeme) → AreValues vs → AreWords value vs → tokens rest ≡ Some us
     → tokens (set_text value vs ++ rest) ≡ Some (set_tokens (map value vs) ++ us)
-unfolding is_word_byte
 set_lexed value [] rest us form words e = absurd (omega (arith, form.some))
-set_lexed value (v ∷ vs) rest us form words e =
-    let inner = join_by value (codes ",") (v ∷ vs) in
-    let named = value_tokens (map value (v ∷ vs)) in
-    ap (λ text. tokens (123 ∷ text)) (append_assoc inner (codes "}") rest)
-    ∙ open_then (inner ++ 125 ∷ rest) (named ++ close_brace ∷ us)
-    (values_lexed value v vs (125 ∷ rest) (close_brace ∷ us) words refl (close_then rest us e))
-    ∙ ap (λ (ts : List Lexeme). Some (open_brace ∷ ts)) (sym (append_assoc named (close_brace ∷ []) us))
+set_lexed value (v ∷ vs) rest us form words e = set_then value v vs rest us words e
 
 IsWord-in : IsWord (codes "in")
 unfolding is_word_byte

@@ -12,7 +12,7 @@ use Rattle.be_model.specs.declared.changes.Row.{Row}
 use Rattle.be_model.specs.Entries.{subscribed, unsubscribed, left}
 use Rattle.be_model.specs.Schemas.{Attributes}
 use Rattle.be_expr.specs.Expressions.{condition, expression}
-use Rattle.be_expr.specs.Canonical.{expr_text}
+use Rattle.be_expr.specs.Writing.{expr_text}
 use Rattle.be_expr.specs.Changes.{head_text, change_text, change_by, change_of, change, subscribing, unsubscribing, IsReadBack, ChangesAreRead}
 use Rattle.be_expr.proofs.CanonicalMeaning.{texts_are_read}
 

@@ -4,14 +4,14 @@ use Rattle.std.specs.Option.{option_map_or}
 use Rattle.be_base.specs.Text.{Text, name_of, same_text}
 use Rattle.be_base.specs.Numbers.{count_of}
 use Rattle.be_base.specs.Tokens.{Lexeme, word}
+use Rattle.be_base.specs.Readers.{Read, read_word}
 use Rattle.be_base.specs.declared.names.NameFault.{NameFault}
 use Rattle.be_model.specs.Schemas.{Attributes}
 use Rattle.be_model.specs.Entries.{Entry}
 use Rattle.be_expr.specs.declared.faults.ExprFault.{ExprFault}
 use Rattle.be_expr.specs.declared.faults.ExprFault.TheVariants.{Bad}
-use Rattle.be_expr.specs.Readings.{Read}
 use Rattle.be_expr.specs.Expressions.{condition}
-use Rattle.be_expr.specs.Parts.{PlainFront, front_of, read_word, read_number, read_front}
+use Rattle.be_expr.specs.Parts.{PlainFront, front_of, read_number, read_front}
 use Rattle.be_expr.specs.Changes.{subscribing, subscription, removal, leave, change_by, change_of, change_in}
 
 abbrev front_then : Attributes → ℕ → PlainFront × List Lexeme → Result Entry ExprFault

@@ -2,28 +2,20 @@
 use Rattle.std.proofs.Common.{◌≡◌, ℕ, zero, suc, ◌+◌, ◌≤◌, ◌<◌, ◌&&◌, Bool, true, false, List, [], ◌∷◌, ◌++◌, length, Option, Some, None, option_map, option_and_then, codes, refl, sym, ◌∙◌, ap, subst, arith, append_assoc, append-nil, length-append, if◌then◌else◌}
 use Rattle.be_base.specs.Text.{Text, same_text}
 use Rattle.be_base.specs.Tokens.{Lexeme, word, less, less_or_equal, equal, not_equal, greater_or_equal, greater, open_brace, close_brace, comma, blank, stray}
+use Rattle.be_base.specs.Readers.{Read}
+use Rattle.be_base.specs.Sets.{value_tokens, set_tokens, is_filled, read_values}
 use Rattle.be_base.proofs.SameText.{equal_from_same_text}
-use Rattle.be_expr.specs.Written.{WrittenOp, compared, between, among, not_among, WrittenPred, value_tokens, set_tokens, op_tokens, pred_tokens, condition_tokens, is_attr, is_filled, op_is_written, are_written}
-use Rattle.be_expr.specs.Readings.{Read, with_value, read_values, read_set, read_not, read_between, read_worded, read_op, with_attr, read_pred, read_joined, read_preds, written, ReadsAreWritten}
-
-pub and_parts : (a b : Bool) → (a && b) ≡ true → (a ≡ true) × (b ≡ true)
-and_parts true b h = (refl, h)
-and_parts false b h = absurd (cc)
-
-pub both : (a b : Bool) → a ≡ true → b ≡ true → (a && b) ≡ true
-both a b p q = cc
-
--- the values of a set are read
-values_are_read : (v : Text) (vs : List Text) (ts : List Lexeme) → read_values (value_tokens (v ∷ vs) ++ close_brace ∷ ts) ≡ Some (v ∷ vs, ts)
-values_are_read v [] ts = refl
-values_are_read v (w ∷ vs) ts = ap (option_map (with_value v)) (values_are_read w vs ts)
+use Rattle.be_base.proofs.SetReadings.{read_values-value_tokens, ValuesRead, values_are_written}
+use Rattle.std.proofs.lemmas.Bool.{and_parts, and_from}
+use Rattle.be_expr.specs.Grammar.{WrittenOp, compared, between, among, not_among, WrittenPred, op_tokens, pred_tokens, condition_tokens, is_attr, op_is_written, are_written}
+use Rattle.be_expr.specs.Readings.{read_set, read_not, read_between, read_worded, read_op, with_attr, read_pred, read_joined, read_preds, written, ReadsAreWritten}
 
 set_is_read : (op : List Text → WrittenOp) (vs : List Text) (ts : List Lexeme) → is_filled vs ≡ true
     → read_set op (set_tokens vs ++ ts) ≡ Some (op vs, ts)
 set_is_read op [] ts h = absurd (cc)
 set_is_read op (v ∷ vs) ts h =
     ap (λ (rest : List Lexeme). option_map (λ (r : List Text × List Lexeme). (op r.0, r.1)) (read_values rest)) (append_assoc (value_tokens (v ∷ vs)) (close_brace ∷ []) ts)
-    ∙ ap (option_map (λ (r : List Text × List Lexeme). (op r.0, r.1))) (values_are_read v vs ts)
+    ∙ ap (option_map (λ (r : List Text × List Lexeme). (op r.0, r.1))) (read_values-value_tokens v vs ts)
 
 op_is_read : (op : WrittenOp) (ts : List Lexeme) → op_is_written op ≡ true → read_op (op_tokens op ++ ts) ≡ Some (op, ts)
 op_is_read (compared less v) ts h = refl
@@ -80,21 +72,6 @@ tokens_are_read (p ∷ ps) h =
     let many = tokens_are_many p ps in
     several_are_preds (condition_tokens (p ∷ ps)) (omega arith)
     ∙ preds_are_read (length (condition_tokens (p ∷ ps))) p ps (omega arith) h
-
--- values that were read are written so
-abbrev ValuesRead : List Lexeme → Read (List Text) → Type 0
-ValuesRead ts None = Unit
-ValuesRead ts (Some r) = (is_filled r.0 ≡ true) × (value_tokens r.0 ++ close_brace ∷ r.1 ≡ ts)
-
-one_more_value : (v : Text) (ts : List Lexeme) (o : Read (List Text)) → ValuesRead ts o → ValuesRead (word v ∷ comma ∷ ts) (option_map (with_value v) o)
-one_more_value v ts None h = tt
-one_more_value v ts (Some ([], rest)) h = absurd (cc (h.0))
-one_more_value v ts (Some (w ∷ ws, rest)) h = (refl, ap (λ (after : List Lexeme). word v ∷ comma ∷ after) h.1)
-
-values_are_written : (ts : List Lexeme) → ValuesRead ts (read_values ts)
-values_are_written (word v ∷ comma ∷ ts) = one_more_value v ts (read_values ts) (values_are_written ts)
-values_are_written (word v ∷ close_brace ∷ ts) = (refl, refl)
-values_are_written _ = tt
 
 abbrev OpRead : List Lexeme → Read WrittenOp → Type 0
 OpRead ts None = Unit
@@ -168,7 +145,7 @@ attr_before_op : (a : Text) (b : Bool) (ts : List Lexeme) (o : Read WrittenOp) �
     → PredRead (word a ∷ ts) (if b then option_map (with_attr a) o else None)
 attr_before_op a false ts o e h = tt
 attr_before_op a true ts None e h = tt
-attr_before_op a true ts (Some (op, rest)) e h = (both (is_attr a) (op_is_written op) e h.0, ap (λ (after : List Lexeme). word a ∷ after) h.1)
+attr_before_op a true ts (Some (op, rest)) e h = (and_from (is_attr a) (op_is_written op) e h.0, ap (λ (after : List Lexeme). word a ∷ after) h.1)
 
 pub pred_is_written : (ts : List Lexeme) → PredRead ts (read_pred ts)
 pred_is_written (word a ∷ ts) = attr_before_op a (is_attr a) ts (read_op ts) refl (op_is_as_written ts)
@@ -184,11 +161,11 @@ pred_before_preds : (p : WrittenPred) (o : Option (List WrittenPred)) (ts : List
 pred_before_preds p None ts h rest = tt
 pred_before_preds p (Some []) ts h rest = absurd rest
 pred_before_preds p (Some (q ∷ ps)) ts h rest =
-    (both (is_attr p.attr && op_is_written p.op) (are_written (q ∷ ps)) h rest.0, ap (λ (after : List Lexeme). pred_tokens p ++ word (codes "and") ∷ after) rest.1)
+    (and_from (is_attr p.attr && op_is_written p.op) (are_written (q ∷ ps)) h rest.0, ap (λ (after : List Lexeme). pred_tokens p ++ word (codes "and") ∷ after) rest.1)
 
 joined_are_written : (rest : List Lexeme → Option (List WrittenPred)) (p : WrittenPred) (ts : List Lexeme) → ((after : List Lexeme) → AreRead after (rest after))
     → (is_attr p.attr && op_is_written p.op) ≡ true → AreRead (pred_tokens p ++ ts) (read_joined rest p ts)
-joined_are_written rest p [] each h = (both (is_attr p.attr && op_is_written p.op) true h refl, sym (append-nil (pred_tokens p)))
+joined_are_written rest p [] each h = (and_from (is_attr p.attr && op_is_written p.op) true h refl, sym (append-nil (pred_tokens p)))
 joined_are_written rest p (word w ∷ ts) each h =
     after_word w (codes "and") (same_text w (codes "and")) _ _ (λ (text : Text) (o : Option (List WrittenPred)). AreRead (pred_tokens p ++ word text ∷ ts) o) refl
     (pred_before_preds p (rest ts) ts h (each ts)) tt

@@ -2,9 +2,10 @@
 use Rattle.std.proofs.Common.{◌≡◌, Bool, true, false, List, [], ◌∷◌, Option, Some, None, option_map, option_and_then, codes, refl, sym, ◌∙◌, ap, if◌then◌else◌}
 use Rattle.be_base.specs.Text.{Text, same_text}
 use Rattle.be_base.specs.Tokens.{Lexeme, word, less, less_or_equal, equal, not_equal, greater_or_equal, greater, open_brace, close_brace, comma, blank, stray}
-use Rattle.be_expr.specs.Written.{WrittenOp, compared, between, among, not_among, WrittenPred, is_attr}
-use Rattle.be_expr.specs.Readings.{Read, with_attr, with_value, read_values, read_set, read_not, read_between, read_op, read_pred}
-use Rattle.be_expr.specs.Parts.{read_word, read_attr, after_word, read_ends, read_brace, read_opening, read_head, read_value, with_values}
+use Rattle.be_base.specs.Readers.{Read, read_word, after_word}
+use Rattle.be_expr.specs.Grammar.{WrittenOp, compared, between, among, not_among, WrittenPred, is_attr}
+use Rattle.be_expr.specs.Readings.{with_attr, read_set, read_not, read_between, read_op, read_pred}
+use Rattle.be_expr.specs.Parts.{read_attr, read_ends, read_brace, read_opening, read_head, with_values}
 
 -- a word that was read first is the attribute where it may be one
 attr_of_word : (ts : List Lexeme) → read_attr ts ≡ option_and_then (λ (r : Text × List Lexeme). if is_attr r.0 then Some r else None) (read_word ts)
@@ -68,38 +69,6 @@ wrapped attr op (Some ts) = refl
 pub head_of : (attr : Text) (op : WrittenOp) (left rest : Option (List Lexeme)) → option_map (λ ts. (op, ts)) left ≡ option_and_then read_opening rest
     → option_map (λ ts. (record { attr = attr; op = op }, ts)) left ≡ option_map (with_attr attr) (option_and_then read_opening rest)
 head_of attr op left rest h = wrapped attr op left ∙ ap (option_map (with_attr attr)) h
-
--- the values that are left: none behind the last one
-abbrev pub values_after : Bool → Option (List Lexeme) → Read (List Text)
-values_after true o = option_map (λ ts. ([], ts)) o
-values_after false o = option_and_then read_values o
-
-abbrev one_then : (Text × Bool) × List Lexeme → Read (List Text)
-one_then r = option_map (with_value r.0.0) (values_after r.0.1 (Some r.1))
-
-values_by_one : (ts : List Lexeme) → read_values ts ≡ option_and_then one_then (read_value ts)
-values_by_one (word v ∷ comma ∷ ts) = refl
-values_by_one (word v ∷ close_brace ∷ ts) = refl
-values_by_one _ = refl
-
-values_are_by_one : (o : Option (List Lexeme)) → option_and_then read_values o ≡ option_and_then one_then (option_and_then read_value o)
-values_are_by_one None = refl
-values_are_by_one (Some ts) = values_by_one ts
-
-one_met : (v : Text) (is_last : Bool) (rest : Option (List Lexeme))
-    → option_and_then one_then (option_map (λ ts. ((v, is_last), ts)) rest) ≡ option_map (with_value v) (values_after is_last rest)
-one_met v true None = refl
-one_met v false None = refl
-one_met v true (Some ts) = refl
-one_met v false (Some ts) = refl
-
--- a value, and those behind it
-pub value_first : (v : Text) (is_last : Bool) (o rest : Option (List Lexeme)) → option_map (λ ts. ((v, is_last), ts)) rest ≡ option_and_then read_value o
-    → option_and_then read_values o ≡ option_map (with_value v) (values_after is_last rest)
-value_first v is_last o rest h = values_are_by_one o ∙ ap (option_and_then one_then) (sym h) ∙ one_met v is_last rest
-
-pub no_value_first : (o : Option (List Lexeme)) → None ≡ option_and_then read_value o → option_and_then read_values o ≡ None
-no_value_first o h = values_are_by_one o ∙ ap (option_and_then one_then) (sym h)
 
 -- an operator as it was read, with the values that are left
 abbrev op_then : WrittenOp × List Lexeme → Read WrittenOp

@@ -1,10 +1,11 @@
 -- The predicates of a text, one after the other.
 use Rattle.std.proofs.Common.{◌≡◌, ℕ, zero, suc, ◌+◌, ◌-◌, ◌≤◌, ◌<◌, ◌&&◌, Bool, true, false, List, [], ◌∷◌, length, length-append, Option, Some, None, IfSome, Bor, option_map, option_and_then, codes, refl, sym, ◌∙◌, ap, subst, arith, if◌then◌else◌}
-use Rattle.std.specs.Option.{option_map_or}
+use Rattle.std.specs.Option.{option_map_or, option_or}
 use Rattle.be_base.specs.Text.{Text, same_text}
 use Rattle.be_base.specs.Tokens.{Lexeme, word, tokens}
-use Rattle.be_expr.specs.Written.{WrittenPred, is_attr, pred_tokens}
-use Rattle.be_expr.specs.Readings.{Read, with_attr, read_pred, read_joined, read_preds, written}
+use Rattle.be_base.specs.Readers.{Read}
+use Rattle.be_expr.specs.Grammar.{WrittenPred, is_attr, pred_tokens}
+use Rattle.be_expr.specs.Readings.{with_attr, read_pred, read_joined, read_preds, written}
 use Rattle.be_expr.specs.Parts.{is_all, read_end, end_of}
 use Rattle.be_expr.specs.Faults.{preds_in}
 use Rattle.be_expr.proofs.Grammar.{PredRead, pred_is_written}
@@ -145,22 +146,32 @@ no_op_alone a false = refl
 one_word : (w : Text) → preds_in (word w ∷ []) ≡ None
 one_word w = ap (option_and_then (λ (r : WrittenPred × List Lexeme). read_joined (read_preds 0) r.0 r.1)) (no_op_alone w (is_attr w))
 
-all_if : (w : Text) (b : Bool) → (if b then Some [] else None) ≡ (if b && true then Some [] else preds_in (word w ∷ []))
-all_if w true = refl
-all_if w false = sym (one_word w)
+one_if : (w : Text) (b : Bool) → same_text w (codes "all") ≡ b → (if b then Some [] else None) ≡ option_or (preds_in (word w ∷ [])) (if b && true then Some [] else None)
+one_if w true e = ap (λ o. option_or o (Some [])) (sym (one_word w))
+one_if w false e = ap (λ o. option_or o None) (sym (one_word w))
 
-never : (b : Bool) (x y : Option (List WrittenPred)) → y ≡ (if b && false then x else y)
-never true x y = refl
-never false x y = refl
+never : (b : Bool) (o : Option (List WrittenPred)) → o ≡ option_or o (if b && false then Some [] else None)
+never true None = refl
+never false None = refl
+never b (Some ps) = refl
 
-written_by_all : (ts : List Lexeme) → written ts ≡ (if is_all ts then Some [] else preds_in ts)
-written_by_all [] = refl
-written_by_all (word w ∷ []) = all_if w (same_text w (codes "all"))
-written_by_all (t ∷ []) = refl
-written_by_all (word w ∷ u ∷ ts) = never (same_text w (codes "all")) (Some []) (preds_in (word w ∷ u ∷ ts))
-written_by_all (t ∷ u ∷ ts) = refl
+written_by_preds : (ts : List Lexeme) → written ts ≡ option_or (preds_in ts) (if is_all ts then Some [] else None)
+written_by_preds [] = refl
+written_by_preds (word w ∷ []) = one_if w (same_text w (codes "all")) refl
+written_by_preds (t ∷ []) = refl
+written_by_preds (word w ∷ u ∷ ts) = never (same_text w (codes "all")) (preds_in (word w ∷ u ∷ ts))
+written_by_preds (t ∷ u ∷ ts) = never false (preds_in (t ∷ u ∷ ts))
 
--- `all` alone, or else predicates
-pub written_if : (o : Option (List Lexeme)) → option_and_then written o ≡ (if option_map_or is_all o false then Some [] else option_and_then preds_in o)
+-- predicates, or else `all` alone
+pub written_if : (o : Option (List Lexeme)) → option_and_then written o ≡ option_or (option_and_then preds_in o) (if option_map_or is_all o false then Some [] else None)
 written_if None = refl
-written_if (Some ts) = written_by_all ts
+written_if (Some ts) = written_by_preds ts
+
+some_are_preds : (all : Bool) (o : Option (List WrittenPred)) (ps : List WrittenPred) → option_or o (if all then Some [] else None) ≡ Some ps → ¬ (length ps ≡ 0) → o ≡ Some ps
+some_are_preds all (Some qs) ps h some = h
+some_are_preds true None ps h some = let none : [] ≡ ps = cc in absurd (some (ap length (sym none)))
+some_are_preds false None ps h some = absurd (cc)
+
+-- where there is a predicate, the text isn't `all`
+pub written_preds : (o : Option (List Lexeme)) (ps : List WrittenPred) → option_and_then written o ≡ Some ps → ¬ (length ps ≡ 0) → option_and_then preds_in o ≡ Some ps
+written_preds o ps h some = some_are_preds (option_map_or is_all o false) (option_and_then preds_in o) ps (sym (written_if o) ∙ h) some

@@ -1,14 +1,15 @@
 -- A fault of a condition names attributes of the schema.
 use Rattle.std.proofs.Common.{◌≡◌, List, length, map, find, subst, IfErr, Option, Some, None, option_map, option_and_then, Result, Ok, Err, refl, cond, true, false, Bool, nat_lt}
+use Rattle.std.specs.Option.{option_or}
 use Rattle.be_base.specs.Text.{Text}
 use Rattle.be_base.specs.Tokens.{tokens}
 use Rattle.be_base.specs.declared.names.AttrNo.{AttrNo}
-use Rattle.be_model.specs.declared.conditions.Pred.{Pred}
+use Rattle.be_model.specs.declared.preds.Pred.{Pred}
 use Rattle.be_model.specs.Schemas.{Attributes, attribute_named}
 use Rattle.be_model.proofs.NamedBelow.{named_below}
-use Rattle.be_expr.specs.Written.{WrittenPred}
+use Rattle.be_expr.specs.Grammar.{WrittenPred}
 use Rattle.be_expr.specs.Readings.{written}
-use Rattle.be_expr.specs.Expressions.{unknown_attr, is_unknown, outside_domain, is_outside, too_many, has_many_values, words_of, or_else, fault_in, judged, meaning, meant_pred, expression, Reads, IsKnown}
+use Rattle.be_expr.specs.Expressions.{unknown_attr, is_unknown, outside_domain, is_outside, too_many, has_many_values, words_of, fault_in, judged, meaning, meant_pred, expression, Reads, IsKnown}
 use Rattle.be_expr.specs.declared.faults.ExprFault.{ExprFault}
 use Rattle.be_expr.specs.declared.faults.ExprFault.TheVariants.{Bad, Attr, Dom, Many, NoMemory}
 
@@ -34,13 +35,13 @@ knows_many s true count p k = k
 knows_many s false count None k = tt
 knows_many s false count (Some p) k = tt
 
-knows_either : (s : Attributes) (a b : Option ExprFault) → Knows s a → Knows s b → Knows s (or_else a b)
+knows_either : (s : Attributes) (a b : Option ExprFault) → Knows s a → Knows s b → Knows s (option_or a b)
 knows_either s None b x y = y
 knows_either s (Some fault) b x y = x
 
 knows_fault : (s : Attributes) (ps : List WrittenPred) → Knows s (fault_in s ps)
 knows_fault s ps =
-    knows_either s (unknown_attr s ps) (or_else (outside_domain s ps) (too_many ps)) (knows_unknown s (find (is_unknown s) ps))
+    knows_either s (unknown_attr s ps) (option_or (outside_domain s ps) (too_many ps)) (knows_unknown s (find (is_unknown s) ps))
     (knows_either s (outside_domain s ps) (too_many ps) (knows_outside s (find (is_outside s) ps))
     (knows_many s (nat_lt 32 (length ps)) (Many (length ps)) (find has_many_values ps) tt))
 

@@ -5,7 +5,6 @@ pub mod CanonicalMeaning
 pub mod ChangesRead
 pub mod Gathered
 pub mod Joining
-pub mod Built
 pub mod BuiltPreds
 pub mod Meanings
 pub mod Lying

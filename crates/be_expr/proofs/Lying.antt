@@ -1,68 +1,28 @@
 -- A condition that was read lies in the schema.
-use Rattle.std.proofs.Common.{◌≡◌, ℕ, ℤ, pos, ◌<◌, ◌&&◌, Bool, true, false, List, [], ◌∷◌, length, map, int_lt, slice_get, Option, Some, None, option_map, option_and_then, Result, Ok, Err, IfOk, IfErr, inl, inr, refl, sym, ◌∙◌, ap, subst, arith, if◌then◌else◌}
+use Rattle.std.proofs.Common.{◌≡◌, ℤ, true, false, List, [], ◌∷◌, length, map, Option, Some, None, option_map, option_and_then, Ok, Err, refl, sym, ◌∙◌, ap, subst, arith}
 use Rattle.std.specs.List.{list_all}
 use Rattle.std.specs.Option.{is_none, option_map_or}
-use Rattle.std.proofs.lemmas.List.{length-map}
-use Rattle.std.proofs.lemmas.List.Quantifiers.{position-Some}
-use Rattle.std.proofs.lemmas.Option.{slice_get_cases}
-use Rattle.std.proofs.lemmas.Bool.{or_parts}
-use Rattle.be_base.specs.Text.{Text, same_text}
+use Rattle.std.proofs.lemmas.Bool.{and_parts, and_from}
 use Rattle.be_base.specs.Tokens.{Lexeme, less, less_or_equal, not_equal, greater_or_equal, greater}
 use Rattle.be_base.specs.declared.names.AttrNo.{AttrNo}
 use Rattle.be_model.specs.declared.schemas.Attribute.{Attribute}
-use Rattle.be_model.specs.declared.conditions.Pred.{Pred}
-use Rattle.be_model.specs.Domains.{Range, bounds_of, is_within, value_of_word, place_of}
-use Rattle.be_model.specs.Schemas.{Attributes, numbered, attribute_named, attribute_at, names_of_attributes, range_of}
-use Rattle.be_model.specs.Assigned.{value_at}
-use Rattle.be_model.specs.Forms.{put_value}
+use Rattle.be_model.specs.declared.preds.Pred.{Pred}
+use Rattle.be_model.specs.Domains.{Range, bounds_of, is_within}
+use Rattle.be_model.specs.Schemas.{Attributes, numbered, attribute_named, attribute_at, range_of}
+use Rattle.be_model.specs.SetTexts.{known, has_outside}
 use Rattle.be_model.specs.Lies.{values_in, lies_in, lies_within, pred_lies, conj_lies}
-use Rattle.be_model.proofs.AssignedValues.{value_within}
+use Rattle.be_model.proofs.SetsLie.{all_known_within, rising_within, attribute_is_there}
 use Rattle.be_expr.specs.declared.faults.ExprFault.{ExprFault}
 use Rattle.be_expr.specs.declared.faults.ExprFault.TheVariants.{NoMemory}
 use Rattle.be_expr.specs.declared.faults.Faults.{Faults}
-use Rattle.be_expr.specs.Faults.{faults_of, first_fault}
-use Rattle.be_expr.specs.Written.{WrittenOp, compared, between, among, not_among, WrittenPred}
-use Rattle.be_expr.specs.Expressions.{words_of, fault_in, rising, comparison, meant_op, pred_on, meant_pred, judged, meaning, Reads}
-use Rattle.be_expr.specs.Building.{known, has_unknown_value, is_fine}
-use Rattle.be_expr.proofs.Grammar.{and_parts, both}
+use Rattle.be_expr.specs.Faults.{faults_of, first_fault, preds_in}
+use Rattle.be_expr.specs.Readings.{written}
+use Rattle.be_expr.specs.Grammar.{WrittenOp, compared, between, among, not_among, WrittenPred}
+use Rattle.be_expr.specs.Expressions.{words_of, fault_in, comparison, meant_op, pred_on, meant_pred, judged, meaning, condition, Reads}
+use Rattle.be_expr.specs.Build.{is_fine, FinePreds}
 use Rattle.be_expr.proofs.BuiltPreds.{fine_parts}
-use Rattle.be_expr.proofs.Meanings.{fine_without_fault, reads_built, reads_without_memory}
-
-within_if : (r : Range) (d : Attribute) (text : Text) (o : Option ℤ) → value_of_word d.domain text ≡ o → is_none o ≡ false → is_within (bounds_of d.domain) (option_map_or (λ n. n) o (pos 0)) ≡ true
-within_if r d text None e h = absurd (cc)
-within_if r d text (Some n) e h = value_within d.domain text n e
-
--- a value that a word has lies in the attribute's range
-known_within : (s : Attributes) (a : AttrNo) (x : Attribute) (v : Text) → attribute_at s a ≡ Some x → is_none (value_at s a v) ≡ false → is_within (bounds_of x.domain) (known s a v) ≡ true
-known_within s a x v at h =
-    let value : value_at s a v ≡ value_of_word x.domain v = ap (option_and_then (λ (y : Attribute). value_of_word y.domain v)) at in
-    subst (λ (o : Option ℤ). is_within (bounds_of x.domain) (option_map_or (λ n. n) o (pos 0)) ≡ true) (sym value)
-    (within_if (bounds_of x.domain) x v (value_of_word x.domain v) refl (subst (λ (o : Option ℤ). is_none o ≡ false) value h))
-
-all_known_within : (s : Attributes) (a : AttrNo) (x : Attribute) (vs : List Text) → attribute_at s a ≡ Some x → has_unknown_value s a vs ≡ false
-    → list_all (is_within (bounds_of x.domain)) (map (known s a) vs) ≡ true
-all_known_within s a x [] at h = refl
-all_known_within s a x (v ∷ vs) at h =
-    let parts = or_parts (is_none (value_at s a v)) (has_unknown_value s a vs) h in
-    both (is_within (bounds_of x.domain) (known s a v)) (list_all (is_within (bounds_of x.domain)) (map (known s a) vs)) (known_within s a x v at parts.0) (all_known_within s a x vs at parts.1)
-
-put_if : (test : ℤ → Bool) (v x : ℤ) (xs ys : List ℤ) (a b : Bool) → test v ≡ true → test x ≡ true → list_all test xs ≡ true → list_all test ys ≡ true
-    → list_all test (if a then v ∷ x ∷ xs else (if b then x ∷ ys else x ∷ xs)) ≡ true
-put_if test v x xs ys true b p q all more = both (test v) (test x && list_all test xs) p (both (test x) (list_all test xs) q all)
-put_if test v x xs ys false true p q all more = both (test x) (list_all test ys) q more
-put_if test v x xs ys false false p q all more = both (test x) (list_all test xs) q all
-
-put_within : (test : ℤ → Bool) (v : ℤ) (xs : List ℤ) → test v ≡ true → list_all test xs ≡ true → list_all test (put_value v xs) ≡ true
-put_within test v [] p all = both (test v) true p refl
-put_within test v (x ∷ xs) p all =
-    let parts = and_parts (test x) (list_all test xs) all in
-    put_if test v x xs (put_value v xs) (int_lt v x) (int_lt x v) p parts.0 parts.1 (put_within test v xs p parts.1)
-
-rising_within : (test : ℤ → Bool) (vs : List ℤ) → list_all test vs ≡ true → list_all test (rising vs) ≡ true
-rising_within test [] all = refl
-rising_within test (v ∷ vs) all =
-    let parts = and_parts (test v) (list_all test vs) all in
-    put_within test v (rising vs) parts.0 (rising_within test vs parts.1)
+use Rattle.be_expr.proofs.Meanings.{fine_without_fault, met_is, no_fault}
+use Rattle.be_expr.proofs.Joining.{written_preds}
 
 comparison_has : (operator : Lexeme) (v : ℤ) → values_in (comparison operator v) ≡ v ∷ []
 comparison_has less v = refl
@@ -72,30 +32,14 @@ comparison_has greater_or_equal v = refl
 comparison_has greater v = refl
 comparison_has _ v = refl
 
-op_within : (s : Attributes) (a : AttrNo) (x : Attribute) (op : WrittenOp) → attribute_at s a ≡ Some x → has_unknown_value s a (words_of op) ≡ false
+op_within : (s : Attributes) (a : AttrNo) (x : Attribute) (op : WrittenOp) → attribute_at s a ≡ Some x → has_outside s a (words_of op) ≡ false
     → lies_within (bounds_of x.domain) (values_in (meant_op (known s a) op)) ≡ true
 op_within s a x (compared operator v) at h = ap (lies_within (bounds_of x.domain)) (comparison_has operator (known s a v)) ∙ all_known_within s a x (v ∷ []) at h
 op_within s a x (between v w) at h = all_known_within s a x (v ∷ w ∷ []) at h
 op_within s a x (among vs) at h = rising_within (is_within (bounds_of x.domain)) (map (known s a) vs) (all_known_within s a x vs at h)
 op_within s a x (not_among vs) at h = rising_within (is_within (bounds_of x.domain)) (map (known s a) vs) (all_known_within s a x vs at h)
 
-there_or_past : (s : Attributes) (place : ℕ) → place < length s → (x : Attribute) × (slice_get s place ≡ Some x)
-there_or_past s place within =
-    elim (slice_get_cases s place).1 [ inl there ↦ (there.0, there.2) | inr past ↦ absurd (omega (arith, past.0)) ]
-
-at_place : (s : Attributes) (name : Text) (a : AttrNo) (o : Option ℕ) → place_of name (names_of_attributes s) ≡ o → option_map numbered o ≡ Some a → (x : Attribute) × (attribute_at s a ≡ Some x)
-at_place s name a None e h = absurd (cc)
-at_place s name a (Some place) e h =
-    let found = position-Some (λ other. same_text other name) (names_of_attributes s) place [] e in
-    let is : numbered place ≡ a = cc in
-    subst (λ (b : AttrNo). (x : Attribute) × (attribute_at s b ≡ Some x)) is
-    (there_or_past s place (subst (λ (n : ℕ). place < n) (length-map s (λ (x : Attribute). x.name)) found.0))
-
--- the schema has an attribute that a name has
-attribute_is_there : (s : Attributes) (name : Text) (a : AttrNo) → attribute_named s name ≡ Some a → (x : Attribute) × (attribute_at s a ≡ Some x)
-attribute_is_there s name a h = at_place s name a (place_of name (names_of_attributes s)) refl h
-
-pred_on_lies : (s : Attributes) (a : AttrNo) (op : WrittenOp) → (x : Attribute) × (attribute_at s a ≡ Some x) → has_unknown_value s a (words_of op) ≡ false → pred_lies s (pred_on s a op) ≡ true
+pred_on_lies : (s : Attributes) (a : AttrNo) (op : WrittenOp) → (x : Attribute) × (attribute_at s a ≡ Some x) → has_outside s a (words_of op) ≡ false → pred_lies s (pred_on s a op) ≡ true
 pred_on_lies s a op there h =
     let range : range_of s a ≡ Some (bounds_of there.0.domain) = ap (option_map (λ (x : Attribute). bounds_of x.domain)) there.1 in
     ap (λ (r : Option Range). lies_in r (values_in (meant_op (known s a) op))) range ∙ op_within s a there.0 op there.1 h
@@ -106,13 +50,13 @@ fine_lies_if s p None e h =
 fine_lies_if s p (Some a) e h =
     ap (λ (o : Option AttrNo). pred_lies s (option_map_or (λ b. pred_on s b p.op) o (pred_on s (numbered 0) p.op))) e
     ∙ pred_on_lies s a p.op (attribute_is_there s p.attr a e)
-    (sym (ap (λ (o : Option AttrNo). option_map_or (λ b. has_unknown_value s b (words_of p.op)) o false) e) ∙ (fine_parts s p h).1)
+    (sym (ap (λ (o : Option AttrNo). option_map_or (λ b. has_outside s b (words_of p.op)) o false) e) ∙ (fine_parts s p h).1)
 
 all_fine_lie : (s : Attributes) (ps : List WrittenPred) → list_all (is_fine s) ps ≡ true → conj_lies s (map (meant_pred s) ps) ≡ true
 all_fine_lie s [] h = refl
 all_fine_lie s (p ∷ ps) h =
     let parts = and_parts (is_fine s p) (list_all (is_fine s) ps) h in
-    both (pred_lies s (meant_pred s p)) (conj_lies s (map (meant_pred s) ps)) (fine_lies_if s p (attribute_named s p.attr) refl parts.0) (all_fine_lie s ps parts.1)
+    and_from (pred_lies s (meant_pred s p)) (conj_lies s (map (meant_pred s) ps)) (fine_lies_if s p (attribute_named s p.attr) refl parts.0) (all_fine_lie s ps parts.1)
 
 judged_lies : (s : Attributes) (ps : List WrittenPred) (o : Option ExprFault) (conj : List Pred) → fault_in s ps ≡ o → judged (map (meant_pred s) ps) o ≡ Ok conj → conj_lies s conj ≡ true
 judged_lies s ps None conj e h =
@@ -125,14 +69,53 @@ pub meaning_lies : (s : Attributes) (o : Option (List WrittenPred)) (conj : List
 meaning_lies s None conj h = absurd (cc)
 meaning_lies s (Some ps) conj h = judged_lies s ps (fault_in s ps) conj refl h
 
--- what is built is what is read
-pub reads_result : (s : Attributes) (o : Option (List WrittenPred)) (faults : Faults) (r : Result (List Pred) ExprFault) → Some faults ≡ option_map (faults_of s) o → None ≡ first_fault faults
-    → IfOk r (λ conj. option_map (map (meant_pred s)) o ≡ Some conj) → IfErr r (λ fault. fault ≡ NoMemory) → Reads r (meaning s o)
-reads_result s o faults (Ok conj) h first built memory = reads_built s o faults conj h first built
-reads_result s o faults (Err fault) h first built memory =
-    subst (λ (f : ExprFault). Reads (Err f) (meaning s o)) (sym memory) (reads_without_memory s o faults h first)
+-- predicates were read, and none has a fault
+record AreFine (s : Attributes) (o : Option (List Lexeme)) (ps : List WrittenPred) : Type 0 where
+  written : option_and_then written o ≡ Some ps
+  fine : fault_in s ps ≡ None
 
-pub result_lies : (s : Attributes) (o : Option (List WrittenPred)) (faults : Faults) (r : Result (List Pred) ExprFault) → Some faults ≡ option_map (faults_of s) o → None ≡ first_fault faults
-    → IfOk r (λ conj. option_map (map (meant_pred s)) o ≡ Some conj) → IfOk r (λ conj. conj_lies s conj ≡ true)
-result_lies s o faults (Ok conj) h first built = meaning_lies s o conj (reads_built s o faults conj h first built)
-result_lies s o faults (Err fault) h first built = tt
+fine_if : (s : Attributes) (o : Option (List Lexeme)) (faults : Faults) (w : Option (List WrittenPred)) → option_and_then written o ≡ w → Some faults ≡ option_map (faults_of s) w
+    → None ≡ first_fault faults → (ps : List WrittenPred) × AreFine s o ps × (faults.preds ≡ length ps)
+fine_if s o faults None e h first = absurd (cc)
+fine_if s o faults (Some ps) e h first =
+    (ps, record { written = e; fine = no_fault s ps faults h first }, ap (λ (f : Faults). f.preds) (met_is s ps faults h))
+
+-- what a scan without a fault has passed
+are_fine : (s : Attributes) (o : Option (List Lexeme)) (faults : Faults) → Some faults ≡ option_map (faults_of s) (option_and_then written o) → None ≡ first_fault faults
+    → (ps : List WrittenPred) × AreFine s o ps × (faults.preds ≡ length ps)
+are_fine s o faults h first = fine_if s o faults (option_and_then written o) refl h first
+
+read_as : (s : Attributes) (o : Option (List Lexeme)) (ps : List WrittenPred) → AreFine s o ps → condition s o ≡ Ok (map (meant_pred s) ps)
+read_as s o ps k = ap (meaning s) k.written ∙ ap (judged (map (meant_pred s) ps)) k.fine
+
+no_pred : (s : Attributes) (ps : List WrittenPred) → length ps ≡ 0 → map (meant_pred s) ps ≡ []
+no_pred s [] h = refl
+no_pred s (p ∷ ps) h = absurd (omega (arith, h))
+
+-- `all`
+pub reads_all : (s : Attributes) (o : Option (List Lexeme)) (faults : Faults) (conj : List Pred) → Some faults ≡ option_map (faults_of s) (option_and_then written o) → None ≡ first_fault faults
+    → faults.preds ≡ 0 → conj ≡ [] → condition s o ≡ Ok conj
+reads_all s o faults conj h first none is =
+    let k = are_fine s o faults h first in
+    read_as s o k.0 k.1 ∙ ap (λ c. Ok c) (no_pred s k.0 (sym k.2 ∙ none) ∙ sym is)
+
+-- predicates, where there are some
+pub fine_preds : (s : Attributes) (o : Option (List Lexeme)) (faults : Faults) → Some faults ≡ option_map (faults_of s) (option_and_then written o) → None ≡ first_fault faults
+    → ¬ (faults.preds ≡ 0) → FinePreds s 0 (option_and_then preds_in o)
+fine_preds s o faults h first some =
+    let k = are_fine s o faults h first in
+    subst (FinePreds s 0) (sym (written_preds o k.0 k.1.written (λ none. some (k.2 ∙ none)))) (fine_without_fault s k.0 k.1.fine)
+
+pub reads_preds : (s : Attributes) (o : Option (List Lexeme)) (faults : Faults) (conj : List Pred) → Some faults ≡ option_map (faults_of s) (option_and_then written o) → None ≡ first_fault faults
+    → ¬ (faults.preds ≡ 0) → option_map (map (meant_pred s)) (option_and_then preds_in o) ≡ Some conj → (condition s o ≡ Ok conj) × (conj_lies s conj ≡ true)
+reads_preds s o faults conj h first some built =
+    let k = are_fine s o faults h first in
+    let preds = written_preds o k.0 k.1.written (λ none. some (k.2 ∙ none)) in
+    let is : map (meant_pred s) k.0 ≡ conj = cc (ap (option_map (map (meant_pred s))) preds, built) in
+    let read = read_as s o k.0 k.1 ∙ ap (λ c. Ok c) is in
+    (read, meaning_lies s (option_and_then written o) conj read)
+
+-- memory may run out: the text is a condition
+pub reads_without_memory : (s : Attributes) (o : Option (List Lexeme)) (faults : Faults) → Some faults ≡ option_map (faults_of s) (option_and_then written o) → None ≡ first_fault faults
+    → Reads (Err NoMemory) (condition s o)
+reads_without_memory s o faults h first = let k = are_fine s o faults h first in (map (meant_pred s) k.0, read_as s o k.0 k.1)

@@ -1,35 +1,22 @@
 -- What is read, by the faults that were met and by what is built.
-use Rattle.std.proofs.Common.{◌≡◌, ℕ, ◌≤◌, ◌&&◌, not, Bool, true, false, cond, List, [], ◌∷◌, length, map, find, nat_lt, Option, Some, None, option_map, option_and_then, Result, Ok, Err, refl, sym, ◌∙◌, ap, arith, if◌then◌else◌}
+use Rattle.std.proofs.Common.{◌≡◌, ℕ, ◌≤◌, ◌&&◌, not, Bool, true, false, cond, List, [], ◌∷◌, length, map, find, nat_lt, Option, Some, None, option_map, option_and_then, Result, Err, refl, sym, ◌∙◌, ap, arith, if◌then◌else◌}
 use Rattle.std.specs.List.{list_all}
+use Rattle.std.specs.Option.{option_or}
+use Rattle.std.proofs.lemmas.Bool.{and_from, not_from_false}
 use Rattle.std.proofs.lemmas.Bool.Decides.{nat_tests}
 use Rattle.be_base.specs.declared.names.AttrNo.{AttrNo}
-use Rattle.be_model.specs.declared.conditions.Pred.{Pred}
+use Rattle.be_model.specs.declared.preds.Pred.{Pred}
 use Rattle.be_model.specs.Schemas.{Attributes, attribute_named}
 use Rattle.be_expr.specs.declared.faults.ExprFault.{ExprFault}
 use Rattle.be_expr.specs.declared.faults.ExprFault.TheVariants.{Bad, Attr, Dom, Many, NoMemory}
 use Rattle.be_expr.specs.declared.faults.Faults.{Faults}
-use Rattle.be_expr.specs.Written.{WrittenPred}
-use Rattle.be_expr.specs.Expressions.{words_of, is_unknown, is_outside, has_many_values, unknown_attr, outside_domain, too_many, or_else, fault_in, meant_pred, judged, meaning, Reads}
-use Rattle.be_expr.specs.Faults.{large_set, faults_of, first_fault}
-use Rattle.be_expr.specs.Building.{is_fine, FinePreds}
-use Rattle.be_expr.proofs.Grammar.{both}
+use Rattle.be_expr.specs.Grammar.{WrittenPred}
+use Rattle.be_expr.specs.Expressions.{words_of, is_unknown, is_outside, has_many_values, unknown_attr, outside_domain, large_set, too_many, fault_in, meant_pred, judged, meaning, Reads}
+use Rattle.be_expr.specs.Faults.{faults_of, first_fault}
+use Rattle.be_expr.specs.Build.{is_fine, FinePreds}
 use Rattle.be_expr.proofs.Gathered.{faults_by_first, outside_has_attr}
 
-large_if : (p : WrittenPred) (b : Bool) (x : Option ExprFault) (y : Option WrittenPred) → x ≡ option_map (λ (q : WrittenPred). Many (length (words_of q.op))) y
-    → (if b then Some (Many (length (words_of p.op))) else x) ≡ option_map (λ (q : WrittenPred). Many (length (words_of q.op))) (cond b (Some p) y)
-large_if p true x y h = refl
-large_if p false x y h = h
-
-large_is_found : (ps : List WrittenPred) → large_set ps ≡ option_map (λ (q : WrittenPred). Many (length (words_of q.op))) (find has_many_values ps)
-large_is_found [] = refl
-large_is_found (p ∷ ps) = large_if p (has_many_values p) (large_set ps) (find has_many_values ps) (large_is_found ps)
-
--- the first of the faults that were met is the fault of the condition
-pub first_is_fault : (s : Attributes) (ps : List WrittenPred) → first_fault (faults_of s ps) ≡ fault_in s ps
-first_is_fault s ps =
-    ap (λ (large : Option ExprFault). or_else (unknown_attr s ps) (or_else (outside_domain s ps) (if nat_lt 32 (length ps) then Some (Many (length ps)) else large))) (large_is_found ps)
-
-none_of_both : (x y : Option ExprFault) → or_else x y ≡ None → (x ≡ None) × (y ≡ None)
+none_of_both : (x y : Option ExprFault) → option_or x y ≡ None → (x ≡ None) × (y ≡ None)
 none_of_both None y h = (refl, h)
 none_of_both (Some x) y h = absurd (cc)
 
@@ -43,14 +30,6 @@ inside_if attr p o false e there h = refl
 inside_if attr p None true e there h = absurd (there refl refl)
 inside_if attr p (Some a) true e there h = let differ : Some (Dom a) ≡ None = ap (option_map (λ x. Dom x)) (sym e) ∙ h in absurd (cc)
 
-small_if : (p : WrittenPred) (b : Bool) → (if b then Some (Many (length (words_of p.op))) else None) ≡ None → b ≡ false
-small_if p true h = absurd (cc)
-small_if p false h = refl
-
-not_false : (b : Bool) → b ≡ false → not b ≡ true
-not_false true h = absurd (cc)
-not_false false h = refl
-
 all_are_fine : (s : Attributes) (ps : List WrittenPred) → unknown_attr s ps ≡ None → outside_domain s ps ≡ None → large_set ps ≡ None → list_all (is_fine s) ps ≡ true
 all_are_fine s [] u o l = refl
 all_are_fine s (p ∷ ps) u o l =
@@ -58,12 +37,12 @@ all_are_fine s (p ∷ ps) u o l =
     let unknown = none_of_both (unknown_attr s (p ∷ [])) (unknown_attr s ps) (sym (ap (λ (f : Faults). f.unknown) split) ∙ u) in
     let outside = none_of_both (outside_domain s (p ∷ [])) (outside_domain s ps) (sym (ap (λ (f : Faults). f.outside) split) ∙ o) in
     let large = none_of_both (large_set (p ∷ [])) (large_set ps) (sym (ap (λ (f : Faults). f.large_set) split) ∙ l) in
-    both (is_fine s p) (list_all (is_fine s) ps)
-    (both (not (is_unknown s p) && not (is_outside s p)) (not (has_many_values p))
-    (both (not (is_unknown s p)) (not (is_outside s p))
-    (not_false (is_unknown s p) (known_if (λ (q : WrittenPred). Attr q.attr) p (is_unknown s p) unknown.0))
-    (not_false (is_outside s p) (inside_if (λ (q : WrittenPred). attribute_named s q.attr) p (attribute_named s p.attr) (is_outside s p) refl (outside_has_attr s p) outside.0)))
-    (not_false (has_many_values p) (small_if p (has_many_values p) large.0)))
+    and_from (is_fine s p) (list_all (is_fine s) ps)
+    (and_from (not (is_unknown s p) && not (is_outside s p)) (not (has_many_values p))
+    (and_from (not (is_unknown s p)) (not (is_outside s p))
+    (not_from_false (is_unknown s p) (known_if (λ (q : WrittenPred). Attr q.attr) p (is_unknown s p) unknown.0))
+    (not_from_false (is_outside s p) (inside_if (λ (q : WrittenPred). attribute_named s q.attr) p (attribute_named s p.attr) (is_outside s p) refl (outside_has_attr s p) outside.0)))
+    (not_from_false (has_many_values p) (known_if (λ (q : WrittenPred). Many (length (words_of q.op))) p (has_many_values p) large.0)))
     (all_are_fine s ps unknown.1 outside.1 large.1)
 
 few_of : (n : ℕ) → nat_lt 32 n ≡ false → n ≤ 32
@@ -79,7 +58,7 @@ fine_without_fault s ps h =
     let outer = none_of_both (unknown_attr s ps) _ h in
     let inner = none_of_both (outside_domain s ps) (too_many ps) outer.1 in
     let few = few_if (length ps) (nat_lt 32 (length ps)) _ refl inner.1 in
-    (all_are_fine s ps outer.0 inner.0 (large_is_found ps ∙ few.1), omega (arith, few.0))
+    (all_are_fine s ps outer.0 inner.0 few.1, omega (arith, few.0))
 
 -- no fault of a text is want of memory
 maybe_attr : (o : Option WrittenPred) → option_map (λ (p : WrittenPred). Attr p.attr) o ≡ Some NoMemory → ⊥
@@ -95,7 +74,7 @@ maybe_many n true o h = cc
 maybe_many n false None h = cc
 maybe_many n false (Some p) h = cc
 
-either_no_memory : (x y : Option ExprFault) → (x ≡ Some NoMemory → ⊥) → (y ≡ Some NoMemory → ⊥) → or_else x y ≡ Some NoMemory → ⊥
+either_no_memory : (x y : Option ExprFault) → (x ≡ Some NoMemory → ⊥) → (y ≡ Some NoMemory → ⊥) → option_or x y ≡ Some NoMemory → ⊥
 either_no_memory None y p q h = q h
 either_no_memory (Some x) y p q h = p h
 
@@ -116,7 +95,7 @@ pub reads_bad : (s : Attributes) (o : Option (List WrittenPred)) → None ≡ op
 reads_bad s None h = refl
 reads_bad s (Some ps) h = absurd (cc)
 
-met_is : (s : Attributes) (ps : List WrittenPred) (faults : Faults) → Some faults ≡ option_map (faults_of s) (Some ps) → faults ≡ faults_of s ps
+pub met_is : (s : Attributes) (ps : List WrittenPred) (faults : Faults) → Some faults ≡ option_map (faults_of s) (Some ps) → faults ≡ faults_of s ps
 met_is s ps faults h = cc
 
 -- a text with a fault
@@ -124,24 +103,8 @@ pub reads_met : (s : Attributes) (o : Option (List WrittenPred)) (faults : Fault
     → Reads (Err fault) (meaning s o)
 reads_met s None faults fault h first = absurd (cc)
 reads_met s (Some ps) faults fault h first =
-    let is : fault_in s ps ≡ Some fault = sym (first ∙ ap first_fault (met_is s ps faults h) ∙ first_is_fault s ps) in
+    let is : fault_in s ps ≡ Some fault = sym (first ∙ ap first_fault (met_is s ps faults h)) in
     reads_fault fault (meaning s (Some ps)) (ap (judged (map (meant_pred s) ps)) is) (λ e. fault_is_of_text s ps (is ∙ ap (λ (f : ExprFault). Some f) e))
 
-no_fault : (s : Attributes) (ps : List WrittenPred) (faults : Faults) → Some faults ≡ option_map (faults_of s) (Some ps) → None ≡ first_fault faults → fault_in s ps ≡ None
-no_fault s ps faults h first = sym (first ∙ ap first_fault (met_is s ps faults h) ∙ first_is_fault s ps)
-
-pub fine_where_none_met : (s : Attributes) (o : Option (List WrittenPred)) (faults : Faults) → Some faults ≡ option_map (faults_of s) o → None ≡ first_fault faults → FinePreds s 0 o
-fine_where_none_met s None faults h first = absurd (cc)
-fine_where_none_met s (Some ps) faults h first = fine_without_fault s ps (no_fault s ps faults h first)
-
-pub reads_built : (s : Attributes) (o : Option (List WrittenPred)) (faults : Faults) (conj : List Pred) → Some faults ≡ option_map (faults_of s) o → None ≡ first_fault faults
-    → option_map (map (meant_pred s)) o ≡ Some conj → meaning s o ≡ Ok conj
-reads_built s None faults conj h first built = absurd (cc)
-reads_built s (Some ps) faults conj h first built =
-    let is : map (meant_pred s) ps ≡ conj = cc in
-    ap (judged (map (meant_pred s) ps)) (no_fault s ps faults h first) ∙ ap (λ (preds : List Pred). Ok preds) is
-
-pub reads_without_memory : (s : Attributes) (o : Option (List WrittenPred)) (faults : Faults) → Some faults ≡ option_map (faults_of s) o → None ≡ first_fault faults
-    → (conj : List Pred) × (meaning s o ≡ Ok conj)
-reads_without_memory s None faults h first = absurd (cc)
-reads_without_memory s (Some ps) faults h first = (map (meant_pred s) ps, ap (judged (map (meant_pred s) ps)) (no_fault s ps faults h first))
+pub no_fault : (s : Attributes) (ps : List WrittenPred) (faults : Faults) → Some faults ≡ option_map (faults_of s) (Some ps) → None ≡ first_fault faults → fault_in s ps ≡ None
+no_fault s ps faults h first = sym (first ∙ ap first_fault (met_is s ps faults h))

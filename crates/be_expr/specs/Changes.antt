@@ -5,7 +5,7 @@ use Rattle.be_base.specs.Text.{Text, same_text, name_of, IsName}
 use Rattle.be_base.specs.Numbers.{count_of}
 use Rattle.be_base.specs.Tokens.{Lexeme, word, tokens}
 use Rattle.be_base.specs.declared.names.NameFault.{NameFault}
-use Rattle.be_model.specs.declared.conditions.Pred.{Pred}
+use Rattle.be_model.specs.declared.preds.Pred.{Pred}
 use Rattle.be_model.specs.declared.changes.Row.{Row}
 use Rattle.be_model.specs.declared.changes.Change.{Change}
 use Rattle.be_expr.specs.Parts.{PlainFront}
@@ -17,7 +17,7 @@ use Rattle.be_model.specs.Schemas.{Attributes, IsSchema}
 use Rattle.be_expr.specs.declared.faults.ExprFault.{ExprFault}
 use Rattle.be_expr.specs.declared.faults.ExprFault.TheVariants.{Bad, NoMemory}
 use Rattle.be_expr.specs.Expressions.{condition}
-use Rattle.be_expr.specs.Canonical.{expr_text}
+use Rattle.be_expr.specs.Writing.{expr_text}
 
 -- the word of a change, its session and its serial
 abbrev pub head_text : Text → ℕ → ℕ → Text

@@ -1,17 +1,16 @@
 -- What the text of a condition means in a schema, or its first fault.
-use Rattle.std.specs.Prelude.{◌≡◌, ℤ, ◌<◌, pos, Bool, false, List, [], ◌∷◌, length, map, find, nat_lt, Option, Some, None, option_map, option_and_then, Result, Ok, Err, if◌then◌else◌}
-use Rattle.std.specs.List.{list_any}
-use Rattle.std.specs.Option.{is_none, option_map_or}
+use Rattle.std.specs.Prelude.{◌≡◌, ℤ, ◌<◌, Bool, List, [], ◌∷◌, length, map, find, nat_lt, Option, Some, None, option_map, option_and_then, Result, Ok, Err, if◌then◌else◌}
+use Rattle.std.specs.Option.{is_none, option_map_or, option_or}
 use Rattle.be_base.specs.Text.{Text}
 use Rattle.be_base.specs.Tokens.{Lexeme, less, less_or_equal, not_equal, greater_or_equal, greater, tokens}
+use Rattle.be_base.specs.declared.limits.TheConstants.{PREDICATES, SET_VALUES}
 use Rattle.be_base.specs.declared.names.AttrNo.{AttrNo}
-use Rattle.be_model.specs.declared.conditions.Op.{Op}
-use Rattle.be_model.specs.declared.conditions.Op.TheVariants.{Lt, Le, Eq, Ne, Ge, Gt, Between, OneOf, NoneOf}
-use Rattle.be_model.specs.declared.conditions.Pred.{Pred}
+use Rattle.be_model.specs.declared.ops.Op.{Op}
+use Rattle.be_model.specs.declared.ops.Op.TheVariants.{Lt, Le, Eq, Ne, Ge, Gt, Between, OneOf, NoneOf}
+use Rattle.be_model.specs.declared.preds.Pred.{Pred}
 use Rattle.be_model.specs.Schemas.{Attributes, numbered, attribute_named}
-use Rattle.be_model.specs.Assigned.{value_at}
-use Rattle.be_model.specs.Forms.{put_value}
-use Rattle.be_expr.specs.Written.{WrittenOp, compared, between, among, not_among, WrittenPred}
+use Rattle.be_model.specs.SetTexts.{known, some_outside, rising}
+use Rattle.be_expr.specs.Grammar.{WrittenOp, compared, between, among, not_among, WrittenPred}
 use Rattle.be_expr.specs.Readings.{written}
 use Rattle.be_expr.specs.declared.faults.ExprFault.{ExprFault}
 use Rattle.be_expr.specs.declared.faults.ExprFault.TheVariants.{Bad, Attr, Dom, Many, NoMemory}
@@ -32,8 +31,7 @@ unknown_attr s ps = option_map (λ (p : WrittenPred). Attr p.attr) (find (is_unk
 
 -- one of the values is outside the attribute's domain
 abbrev pub is_outside : Attributes → WrittenPred → Bool
-is_outside s p =
-    option_map_or (λ a. list_any (λ v. is_none (value_at s a v)) (words_of p.op)) (attribute_named s p.attr) false
+is_outside s p = some_outside s (attribute_named s p.attr) (words_of p.op)
 
 -- the attribute of the first value outside its domain
 abbrev pub outside_domain : Attributes → List WrittenPred → Option ExprFault
@@ -41,26 +39,19 @@ outside_domain s ps =
     option_map (λ a. Dom a) (option_and_then (λ (p : WrittenPred). attribute_named s p.attr) (find (is_outside s) ps))
 
 abbrev pub has_many_values : WrittenPred → Bool
-has_many_values p = nat_lt 64 (length (words_of p.op))
+has_many_values p = nat_lt SET_VALUES (length (words_of p.op))
 
--- more than 32 predicates, else the first set of more than 64 written values
+-- the first set of more than 64 written values
+abbrev pub large_set : List WrittenPred → Option ExprFault
+large_set ps = option_map (λ (p : WrittenPred). Many (length (words_of p.op))) (find has_many_values ps)
+
+-- more than 32 predicates, else a set that is too large
 abbrev pub too_many : List WrittenPred → Option ExprFault
-too_many ps =
-    if nat_lt 32 (length ps) then Some (Many (length ps)) else
-    option_map (λ (p : WrittenPred). Many (length (words_of p.op))) (find has_many_values ps)
-
-abbrev pub or_else : Option ExprFault → Option ExprFault → Option ExprFault
-or_else (Some fault) next = Some fault
-or_else None next = next
+too_many ps = if nat_lt PREDICATES (length ps) then Some (Many (length ps)) else large_set ps
 
 -- the first fault, in the order of the kinds
 abbrev pub fault_in : Attributes → List WrittenPred → Option ExprFault
-fault_in s ps = or_else (unknown_attr s ps) (or_else (outside_domain s ps) (too_many ps))
-
--- the different values, rising
-abbrev pub rising : List ℤ → List ℤ
-rising [] = []
-rising (v ∷ vs) = put_value v (rising vs)
+fault_in s ps = option_or (unknown_attr s ps) (option_or (outside_domain s ps) (too_many ps))
 
 -- the comparison that an operator makes with a value
 abbrev pub comparison : Lexeme → ℤ → Op
@@ -79,7 +70,7 @@ meant_op value (among vs) = OneOf (rising (map value vs))
 meant_op value (not_among vs) = NoneOf (rising (map value vs))
 
 abbrev pub pred_on : Attributes → AttrNo → WrittenOp → Pred
-pred_on s a op = record { attr = a; op = meant_op (λ v. option_map_or (λ n. n) (value_at s a v) (pos 0)) op }
+pred_on s a op = record { attr = a; op = meant_op (known s a) op }
 
 -- the predicate, where it has no fault. Then its attribute is there, and each word has a value
 abbrev pub meant_pred : Attributes → WrittenPred → Pred

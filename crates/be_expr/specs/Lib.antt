@@ -1,8 +1,8 @@
-pub mod Written
+pub mod Grammar
 pub mod Readings
 pub mod Parts
 pub mod Expressions
 pub mod Faults
-pub mod Building
-pub mod Canonical
+pub mod Build
+pub mod Writing
 pub mod Changes

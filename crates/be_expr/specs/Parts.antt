@@ -1,39 +1,23 @@
 -- A condition read part by part.
-use Rattle.std.specs.Prelude.{ℕ, ◌&&◌, Bool, true, false, List, [], ◌∷◌, Option, Some, None, option_map, option_and_then, codes, if◌then◌else◌}
+use Rattle.std.specs.Prelude.{ℕ, ◌&&◌, Bool, false, List, [], ◌∷◌, Option, Some, None, option_map, option_and_then, codes, if◌then◌else◌}
 use Rattle.std.specs.Borrow.{Bor}
 use Rattle.be_base.specs.Text.{Text, same_text}
 use Rattle.be_base.specs.Numbers.{count_of}
-use Rattle.be_base.specs.Tokens.{Lexeme, word, open_brace, close_brace, comma, tokens}
+use Rattle.be_base.specs.Tokens.{Lexeme, word, tokens}
+use Rattle.be_base.specs.Readers.{Read, is_empty, read_word, after_word, after_brace}
+use Rattle.be_base.specs.Sets.{read_values}
 use Rattle.be_base.specs.Scans.{lexeme}
 use Rattle.be_expr.specs.declared.parts.Opening.{Opening}
 use Rattle.be_expr.specs.declared.parts.Opening.TheVariants.{Compared, Between, Among, NotAmong}
 use Rattle.be_expr.specs.declared.parts.Front.{Front}
 use Rattle.be_expr.specs.declared.parts.Head.{Head}
-use Rattle.be_expr.specs.declared.parts.Value.{Value}
-use Rattle.be_expr.specs.Written.{WrittenOp, compared, between, among, not_among, WrittenPred, is_operator, is_attr}
-use Rattle.be_expr.specs.Readings.{Read, with_attr, read_values}
-
-abbrev pub is_empty : List Lexeme → Bool
-is_empty [] = true
-is_empty (t ∷ ts) = false
+use Rattle.be_expr.specs.Grammar.{WrittenOp, compared, between, among, not_among, WrittenPred, is_operator, is_attr}
+use Rattle.be_expr.specs.Readings.{with_attr}
 
 -- `all` alone
 abbrev pub is_all : List Lexeme → Bool
 is_all (word w ∷ ts) = same_text w (codes "all") && is_empty ts
 is_all _ = false
-
-abbrev pub read_word : List Lexeme → Read Text
-read_word (word w ∷ ts) = Some (w, ts)
-read_word _ = None
-
--- the tokens after the wanted word
-abbrev pub after_word : Text → List Lexeme → Option (List Lexeme)
-after_word wanted (word w ∷ ts) = if same_text w wanted then Some ts else None
-after_word wanted _ = None
-
-abbrev pub after_brace : List Lexeme → Option (List Lexeme)
-after_brace (open_brace ∷ ts) = Some ts
-after_brace _ = None
 
 -- the word behind an `and`
 abbrev pub read_high : List Lexeme → Read Text
@@ -69,12 +53,6 @@ read_attr _ = None
 abbrev pub read_head : List Lexeme → Read WrittenPred
 read_head ts = option_and_then (λ (r : Text × List Lexeme). option_map (with_attr r.0) (read_opening r.1)) (read_attr ts)
 
--- a value of a set, and whether it is the last
-abbrev pub read_value : List Lexeme → Read (Text × Bool)
-read_value (word v ∷ comma ∷ ts) = Some ((v, false), ts)
-read_value (word v ∷ close_brace ∷ ts) = Some ((v, true), ts)
-read_value _ = None
-
 -- what is left behind a predicate: nothing, or what follows an `and`
 abbrev pub read_end : List Lexeme → Option (Option (List Lexeme))
 read_end [] = Some None
@@ -107,14 +85,6 @@ front_of kind r = (record { kind = kind; session = r.0.0; serial = r.0.1 }, r.1)
 abbrev pub read_front : List Lexeme → Read PlainFront
 read_front ts = option_and_then (λ (r : Text × List Lexeme). option_map (front_of r.0) (read_numbers r.1)) (read_word ts)
 
--- what a scan found, and the tokens of the text that it left
-abbrev pub following : {X Y : Type 0} → (X → Y) → Option (X × Bor Text) → Read Y
-following plain None = None
-following plain (Some r) = option_map (λ ts. (plain r.0, ts)) (tokens r.1.now)
-
-abbrev pub now_of : Bor Text → Text
-now_of text = text.now
-
 abbrev pub plain_opening : Opening → WrittenOp
 plain_opening (Compared operator v) = compared (lexeme operator) v.now
 plain_opening (Between v w) = between v.now w.now
@@ -123,9 +93,6 @@ plain_opening NotAmong = not_among []
 
 abbrev pub plain_head : Head → WrittenPred
 plain_head head = record { attr = head.attr; op = plain_opening head.opening }
-
-abbrev pub plain_value : Value → Text × Bool
-plain_value value = (value.word.now, value.is_last)
 
 abbrev pub plain_front : Front → PlainFront
 plain_front front = record { kind = front.kind.now; session = front.session; serial = front.serial }

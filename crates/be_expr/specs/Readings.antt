@@ -1,21 +1,10 @@
 -- Reading a condition from left to right.
 use Rattle.std.specs.Prelude.{◌≡◌, ◌↔◌, ℕ, zero, suc, true, List, [], ◌∷◌, length, Option, Some, None, option_map, option_and_then, codes, if◌then◌else◌}
 use Rattle.be_base.specs.Text.{Text, same_text}
-use Rattle.be_base.specs.Tokens.{Lexeme, word, open_brace, close_brace, comma}
-use Rattle.be_expr.specs.Written.{WrittenOp, compared, between, among, not_among, WrittenPred, is_operator, is_attr, condition_tokens, are_written}
-
--- what was read, and the tokens after it
-abbrev pub Read : Type 0 → Type 0
-Read X = Option (X × List Lexeme)
-
-abbrev pub with_value : Text → List Text × List Lexeme → List Text × List Lexeme
-with_value v r = (v ∷ r.0, r.1)
-
--- values up to the closing brace
-abbrev pub read_values : List Lexeme → Read (List Text)
-read_values (word v ∷ comma ∷ ts) = option_map (with_value v) (read_values ts)
-read_values (word v ∷ close_brace ∷ ts) = Some (v ∷ [], ts)
-read_values _ = None
+use Rattle.be_base.specs.Tokens.{Lexeme, word, open_brace}
+use Rattle.be_base.specs.Readers.{Read}
+use Rattle.be_base.specs.Sets.{read_values}
+use Rattle.be_expr.specs.Grammar.{WrittenOp, compared, between, among, not_among, WrittenPred, is_operator, is_attr, condition_tokens, are_written}
 
 abbrev pub read_set : (List Text → WrittenOp) → List Lexeme → Read WrittenOp
 read_set op (open_brace ∷ ts) = option_map (λ r. (op r.0, r.1)) (read_values ts)

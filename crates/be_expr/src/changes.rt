@@ -10,9 +10,9 @@ ghost use Rattle.be_expr.specs.Changes.{change, change_in, new_row, subscribing,
 ghost use Rattle.be_expr.specs.Parts.{plain_front};
 
 use crate::faults::ExprFault;
-use crate::parts::{Front, is_end, read_front, read_word};
+use crate::parts::{Front, read_front};
 use crate::read::read_expr;
-use be_base::{Id, Name, NoMemory, SessionNo};
+use be_base::{Id, Name, NoMemory, SessionNo, is_end, read_word};
 use be_model::{Change, Conj, Row, Schema};
 use std::alloc::Global;
 use std::sync::Arc;
@@ -94,13 +94,8 @@ fn read_row(
     ensures exact { ReadsChange (entry_read result) (subscribing stamp.id.0 stamp.session.0 stamp.serial (Ok name) (condition schema.now (tokens text.now))) }
     ensures lies { IfOk result (λ change. entry_lies schema.now (entry_of change) ≡ true) }
 {
-    match read_expr(alloc, schema, text) {
-        Ok(conj) => match sub(alloc, stamp, name, conj) {
-            Ok(change) => Ok(change),
-            Err(NoMemory) => Err(ExprFault::NoMemory),
-        },
-        Err(fault) => Err(fault),
-    }
+    let conj = read_expr(alloc, schema, text)?;
+    Ok(sub(alloc, stamp, name, conj)?)
 }
 
 fn sub(alloc: Global, stamp: Stamp, name: Name, conj: Conj) -> Result<Change, NoMemory>

@@ -1,10 +1,9 @@
 //! Why a text is no condition.
 
 ghost use Rattle.std.specs.Prelude.{◌≡◌, ◌+◌, ◌<◌, ◌^◌, [], None};
-ghost use Rattle.be_expr.specs.Expressions.{or_else};
 ghost use Rattle.be_expr.specs.Faults.{joined_faults, first_fault};
 
-use be_base::{AttrNo, Name, PREDICATES};
+use be_base::{AttrNo, Name, NoMemory, PREDICATES};
 use thiserror::Error;
 
 /// Why a text is no condition.
@@ -24,6 +23,16 @@ pub enum ExprFault {
     Many { count: u64 },
     #[error("out of memory")]
     NoMemory,
+}
+
+impl From<NoMemory> for ExprFault {
+    ghost use Rattle.be_expr.specs.declared.faults.ExprFault.TheVariants.{NoMemory};
+
+    ghost from_gives = { λ _ fault. fault ≡ NoMemory };
+
+    fn from(_: NoMemory) -> ExprFault {
+        ExprFault::NoMemory
+    }
 }
 
 /// What a scan met: how many predicates, and of each kind the first fault.
@@ -51,9 +60,9 @@ impl Faults {
     {
         Faults {
             preds: self.preds + next.preds,
-            unknown: earlier(self.unknown, next.unknown),
-            outside: earlier(self.outside, next.outside),
-            large_set: earlier(self.large_set, next.large_set),
+            unknown: self.unknown.or(next.unknown),
+            outside: self.outside.or(next.outside),
+            large_set: self.large_set.or(next.large_set),
         }
     }
 
@@ -66,15 +75,6 @@ impl Faults {
         } else {
             self.large_set
         };
-        earlier(self.unknown, earlier(self.outside, many))
-    }
-}
-
-fn earlier(fault: Option<ExprFault>, next: Option<ExprFault>) -> Option<ExprFault>
-    ensures { result ≡ or_else fault next }
-{
-    match fault {
-        Some(fault) => Some(fault),
-        None => next,
+        self.unknown.or(self.outside.or(many))
     }
 }

@@ -1,7 +1,7 @@
 //! Laws of the texts of conditions. Each function's contract is a law, which its proof shows; to call one does nothing.
 
 ghost use Rattle.be_expr.specs.Readings.{ReadsAreWritten};
-ghost use Rattle.be_expr.specs.Canonical.{TextsAreRead};
+ghost use Rattle.be_expr.specs.Writing.{TextsAreRead};
 ghost use Rattle.be_expr.specs.Changes.{ChangesAreRead};
 
 /// Tokens are read as predicates exactly where the grammar writes these predicates as those tokens. So each

@@ -14,8 +14,3 @@ pub use changes::read_change;
 pub use faults::ExprFault;
 pub use read::read_expr;
 pub use writing::{write_change, write_expr};
-
-#[cfg(test)]
-mod reading_tests;
-#[cfg(test)]
-mod writing_tests;

@@ -1,14 +1,16 @@
 //! The parts of a condition's text: each function reads one from the front of a text.
 
 ghost use Rattle.std.specs.Prelude.{◌≡◌, ◌<◌, length, false, Some, None, option_and_then, IfSome, if◌then◌else◌};
-ghost use Rattle.be_base.specs.Text.{same_text};
 ghost use Rattle.std.specs.Option.{option_map_or};
 ghost use Rattle.be_base.specs.Tokens.{tokens};
 ghost use Rattle.be_base.specs.Scans.{lexeme};
-ghost use Rattle.be_expr.specs.Written.{is_attr, is_operator};
-ghost use Rattle.be_expr.specs.Parts.{is_all, is_empty, read_word, after_word, after_brace, read_high, read_ends, read_opening, read_worded_opening, read_head, read_value, read_end, read_number, read_numbers, read_front, following, now_of, plain_opening, plain_head, plain_value, plain_front, end_of};
+ghost use Rattle.be_base.specs.Readers.{following, now_of};
+ghost use Rattle.be_expr.specs.Grammar.{is_attr, is_operator};
+ghost use Rattle.be_expr.specs.Parts.{is_all, read_high, read_ends, read_opening, read_worded_opening, read_head, read_end, read_number, read_numbers, read_front, plain_opening, plain_head, plain_front, end_of};
 
-use be_base::{Name, Scan, Token, next_token, read_count};
+use be_base::{
+    Name, Scan, Token, after_brace, after_word, is_end, next_token, read_count, read_word,
+};
 use be_model::is_reserved;
 
 /// What stands after an attribute: an operator with its values, but that those of a set follow.
@@ -25,13 +27,6 @@ pub enum Opening<'a> {
 pub struct Head<'a> {
     pub attr: Name,
     pub opening: Opening<'a>,
-}
-
-/// A value of a set.
-#[derive(Clone, Copy)]
-pub struct Value<'a> {
-    pub word: &'a [u8],
-    pub is_last: bool,
 }
 
 /// The front of a change: its kind, its session and its serial.
@@ -52,13 +47,6 @@ pub fn is_all(text: &[u8]) -> bool
     }
 }
 
-/// Whether the text has no token.
-pub fn is_end(text: &[u8]) -> bool
-    ensures { result ≡ option_map_or is_empty (tokens text.now) false }
-{
-    matches!(next_token(text), Scan::End)
-}
-
 /// Reads a predicate, and in a set only what stands before its first value.
 pub fn read_head(text: &[u8]) -> Option<(Head<'_>, &[u8])>
     ensures head { following plain_head result ≡ option_and_then read_head (tokens text.now) }
@@ -68,20 +56,6 @@ pub fn read_head(text: &[u8]) -> Option<(Head<'_>, &[u8])>
     let attr = attr_name(word)?;
     let (opening, rest) = read_opening(rest)?;
     Some((Head { attr, opening }, rest))
-}
-
-/// Reads a value of a set, and the comma or the brace behind it.
-pub fn read_value(text: &[u8]) -> Option<(Value<'_>, &[u8])>
-    ensures value { following plain_value result ≡ option_and_then read_value (tokens text.now) }
-    ensures shorter { IfSome result (λ r. length r.1.now < length text.now) }
-{
-    let (word, rest) = read_word(text)?;
-    let (is_last, rest) = match next_token(rest) {
-        Scan::Found(Token::Comma, rest) => (false, rest),
-        Scan::Found(Token::CloseBrace, rest) => (true, rest),
-        _ => return None,
-    };
-    Some((Value { word, is_last }, rest))
 }
 
 /// The text behind an `and`, or nothing at the end of the text.
@@ -102,39 +76,6 @@ fn attr_name(word: &[u8]) -> Option<Name>
 {
     match Name::read(word) {
         Ok(name) if !is_reserved(&name) => Some(name),
-        _ => None,
-    }
-}
-
-/// Reads a word.
-pub fn read_word(text: &[u8]) -> Option<(&[u8], &[u8])>
-    ensures word { following now_of result ≡ option_and_then read_word (tokens text.now) }
-    ensures shorter { IfSome result (λ r. length r.1.now < length text.now) }
-{
-    match next_token(text) {
-        Scan::Found(Token::Word(word), rest) => Some((word, rest)),
-        _ => None,
-    }
-}
-
-// The text behind the wanted word.
-fn after_word<'a>(text: &'a [u8], wanted: &[u8]) -> Option<&'a [u8]>
-    ensures word { option_and_then (λ rest. tokens rest.now) result ≡ option_and_then (after_word wanted.now) (tokens text.now) }
-    ensures shorter { IfSome result (λ rest. length rest.now < length text.now) }
-{
-    match read_word(text) {
-        Some((word, rest)) if word == wanted => Some(rest),
-        _ => None,
-    }
-}
-
-// The text behind an opening brace.
-fn after_brace(text: &[u8]) -> Option<&[u8]>
-    ensures brace { option_and_then (λ rest. tokens rest.now) result ≡ option_and_then after_brace (tokens text.now) }
-    ensures shorter { IfSome result (λ rest. length rest.now < length text.now) }
-{
-    match next_token(text) {
-        Scan::Found(Token::OpenBrace, rest) => Some(rest),
         _ => None,
     }
 }
@@ -228,8 +169,5 @@ fn read_number(text: &[u8]) -> Option<(u64, &[u8])>
     ensures { following (λ number. number) result ≡ option_and_then read_number (tokens text.now) }
 {
     let (word, rest) = read_word(text)?;
-    match read_count(word) {
-        Some(number) => Some((number, rest)),
-        None => None,
-    }
+    Some((read_count(word)?, rest))
 }

@@ -16,11 +16,14 @@ pub fn read_expr(alloc: Global, schema: &Schema, text: &[u8]) -> Result<Conj, Ex
     ensures lies { IfOk result (λ conj. conj_lies schema.now conj ≡ true) }
     ensures known { IfErr result (IsKnown schema.now) }
 {
-    match scan(schema, text) {
-        Some(faults) => match faults.first() {
-            Some(fault) => Err(fault),
-            None => build(alloc, schema, text),
-        },
-        None => Err(ExprFault::Bad),
+    let Some(faults) = scan(schema, text) else {
+        return Err(ExprFault::Bad);
+    };
+    if let Some(fault) = faults.first() {
+        return Err(fault);
     }
+    if faults.preds == 0 {
+        return Ok(Conj::make(alloc));
+    }
+    Ok(build(alloc, schema, text)?)
 }

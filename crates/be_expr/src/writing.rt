@@ -8,7 +8,7 @@ ghost use Rattle.be_model.specs.Schemas.{range_of};
 ghost use Rattle.be_model.specs.Lies.{values_in, lies_in, item_lies, pred_lies, conj_lies, row_lies, entry_lies};
 ghost use Rattle.be_model.specs.Texts.{value_text_at};
 ghost use Rattle.be_expr.specs.Expressions.{expression};
-ghost use Rattle.be_expr.specs.Canonical.{set_text, op_text, pred_text, expr_text, IsSpelled};
+ghost use Rattle.be_expr.specs.Writing.{op_text, pred_text, expr_text, IsSpelled};
 ghost use Rattle.be_expr.specs.Changes.{head_text, change_text, IsReadBack};
 
 use be_base::{AttrNo, NoMemory, SessionNo};
@@ -71,18 +71,24 @@ fn put_op(schema: &Schema, a: AttrNo, op: &Op, text: &mut Vec<u8>) -> Result<(),
     ensures words { OnOk result (All (λ v. IsWord (value_text_at schema.now a v)) (values_in op.now)) }
 {
     match op {
-        Op::Lt(v) => put_value(schema, a, b"< ", v, text),
-        Op::Le(v) => put_value(schema, a, b"<= ", v, text),
-        Op::Eq(v) => put_value(schema, a, b"= ", v, text),
-        Op::Ne(v) => put_value(schema, a, b"!= ", v, text),
-        Op::Ge(v) => put_value(schema, a, b">= ", v, text),
-        Op::Gt(v) => put_value(schema, a, b"> ", v, text),
+        Op::Lt(v) => schema.write_behind(b"< ", a, v, text),
+        Op::Le(v) => schema.write_behind(b"<= ", a, v, text),
+        Op::Eq(v) => schema.write_behind(b"= ", a, v, text),
+        Op::Ne(v) => schema.write_behind(b"!= ", a, v, text),
+        Op::Ge(v) => schema.write_behind(b">= ", a, v, text),
+        Op::Gt(v) => schema.write_behind(b"> ", a, v, text),
         Op::Between(low, high) => {
-            put_value(schema, a, b"between ", low, text)?;
-            put_value(schema, a, b" and ", high, text)
+            schema.write_behind(b"between ", a, low, text)?;
+            schema.write_behind(b" and ", a, high, text)
         }
-        Op::OneOf(values) => put_set(schema, a, b"in ", values.as_slice(), text),
-        Op::NoneOf(values) => put_set(schema, a, b"not in ", values.as_slice(), text),
+        Op::OneOf(values) => {
+            text.extend_from_slice(b"in ")?;
+            schema.write_set(a, values.as_slice(), text)
+        }
+        Op::NoneOf(values) => {
+            text.extend_from_slice(b"not in ")?;
+            schema.write_set(a, values.as_slice(), text)
+        }
     }
 }
 
@@ -159,61 +165,5 @@ fn put_part(part: &[u8], text: &mut Vec<u8>) -> Result<(), NoMemory>
 {
     text.extend_from_slice(b" ")?;
     text.extend_from_slice(part)?;
-    Ok(())
-}
-
-// Puts a text and a value last.
-fn put_value(
-    schema: &Schema,
-    a: AttrNo,
-    front: &[u8],
-    v: &i64,
-    text: &mut Vec<u8>,
-) -> Result<(), NoMemory>
-    requires { item_lies schema.now (a, v.now) ≡ true }
-    ensures written { OnOk result (text.new.items ≡ text.old.items ++ front.now ++ value_text_at schema.now a v.now) }
-    ensures word { OnOk result (IsWord (value_text_at schema.now a v.now)) }
-{
-    text.extend_from_slice(front)?;
-    schema.write_value(a, *v, text)
-}
-
-// Puts a text and a set last.
-fn put_set(
-    schema: &Schema,
-    a: AttrNo,
-    front: &[u8],
-    values: &[i64],
-    text: &mut Vec<u8>,
-) -> Result<(), NoMemory>
-    requires { lies_in (range_of schema.now a) values.now ≡ true }
-    ensures written { OnOk result (text.new.items ≡ text.old.items ++ front.now ++ set_text (value_text_at schema.now a) values.now) }
-    ensures words { OnOk result (All (λ v. IsWord (value_text_at schema.now a v)) values.now) }
-{
-    text.extend_from_slice(front)?;
-    text.extend_from_slice(b"{")?;
-    put_values(schema, a, values, text)?;
-    text.extend_from_slice(b"}")?;
-    Ok(())
-}
-
-// Puts values last, parted by commas.
-fn put_values(
-    schema: &Schema,
-    a: AttrNo,
-    values: &[i64],
-    text: &mut Vec<u8>,
-) -> Result<(), NoMemory>
-    requires { lies_in (range_of schema.now a) values.now ≡ true }
-    ensures written { OnOk result (text.new.items ≡ text.old.items ++ join_by (value_text_at schema.now a) (44 ∷ []) values.now) }
-    ensures words { OnOk result (All (λ v. IsWord (value_text_at schema.now a v)) values.now) }
-{
-    let Some((first, rest)) = values.split_first() else {
-        return Ok(());
-    };
-    put_value(schema, a, b"", first, text)?;
-    for v in rest {
-        put_value(schema, a, b",", v, text)?;
-    }
     Ok(())
 }

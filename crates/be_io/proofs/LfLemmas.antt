@@ -1,8 +1,8 @@
 -- Where the first LF stands.
-use Rattle.std.proofs.Common.{◌≡◌, ℕ, zero, suc, ◌+◌, ◌-◌, ◌<◌, ◌≤◌, ◌==◌, ◌||◌, Bool, true, false, List, [], ◌∷◌, ◌++◌, length, take, drop, get_or, Option, Some, None, MatchOption, refl, sym, ap, ◌∙◌, arith, append_assoc, length-drop}
+use Rattle.std.proofs.Common.{◌≡◌, ℕ, zero, suc, ◌+◌, ◌-◌, ◌<◌, ◌≤◌, ◌==◌, ◌||◌, false, List, [], ◌∷◌, ◌++◌, length, take, drop, get_or, Option, Some, None, MatchOption, refl, sym, ap, ◌∙◌, arith, append_assoc, length-drop}
 use Rattle.std.proofs.lemmas.List.{take-append-drop, drop_more, drop-drop, drop-take, take_all}
 use Rattle.std.proofs.lemmas.List.Folds.{list_any-append}
-use Rattle.std.proofs.lemmas.Bool.{eqb-true}
+use Rattle.std.proofs.lemmas.Bool.{eqb-true, false_from_ne_true}
 use Rattle.std.proofs.Math.Seq.{take-add}
 use Rattle.memchr.specs.Find.{is_byte, IsFirstByte}
 use Rattle.be_io.specs.Lines.{has_lf}
@@ -25,10 +25,6 @@ has_lf-take (suc n) (b ∷ bytes) within none =
     let later : has_lf (take n bytes) ≡ false = has_lf-take n bytes (omega arith) (λ k below. none (suc k) (omega arith)) in
     ap (λ t. t || has_lf (take n bytes)) (none 0 (omega arith)) ∙ later
 
-not_true : (b : Bool) → (b ≡ true → ⊥) → b ≡ false
-not_true true h = absurd (h refl)
-not_true false h = refl
-
 -- a text whose first LF stands at this place
 pub IsFirstLf-from_none : (bytes : List ℕ) (at : ℕ) → at < length bytes → has_lf (take at bytes) ≡ false → get_or bytes at 0 ≡ 10 → IsFirstLf bytes at
 IsFirstLf-from_none bytes at within none is_lf = (
@@ -42,9 +38,9 @@ IsFirstLf-from_none bytes at within none is_lf = (
 -- what a search for an LF answers
 pub IsFirstLf-from_search : (bytes : List ℕ) (found : Option ℕ) → IsFirstByte (is_byte 10) bytes found → MatchOption found (has_lf bytes ≡ false) (IsFirstLf bytes)
 IsFirstLf-from_search bytes None nowhere =
-    ap has_lf (sym (take_all (length bytes) bytes (omega arith))) ∙ has_lf-take (length bytes) bytes (omega arith) (λ k below. not_true (get_or bytes k 0 == 10) (nowhere k (omega arith) below))
+    ap has_lf (sym (take_all (length bytes) bytes (omega arith))) ∙ has_lf-take (length bytes) bytes (omega arith) (λ k below. false_from_ne_true (get_or bytes k 0 == 10) (nowhere k (omega arith) below))
 IsFirstLf-from_search bytes (Some at) found =
-    IsFirstLf-from_none bytes at found.0.high (has_lf-take at bytes (let high : at < length bytes = found.0.high in omega arith) (λ k below. not_true (get_or bytes k 0 == 10) (found.0.before k (omega arith) below))) (eqb-true (get_or bytes at 0) 10 found.1)
+    IsFirstLf-from_none bytes at found.0.high (has_lf-take at bytes (let high : at < length bytes = found.0.high in omega arith) (λ k below. false_from_ne_true (get_or bytes k 0 == 10) (found.0.before k (omega arith) below))) (eqb-true (get_or bytes at 0) 10 found.1)
 
 -- an LF that was found behind the bytes that were searched before
 pub IsFirstLf-later : (bytes : List ℕ) (scanned at : ℕ) → scanned ≤ length bytes → has_lf (take scanned bytes) ≡ false → IsFirstLf (drop scanned bytes) at → IsFirstLf bytes (scanned + at)

@@ -1,7 +1,7 @@
 pub mod ToldLemmas
 pub mod LfLemmas
 pub mod FillLemmas
+pub mod BufferLemmas
 pub mod ReadingLemmas
 pub mod LineLemmas
-pub mod CountLemmas
-pub mod BufferLemmas
+pub mod FileLineLemmas

@@ -1,45 +1,34 @@
 -- The lines of a text, from its front.
-use Rattle.std.proofs.Common.{◌≡◌, ℕ, ◌==◌, ◌||◌, ◌<◌, ◌++◌, Bool, true, false, List, [], ◌∷◌, length, map, refl, ap, ◌∙◌, arith, if◌then◌else◌}
+use Rattle.std.proofs.Common.{◌≡◌, ℕ, ◌==◌, ◌<◌, ◌++◌, Bool, true, false, List, [], ◌∷◌, length, map, refl, ap, ◌∙◌, arith, if◌then◌else◌}
+use Rattle.std.proofs.lemmas.Bool.{or_parts, or_right}
 use Rattle.be_io.specs.Lines.{has_lf, closed_lines, open_line, put_first, last_line, lines, line_of, closed_line}
 use Rattle.be_io.specs.Reader.{ClosedLine, OpenLine}
 use Rattle.be_io.proofs.LfLemmas.{has_lf-append}
 
-or_true : (x : Bool) → (x || true) ≡ true
-or_true true = refl
-or_true false = refl
-
-first_false : (x y : Bool) → (x || y) ≡ false → x ≡ false
-first_false true y h = h
-first_false false y h = refl
-
-rest_false : (x y : Bool) → (x || y) ≡ false → y ≡ false
-rest_false true y h = cc
-rest_false false y h = h
-
 -- a text with an LF behind another one has an LF
 has_lf-behind : (line rest : List ℕ) → has_lf (line ++ 10 ∷ rest) ≡ true
-has_lf-behind line rest = has_lf-append line (10 ∷ rest) ∙ or_true (has_lf line)
+has_lf-behind line rest = has_lf-append line (10 ∷ rest) ∙ or_right (has_lf line) true refl
 
-closed_lines-append : (line rest : List ℕ) → has_lf line ≡ false → closed_lines (line ++ 10 ∷ rest) ≡ line ∷ closed_lines rest
+pub closed_lines-append : (line rest : List ℕ) → has_lf line ≡ false → closed_lines (line ++ 10 ∷ rest) ≡ line ∷ closed_lines rest
 closed_lines-append [] rest none = refl
 closed_lines-append (b ∷ line) rest none =
-    ap (λ t. if t then [] ∷ closed_lines (line ++ 10 ∷ rest) else put_first b (closed_lines (line ++ 10 ∷ rest))) (first_false (b == 10) (has_lf line) none) ∙ ap (λ lines. put_first b lines) (closed_lines-append line rest (rest_false (b == 10) (has_lf line) none))
+    ap (λ t. if t then [] ∷ closed_lines (line ++ 10 ∷ rest) else put_first b (closed_lines (line ++ 10 ∷ rest))) (or_parts (b == 10) (has_lf line) none).0 ∙ ap (λ lines. put_first b lines) (closed_lines-append line rest (or_parts (b == 10) (has_lf line) none).1)
 
-closed_lines-none : (line : List ℕ) → has_lf line ≡ false → closed_lines line ≡ []
+pub closed_lines-none : (line : List ℕ) → has_lf line ≡ false → closed_lines line ≡ []
 closed_lines-none [] none = refl
 closed_lines-none (b ∷ line) none =
-    ap (λ t. if t then [] ∷ closed_lines line else put_first b (closed_lines line)) (first_false (b == 10) (has_lf line) none) ∙ ap (λ lines. put_first b lines) (closed_lines-none line (rest_false (b == 10) (has_lf line) none))
+    ap (λ t. if t then [] ∷ closed_lines line else put_first b (closed_lines line)) (or_parts (b == 10) (has_lf line) none).0 ∙ ap (λ lines. put_first b lines) (closed_lines-none line (or_parts (b == 10) (has_lf line) none).1)
 
-open_line-append : (line rest : List ℕ) → open_line (line ++ 10 ∷ rest) ≡ open_line rest
+pub open_line-append : (line rest : List ℕ) → open_line (line ++ 10 ∷ rest) ≡ open_line rest
 open_line-append [] rest = refl
 open_line-append (b ∷ line) rest =
     ap (λ t. if t then open_line (line ++ 10 ∷ rest) else b ∷ (line ++ 10 ∷ rest)) (has_lf-behind (b ∷ line) rest) ∙ open_line-append line rest
 
-open_line-none : (line : List ℕ) → has_lf line ≡ false → open_line line ≡ line
+pub open_line-none : (line : List ℕ) → has_lf line ≡ false → open_line line ≡ line
 open_line-none [] none = refl
 open_line-none (b ∷ line) none = ap (λ t. if t then open_line line else b ∷ line) none
 
-last_line-some : (line : List ℕ) → 0 < length line → last_line true line ≡ line ∷ []
+pub last_line-some : (line : List ℕ) → 0 < length line → last_line true line ≡ line ∷ []
 last_line-some [] some = absurd (omega arith)
 last_line-some (b ∷ line) some = refl
 
@@ -61,6 +50,3 @@ lines-OpenLine limit bytes line rest last =
 pub lines-begun : (limit : ℕ) (begun : List ℕ) → has_lf begun ≡ false → lines limit false begun ≡ []
 lines-begun limit begun none =
     ap (λ front. map (λ l. closed_line limit l) front ++ map (λ l. line_of limit l) (last_line false (open_line begun))) (closed_lines-none begun none) ∙ ap (λ l. map (λ l. line_of limit l) l) (last_line-false (open_line begun))
-
-pub lines-nil : (limit : ℕ) (ended : Bool) → lines limit ended [] ≡ []
-lines-nil limit ended = refl

@@ -1,13 +1,15 @@
 -- What is known of a reader within a call.
 use Rattle.std.proofs.Common.{◌≡◌, ℕ, ◌+◌, ◌<◌, ◌≤◌, ◌==◌, ◌||◌, inl, inr, Bool, true, false, List, [], ◌∷◌, ◌++◌, length, take, drop, nat_lt, Option, Some, None, refl, sym, ap, subst, ◌∙◌, arith, append_assoc, add-zero, length-take, length-append, if◌then◌else◌}
 use Rattle.std.proofs.lemmas.List.{append-nil, take_all, take_at, nil_from_length}
+use Rattle.std.proofs.lemmas.Bool.{or_parts}
 use Rattle.std.proofs.lemmas.Bool.Decides.{nat_tests}
 use Rattle.be_io.specs.declared.lines.Line.{Line}
 use Rattle.be_io.specs.declared.lines.Line.TheVariants.{Text, Long, End}
 use Rattle.be_io.specs.Lines.{has_lf, without_cr}
 use Rattle.be_io.specs.Told.{WhereTold}
 use Rattle.be_io.specs.Reader.{ReaderState, NextLine, GivesLine, BreaksOff, text_of}
-use Rattle.be_io.specs.Reading.{IsFirstLf, IsReading, Takes, answer_of, shown}
+use Rattle.be_io.specs.Reading.{IsFirstLf, IsReading, answer_of, shown}
+use Rattle.be_io.specs.Buffer.{Takes}
 use Rattle.be_io.proofs.LfLemmas.{has_lf-append, has_lf-none}
 
 WhereTold-same : (left : Option (List ℕ)) → WhereTold left left (λ before after. before ≡ after)
@@ -48,8 +50,8 @@ pub IsReading-none : (old new : ReaderState) (before after : Option (List ℕ)) 
 IsReading-none old new before after skipped reading =
     ap has_lf (sym (take_all (length new.unread) new.unread (omega arith))) ∙ reading.clean
 
-pub IsReading-counted : (old new : ReaderState) (before after : Option (List ℕ)) (skipped scanned : ℕ) → IsReading old new before after skipped scanned → length old.unread ≤ old.taken → skipped + length new.unread ≤ new.taken
-IsReading-counted old new before after skipped scanned reading counted =
+pub IsReading-counted : {old new : ReaderState} {before after : Option (List ℕ)} {skipped scanned : ℕ} → IsReading old new before after skipped scanned → length old.unread ≤ old.taken → skipped + length new.unread ≤ new.taken
+IsReading-counted {old} {new} {before} {after} {skipped} {scanned} reading counted =
     let taken : new.taken ≡ old.taken + length reading.given = ap (λ r. r.taken) reading.same in
     omega (arith, ap length reading.parts, length-append old.unread reading.given, length-append reading.begun new.unread, reading.skipped_is)
 
@@ -91,13 +93,13 @@ is_within : (skipped limit len : ℕ) → (nat_lt 0 skipped || nat_lt limit len)
 is_within skipped limit len h = grind (arith, nat_tests)
 
 -- after the unread bytes were passed over where they belong to a line over the limit
-pub IsReading-skip : (old a b : ReaderState) (before after : Option (List ℕ)) (skipped scanned n : ℕ) → IsReading old a before after skipped scanned → has_lf a.unread ≡ false → n ≡ (if nat_lt 0 skipped || nat_lt a.limit (length a.unread) then length a.unread else 0) → b ≡ (if nat_lt 0 skipped || nat_lt a.limit (length a.unread) then record a { unread = [] } else a) → IsReading old b before after (skipped + n) (length b.unread)
-IsReading-skip old a b before after skipped scanned n =
+pub IsReading-skip : {old a b : ReaderState} {before after : Option (List ℕ)} {skipped scanned n : ℕ} → IsReading old a before after skipped scanned → has_lf a.unread ≡ false → n ≡ (if nat_lt 0 skipped || nat_lt a.limit (length a.unread) then length a.unread else 0) → b ≡ (if nat_lt 0 skipped || nat_lt a.limit (length a.unread) then record a { unread = [] } else a) → IsReading old b before after (skipped + n) (length b.unread)
+IsReading-skip {old} {a} {b} {before} {after} {skipped} {scanned} {n} =
     IsReading-skip_by old a b before after skipped scanned n (nat_lt 0 skipped || nat_lt a.limit (length a.unread)) (is_over skipped a.limit (length a.unread)) (is_within skipped a.limit (length a.unread))
 
 -- after one more read
-pub IsReading-fill : (old b c : ReaderState) (before middle after : Option (List ℕ)) (skipped k : ℕ) → IsReading old b before middle skipped (length b.unread) → c ≡ record b { unread = c.unread; text = []; taken = b.taken + k } → Takes b c middle after k → IsReading old c before after skipped (length b.unread)
-IsReading-fill old b c before middle after skipped k reading c_is takes =
+pub IsReading-fill : {old b c : ReaderState} {before middle after : Option (List ℕ)} {skipped k : ℕ} → IsReading old b before middle skipped (length b.unread) → c ≡ record b { unread = c.unread; text = []; taken = b.taken + k } → Takes b.unread c.unread middle after k → IsReading old c before after skipped (length b.unread)
+IsReading-fill {old} {b} {c} {before} {middle} {after} {skipped} {k} reading c_is takes =
     let more = takes.0 in
     let limit : c.limit ≡ b.limit = ap (λ r. r.limit) c_is in
     let count : old.taken + length reading.given + k ≡ old.taken + length (reading.given ++ more) = omega (arith, takes.1, length-append reading.given more) in
@@ -141,8 +143,8 @@ whole_is begun tail skipped limit len skipped_is long within =
     ap (λ b. b ++ tail) (nil_from_length begun (skipped_is ∙ few))
 
 -- the line before the first LF
-pub IsReading-close : (old a new : ReaderState) (before after : Option (List ℕ)) (skipped scanned len : ℕ) (line : Line) → IsReading old a before after skipped scanned → old.ended ≡ false → IsFirstLf a.unread len → line ≡ answer_of a.limit (skipped + len) → new ≡ record a { unread = drop (len + 1) a.unread; text = without_cr (shown a.limit (skipped + len) (take len a.unread)) } → WhereTold before after (λ left rest. GivesLine new line (old.unread ++ left) (new.unread ++ rest))
-IsReading-close old a new before after skipped scanned len line reading open_now lf line_is new_is =
+pub IsReading-close : {old a new : ReaderState} {before after : Option (List ℕ)} {skipped scanned len : ℕ} {line : Line} → IsReading old a before after skipped scanned → old.ended ≡ false → IsFirstLf a.unread len → line ≡ answer_of a.limit (skipped + len) → new ≡ record a { unread = drop (len + 1) a.unread; text = without_cr (shown a.limit (skipped + len) (take len a.unread)) } → WhereTold before after (λ left rest. GivesLine new line (old.unread ++ left) (new.unread ++ rest))
+IsReading-close {old} {a} {new} {before} {after} {skipped} {scanned} {len} {line} reading open_now lf line_is new_is =
     let begun = reading.begun in
     let tail : List ℕ = take len a.unread in
     let behind : List ℕ = drop (len + 1) a.unread in
@@ -166,8 +168,8 @@ answer_by new line total whole bytes rest tail false test line_is text_is total_
     GivesLine-answer new line total whole tail bytes rest line_is text_is total_is same (inr (ended, (none, some_bytes, bytes_is, rest_is)))
 
 -- the last line
-pub IsReading-finish : (old b c new : ReaderState) (before middle after : Option (List ℕ)) (skipped : ℕ) (line : Line) → IsReading old b before middle skipped (length b.unread) → c ≡ record b { unread = c.unread; text = []; taken = b.taken + 0 } → Takes b c middle after 0 → line ≡ (if skipped + length c.unread == 0 then End else answer_of c.limit (skipped + length c.unread)) → new ≡ record c { unread = []; text = shown c.limit (skipped + length c.unread) c.unread; ended = true } → WhereTold before after (λ left rest. GivesLine new line (old.unread ++ left) (new.unread ++ rest))
-IsReading-finish old b c new before middle after skipped line reading c_is takes line_is new_is =
+pub IsReading-finish : {old b c new : ReaderState} {before middle : Option (List ℕ)} (after : Option (List ℕ)) {skipped : ℕ} {line : Line} → IsReading old b before middle skipped (length b.unread) → c ≡ record b { unread = c.unread; text = []; taken = b.taken + 0 } → Takes b.unread c.unread middle after 0 → line ≡ (if skipped + length c.unread == 0 then End else answer_of c.limit (skipped + length c.unread)) → new ≡ record c { unread = []; text = shown c.limit (skipped + length c.unread) c.unread; ended = true } → WhereTold before after (λ left rest. GivesLine new line (old.unread ++ left) (new.unread ++ rest))
+IsReading-finish {old} {b} {c} {new} {before} {middle} after {skipped} {line} reading c_is takes line_is new_is =
     let begun = reading.begun in
     let limit : new.limit ≡ b.limit = ap (λ r. r.limit) new_is ∙ ap (λ r. r.limit) c_is in
     let same : new.limit ≡ c.limit = ap (λ r. r.limit) new_is in
@@ -183,15 +185,11 @@ IsReading-finish old b c new before middle after skipped line reading c_is takes
     answer_by new line (skipped + length c.unread) (begun ++ c.unread) (old.unread ++ left) (new.unread ++ rest) c.unread (skipped + length c.unread == 0) refl (line_is ∙ ap (λ n. if skipped + length c.unread == 0 then End else answer_of n (skipped + length c.unread)) (sym same)) (ap (λ r. r.text) new_is ∙ ap (λ n. shown n (skipped + length c.unread) c.unread) (sym same) ∙ ap (λ e. text_of e (shown new.limit (skipped + length c.unread) c.unread)) (sym ended)) whole_len (λ h. whole_is begun c.unread skipped new.limit (length c.unread) reading.skipped_is (λ (few : skipped ≤ new.limit). reading.long (omega arith)) h) ended none (bytes_are old b before middle skipped (length b.unread) reading left between first ∙ ap (λ l. begun ++ b.unread ++ l) empty ∙ append-nil (begun ++ b.unread) ∙ ap (λ u. begun ++ u) (sym tail)) (ap (λ u. u ++ rest) rest_is ∙ gone)) reading.told takes.3
 
 -- what was taken before a fault has no LF
-pub IsReading-broken : (old b : ReaderState) (before middle after : Option (List ℕ)) (skipped : ℕ) → IsReading old b before middle skipped (length b.unread) → after ≡ middle → WhereTold before after (λ left rest. BreaksOff (old.unread ++ left) rest)
-IsReading-broken old b before middle after skipped reading after_is =
+pub IsReading-broken : {old b : ReaderState} {before middle after : Option (List ℕ)} {skipped : ℕ} → IsReading old b before middle skipped (length b.unread) → after ≡ middle → WhereTold before after (λ left rest. BreaksOff (old.unread ++ left) rest)
+IsReading-broken {old} {b} {before} {middle} {after} {skipped} reading after_is =
     let P : Option (List ℕ) → Type 0 = λ m. WhereTold before m (λ left rest. BreaksOff (old.unread ++ left) rest) in
     subst P (sym after_is) (WhereTold-map before middle (λ left rest. left ≡ reading.given ++ rest) (λ left rest. BreaksOff (old.unread ++ left) rest) (λ left rest is. (reading.begun ++ b.unread, has_lf-none reading.begun b.unread reading.passed (IsReading-none old b before middle skipped reading), bytes_are old b before middle skipped (length b.unread) reading left rest is)) reading.told)
 
-left_false : (x y : Bool) → (x || y) ≡ false → x ≡ false
-left_false true y h = h
-left_false false y h = refl
-
-pub IsReading-unbroken : (old b : ReaderState) (before middle : Option (List ℕ)) (skipped : ℕ) → IsReading old b before middle skipped (length b.unread) → has_lf old.unread ≡ false
-IsReading-unbroken old b before middle skipped reading =
-    left_false (has_lf old.unread) (has_lf reading.given) (sym (has_lf-append old.unread reading.given) ∙ ap has_lf reading.parts ∙ has_lf-none reading.begun b.unread reading.passed (IsReading-none old b before middle skipped reading))
+pub IsReading-unbroken : {old b : ReaderState} {before middle : Option (List ℕ)} {skipped : ℕ} → IsReading old b before middle skipped (length b.unread) → has_lf old.unread ≡ false
+IsReading-unbroken {old} {b} {before} {middle} {skipped} reading =
+    (or_parts (has_lf old.unread) (has_lf reading.given) (sym (has_lf-append old.unread reading.given) ∙ ap has_lf reading.parts ∙ has_lf-none reading.begun b.unread reading.passed (IsReading-none old b before middle skipped reading))).0

@@ -1,25 +1,31 @@
--- The fields of a reader of lines.
-use Rattle.std.specs.Prelude.{◌≡◌, ◌+◌, ◌-◌, ◌≤◌, true, take, drop, vec_len}
-use Rattle.be_io.specs.Reader.{ReaderState}
-use Rattle.be_io.specs.declared.lines.LineReader.TheInside.{Inside}
+-- A buffer of bytes that wait to be used.
+use Rattle.std.specs.Prelude.{◌≡◌, ℕ, ◌-◌, ◌≤◌, ◌++◌, List, [], length, take, drop, vec_len, Option}
+use Rattle.be_io.specs.Told.{WhereTold}
+use Rattle.be_io.specs.declared.buffer.Buffer.TheInside.{Inside}
 
-abbrev pub reader_state : Inside → ReaderState
-reader_state r = record {
-  limit = r.limit;
-  unread = take (r.end - r.start) (drop r.start r.buf.items);
-  text = take r.text_len (drop r.text_start r.buf.items);
-  taken = r.taken;
-  ended = r.ended;
-  stopped = r.stopped;
+pub record BufferState : Type 0 where
+  -- how many bytes it has room for
+  pub room : ℕ
+  -- the bytes that were used last
+  pub used : List ℕ
+  -- the bytes that were read and aren't used yet
+  pub unread : List ℕ
+
+abbrev pub buffer_state : Inside → BufferState
+buffer_state b = record {
+  room = vec_len b.bytes;
+  used = take (b.start - b.shown) (drop b.shown b.bytes.items);
+  unread = take (b.end - b.start) (drop b.start b.bytes.items);
 }
 
--- the unread bytes and the text lie in the buffer, which has room for a line and one read
-pub record IsSound (r : Inside) : Type 0 where
-  pub room : vec_len r.buf ≡ r.limit + 65536
-  pub limit : r.limit ≤ 67108864
-  pub start : r.start ≤ r.end
-  pub end : r.end ≤ vec_len r.buf
-  pub text : r.text_start + r.text_len ≤ vec_len r.buf
-  pub counted : r.end ≤ r.start + r.taken
-  pub bound : r.taken ≤ 1099511627776
-  pub done : r.ended ≡ true → r.start ≡ r.end
+-- the used bytes stand before the unread ones
+pub record InOrder (b : Inside) : Type 0 where
+  pub shown : b.shown ≤ b.start
+  pub start : b.start ≤ b.end
+  pub end : b.end ≤ vec_len b.bytes
+
+-- the next k bytes of the source came behind the unread ones, and none only at the source's end
+abbrev pub Takes : List ℕ → List ℕ → Option (List ℕ) → Option (List ℕ) → ℕ → Type 0
+Takes old new before after k =
+    (given : List ℕ) × (length given ≡ k) × (new ≡ old ++ given)
+    × WhereTold before after (λ left rest. (left ≡ given ++ rest) × (k ≡ 0 → rest ≡ []))

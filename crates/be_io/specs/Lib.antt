@@ -6,8 +6,10 @@ pub mod Outside
 pub mod Calls
 pub mod Memory
 pub mod Lines
+pub mod FileLines
 pub mod Reader
 pub mod Reading
 pub mod Buffer
+pub mod LineReader
 pub mod Shelf
 pub mod Door

@@ -1,6 +1,7 @@
 -- A reader of lines, and what it answers.
-use Rattle.std.specs.Prelude.{◌≡◌, ℕ, ◌+◌, ◌<◌, ◌≤◌, ◌++◌, ◌⊎◌, Bool, true, false, List, [], ◌∷◌, length, Option}
+use Rattle.std.specs.Prelude.{◌≡◌, ℕ, ◌+◌, ◌<◌, ◌≤◌, ◌++◌, ◌⊎◌, Bool, true, false, List, [], ◌∷◌, length, Option, Some}
 use Rattle.be_io.specs.Lines.{has_lf, without_cr}
+use Rattle.be_io.specs.Told.{WhereTold}
 use Rattle.be_io.specs.declared.faults.LineFault.{LineFault}
 use Rattle.be_io.specs.declared.lines.Line.{Line}
 use Rattle.be_io.specs.declared.lines.Line.TheVariants.{Text, Long, End}
@@ -60,3 +61,14 @@ abbrev pub MovesOn : ReaderState → ReaderState → Line → Type 0
 MovesOn old new Text = length new.unread + old.taken < length old.unread + new.taken
 MovesOn old new (Long len) = length new.unread + old.taken < length old.unread + new.taken
 MovesOn old new End = Unit {0}
+
+-- the next line of all that is left, where the source tells what it has left before and after
+abbrev pub GivesNext : List ℕ → ReaderState → Line → Option (List ℕ) → Option (List ℕ) → Type 0
+GivesNext unread new line before after =
+    WhereTold before after (λ left rest. GivesLine new line (unread ++ left) (new.unread ++ rest))
+
+-- the reader stopped with this fault. What was taken before and isn't in a line yet has no LF
+abbrev pub Stops : List ℕ → ReaderState → LineFault → Option (List ℕ) → Option (List ℕ) → Type 0
+Stops unread new fault before after =
+    (new.stopped ≡ Some fault) × (new.text ≡ []) × (new.ended ≡ false)
+    × WhereTold before after (λ left rest. BreaksOff (unread ++ left) rest)

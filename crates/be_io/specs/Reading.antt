@@ -18,12 +18,6 @@ answer_of limit len = if nat_lt limit len then Long len else Text
 abbrev pub shown : ℕ → ℕ → List ℕ → List ℕ
 shown limit len bytes = if nat_lt limit len then [] else bytes
 
--- the reader took the next k bytes of its source, where it took none only at the source's end
-abbrev pub Takes : ReaderState → ReaderState → Option (List ℕ) → Option (List ℕ) → ℕ → Type 0
-Takes old new before after k =
-    (given : List ℕ) × (length given ≡ k) × (new.unread ≡ old.unread ++ given)
-    × WhereTold before after (λ left rest. (left ≡ given ++ rest) × (k ≡ 0 → rest ≡ []))
-
 -- within a call that began with this old reader
 pub record IsReading (old new : ReaderState) (before after : Option (List ℕ)) (skipped scanned : ℕ) : Type 0 where
   -- what was taken in this call

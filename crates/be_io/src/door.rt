@@ -2,6 +2,7 @@
 
 ghost use Rattle.std.specs.Prelude.{◌≡◌, ◌+◌, ◌<◌, ◌≤◌, ◌++◌, ◌∷◌, [], ℕ, true, false, Some, None, Ok, Err, IfOk, IfErr, OnOk, IfSome, max, map, if◌then◌else◌};
 ghost use Rattle.std.specs.List.{range_with_len};
+ghost use Rattle.be_base.specs.declared.limits.TheConstants.{LINKS, SEATS};
 ghost use Rattle.be_io.specs.Counts.{raised, HasRisen};
 ghost use Rattle.be_io.specs.Door.{CountState, DoorState, AreAllCounts, new_count, after_try, after_listen, after_settle, no_door_state};
 
@@ -29,6 +30,7 @@ pub struct DoorCount<L> {
 
 impl<L> Model for DoorCount<L> {
     ghost use Rattle.std.specs.Prelude.{◌+◌, ◌<◌, ◌≤◌};
+    ghost use Rattle.be_base.specs.declared.limits.TheConstants.{LINKS};
     ghost use Rattle.be_io.specs.Door.{CountState};
 
     ghost Value = { CountState L };
@@ -48,7 +50,7 @@ impl<L> Model for DoorCount<L> {
       kept = c.kept.items;
     } };
 
-    ghost invariant = { λ c. (0 < c.of) × (c.given + c.failed + c.refused ≤ c.links) × (c.links ≤ 1000000) };
+    ghost invariant = { λ c. (0 < c.of) × (c.given + c.failed + c.refused ≤ c.links) × (c.links ≤ LINKS) };
 }
 
 /// Something that gives out links to workers, a bounded number of them.
@@ -62,9 +64,9 @@ pub trait Door<L: Link> {
         links: u64,
         workers: u32,
     ) -> Result<Vec<DoorCount<L>>, ListenFault>
-        requires links { links ≤ 1000000 }
+        requires links { links ≤ LINKS }
         requires some { 0 < workers }
-        requires workers { workers ≤ 64 }
+        requires workers { workers ≤ SEATS }
         ensures listens { OnOk result (state self.new ≡ after_listen (state self.old) port links workers) }
         ensures counts { IfOk result (λ counts. counts.items
             ≡ map (new_count (state self.new).listens links) (range_with_len 0 workers)) }
@@ -150,9 +152,9 @@ impl<L: Link + Drop> Door<L> for NoDoor {
         links: u64,
         workers: u32,
     ) -> Result<Vec<DoorCount<L>>, ListenFault>
-        requires links { links ≤ 1000000 }
+        requires links { links ≤ LINKS }
         requires some { 0 < workers }
-        requires workers { workers ≤ 64 }
+        requires workers { workers ≤ SEATS }
         ensures fails { result ≡ Err ListenFault.Failed }
         ensures after { self.new ≡ record {
           tries = raised 1 self.old.tries;

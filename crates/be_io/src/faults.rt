@@ -1,5 +1,9 @@
 //! Why a call on the outside failed.
 
+ghost use Rattle.std.specs.Prelude.{◌≡◌};
+ghost use Rattle.be_io.specs.declared.faults.ShelfFault.TheVariants as ShelfFault;
+
+use std::alloc::{AllocError, AllocFailed};
 use thiserror::Error;
 
 /// A call on a handed-in object failed, and that object counted it.
@@ -24,6 +28,22 @@ pub enum ShelfFault {
     Long,
     #[error("out of memory")]
     NoMemory,
+}
+
+impl From<AllocError> for ShelfFault {
+    ghost from_gives = { λ _ fault. fault ≡ ShelfFault.NoMemory };
+
+    fn from(_: AllocError) -> ShelfFault {
+        ShelfFault::NoMemory
+    }
+}
+
+impl<T: Drop> From<AllocFailed<T>> for ShelfFault {
+    ghost from_gives = { λ _ fault. fault ≡ ShelfFault.NoMemory };
+
+    fn from(_: AllocFailed<T>) -> ShelfFault {
+        ShelfFault::NoMemory
+    }
 }
 
 #[derive(Clone, Copy, Debug, PartialEq, Eq, Error)]

@@ -1,9 +1,16 @@
-//! What the product takes from the outside and gives to it, as traits with counts of faults.
+//! What the product takes from the outside and gives to it: sources, sinks, links, doors, shelves and gates, as traits with
+//! counts of faults, and lines read from a source.
+//!
+//! Its contract: lines are those of the bytes read, and a fault comes only where the object that was handed in counted it. Each
+//! trait has an object in memory; the thin adapters over the real things (standard.rt) are the trusted edge. It stands on
+//! be_base. Begin with specs/Outside, then specs/Reader.
 #![tactic(auto)]
 
+mod buffer;
 mod calls;
 mod door;
 mod faults;
+mod file_lines;
 mod gate;
 mod lines;
 mod link;
@@ -15,6 +22,7 @@ mod writing;
 
 pub use door::{Door, DoorCount, NoDoor};
 pub use faults::{AcceptFault, Failed, LineFault, ListenFault, ShelfFault, SinkFault};
+pub use file_lines::{first_line, means_nothing};
 pub use gate::{Gate, NoGate};
 pub use lines::{Line, LineReader};
 pub use link::{Link, Pair};
@@ -23,6 +31,3 @@ pub use sink::{MemSink, Sink};
 pub use source::{MemSource, Source};
 pub use standard::{FileShelf, StdinSource, StdoutSink};
 pub use writing::write_all;
-
-#[cfg(test)]
-mod tests;

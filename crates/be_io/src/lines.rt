@@ -2,20 +2,18 @@
 
 ghost use Rattle.std.specs.Prelude.{◌≡◌, ℕ, ◌+◌, ◌-◌, ◌<◌, ◌≤◌, ◌++◌, List, [], length, take, drop, slice_index, vec_len, true, false, not, Some, None, Ok, Err, IfOk, IfErr, IfSome, OnOk, OnErr, MatchOption, nat_lt, ◌||◌, ◌==◌, if◌then◌else◌};
 ghost use Rattle.be_io.specs.Counts.{raised, HasRisen, RisesBy};
-ghost use Rattle.be_io.specs.Told.{WhereTold};
 ghost use Rattle.be_io.specs.Lines.{has_lf, without_cr};
-ghost use Rattle.be_io.specs.Reader.{ReaderState, GivesLine, FitsLine, BreaksOff, MovesOn};
-ghost use Rattle.be_io.specs.Reading.{IsFirstLf, answer_of, shown, Takes};
+ghost use Rattle.be_io.specs.Reader.{ReaderState, GivesNext, FitsLine, Stops, MovesOn};
+ghost use Rattle.be_io.specs.Reading.{IsFirstLf, answer_of, shown};
+ghost use Rattle.be_io.specs.Buffer.{Takes};
 
+use crate::buffer::Buffer;
 use crate::faults::{Failed, LineFault};
 use crate::source::Source;
-use be_base::{NoMemory, SOURCE_BYTES};
+use be_base::{FILE_BYTES, NoMemory, READ_BYTES, SOURCE_BYTES};
 use memchr::memchr;
 use std::alloc::Global;
 use std::marker::Model;
-
-/// The most bytes that the reader asks for in one read.
-const READ_BYTES: usize = 65536;
 
 /// What a reader of lines answers.
 #[derive(Clone, Copy, Debug, PartialEq, Eq)]
@@ -32,10 +30,7 @@ pub enum Line {
 /// directly before it. What follows the last LF is a line where it isn't empty.
 #[derive(Drop)]
 pub struct LineReader {
-    buf: Vec<u8>,
-    start: usize,
-    end: usize,
-    text_start: usize,
+    buffer: Buffer,
     text_len: usize,
     limit: usize,
     taken: u64,
@@ -48,7 +43,7 @@ impl Model for LineReader {
 
     ghost Value = { ReaderState };
 
-    ghost use Rattle.be_io.specs.Buffer.{reader_state, IsSound};
+    ghost use Rattle.be_io.specs.LineReader.{reader_state, IsSound};
 
     ghost view = { reader_state };
 
@@ -59,7 +54,7 @@ impl LineReader {
     /// A reader of lines of at most `limit` bytes, the LF aside. A CR before the LF counts. It takes
     /// all the memory that it ever uses.
     pub fn make(alloc: Global, limit: usize) -> Result<LineReader, NoMemory>
-        requires { limit ≤ 67108864 }
+        requires { limit ≤ FILE_BYTES }
         ensures { IfOk result (λ reader. reader ≡ record {
           limit = limit;
           unread = [];
@@ -69,12 +64,8 @@ impl LineReader {
           stopped = None;
         }) }
     {
-        let buf = vec![in alloc; 0; limit + READ_BYTES].map_err(|_| NoMemory)?;
         Ok(LineReader {
-            buf,
-            start: 0,
-            end: 0,
-            text_start: 0,
+            buffer: Buffer::make(alloc, limit + READ_BYTES)?,
             text_len: 0,
             limit,
             taken: 0,
@@ -87,11 +78,10 @@ impl LineReader {
     pub fn text(&self) -> &[u8]
         ensures { result.now ≡ self.now.text }
     {
-        &self.buf[self.text_start..self.text_start + self.text_len]
+        &self.buffer.used()[..self.text_len]
     }
 
     /// Reads the next line.
-    #[tactic(auto, using(crate::proofs::BufferLemmas::unread_fits))]
     pub fn next<S: Source>(&mut self, src: &mut S) -> Result<Line, LineFault>
         ensures limit { self.new.limit ≡ self.old.limit }
 
@@ -102,32 +92,31 @@ impl LineReader {
             × (self.new ≡ record self.old { text = [] }) × (src.new ≡ src.old) }
 
         // The next line of all that is left, where the source tells that.
-        ensures line { self.old.ended ≡ false → IfOk result (λ line. WhereTold (S.left src.old) (S.left src.new)
-            (λ before after. GivesLine self.new line (self.old.unread ++ before) (self.new.unread ++ after))) }
+        ensures line { self.old.ended ≡ false → IfOk result (λ line.
+            GivesNext self.old.unread self.new line (S.left src.old) (S.left src.new)) }
         ensures fits { IfOk result (FitsLine self.new) }
         ensures progress { IfOk result (MovesOn self.old self.new) }
         ensures done { self.new.ended ≡ true → self.new.unread ≡ [] }
         ensures sound { OnOk result ((self.new.stopped ≡ None) × (S.read_faults src.new ≡ S.read_faults src.old)) }
 
         // What was taken before a fault, and isn't in a line yet, has no LF.
-        ensures broken { self.old.stopped ≡ None → IfErr result (λ fault. (self.new.stopped ≡ Some fault)
-            × (self.new.text ≡ []) × (self.new.ended ≡ false) × WhereTold (S.left src.old) (S.left src.new)
-            (λ before after. BreaksOff (self.old.unread ++ before) after)) }
+        ensures broken { self.old.stopped ≡ None → IfErr result (λ fault.
+            Stops self.old.unread self.new fault (S.left src.old) (S.left src.new)) }
         ensures read_fault { self.old.stopped ≡ None → result ≡ Err LineFault.ReadFault
             → HasRisen (S.read_faults src.old) (S.read_faults src.new) }
         ensures spent { self.old.stopped ≡ None → result ≡ Err LineFault.Spent
-            → (self.new.taken ≡ 1099511627776) × (S.read_faults src.new ≡ S.read_faults src.old) }
+            → (self.new.taken ≡ SOURCE_BYTES) × (S.read_faults src.new ≡ S.read_faults src.old) }
 
         // Where it has taken all that it may, it answers no line that needs a further read.
-        ensures spent_at { self.old.stopped ≡ None → self.old.ended ≡ false → self.old.taken ≡ 1099511627776
+        ensures spent_at { self.old.stopped ≡ None → self.old.ended ≡ false → self.old.taken ≡ SOURCE_BYTES
             → has_lf self.old.unread ≡ false → result ≡ Err LineFault.Spent }
         ensures unbroken { self.old.stopped ≡ None → OnErr result (has_lf self.old.unread ≡ false) }
 
         ensures taken { RisesBy (self.new.taken - self.old.taken) (S.taken src.old) (S.taken src.new) }
         ensures beside { S.sink_beside src.new ≡ S.sink_beside src.old }
         ensures grows { self.old.taken ≤ self.new.taken }
-        ensures bound { self.new.taken ≤ 1099511627776 }
-        ensures buffered { length self.new.unread ≤ self.new.limit + 65536 }
+        ensures bound { self.new.taken ≤ SOURCE_BYTES }
+        ensures buffered { length self.new.unread ≤ self.new.limit + READ_BYTES }
     {
         self.text_len = 0;
         if let Some(fault) = self.stopped {
@@ -144,28 +133,27 @@ impl LineReader {
         requires sound { self.old.stopped ≡ None }
         requires shows_none { self.old.text ≡ [] }
         requires counted { length self.old.unread ≤ self.old.taken }
-        requires bound { self.old.taken ≤ 1099511627776 }
+        requires bound { self.old.taken ≤ SOURCE_BYTES }
         ensures limit { self.new.limit ≡ self.old.limit }
-        ensures line { IfOk result (λ line. WhereTold (S.left src.old) (S.left src.new)
-            (λ before after. GivesLine self.new line (self.old.unread ++ before) (self.new.unread ++ after))) }
+        ensures line { IfOk result (λ line.
+            GivesNext self.old.unread self.new line (S.left src.old) (S.left src.new)) }
         ensures fits { IfOk result (FitsLine self.new) }
         ensures progress { IfOk result (MovesOn self.old self.new) }
         ensures done { self.new.ended ≡ true → self.new.unread ≡ [] }
         ensures sound { OnOk result ((self.new.stopped ≡ None) × (S.read_faults src.new ≡ S.read_faults src.old)) }
-        ensures broken { IfErr result (λ fault. (self.new.stopped ≡ Some fault)
-            × (self.new.text ≡ []) × (self.new.ended ≡ false) × WhereTold (S.left src.old) (S.left src.new)
-            (λ before after. BreaksOff (self.old.unread ++ before) after)) }
+        ensures broken { IfErr result (λ fault.
+            Stops self.old.unread self.new fault (S.left src.old) (S.left src.new)) }
         ensures read_fault { result ≡ Err LineFault.ReadFault
             → HasRisen (S.read_faults src.old) (S.read_faults src.new) }
         ensures spent { result ≡ Err LineFault.Spent
-            → (self.new.taken ≡ 1099511627776) × (S.read_faults src.new ≡ S.read_faults src.old) }
-        ensures spent_at { self.old.taken ≡ 1099511627776 → has_lf self.old.unread ≡ false → result ≡ Err LineFault.Spent }
+            → (self.new.taken ≡ SOURCE_BYTES) × (S.read_faults src.new ≡ S.read_faults src.old) }
+        ensures spent_at { self.old.taken ≡ SOURCE_BYTES → has_lf self.old.unread ≡ false → result ≡ Err LineFault.Spent }
         ensures unbroken { OnErr result (has_lf self.old.unread ≡ false) }
         ensures taken { RisesBy (self.new.taken - self.old.taken) (S.taken src.old) (S.taken src.new) }
         ensures beside { S.sink_beside src.new ≡ S.sink_beside src.old }
         ensures grows { self.old.taken ≤ self.new.taken }
-        ensures bound { self.new.taken ≤ 1099511627776 }
-        ensures buffered { length self.new.unread ≤ self.new.limit + 65536 }
+        ensures bound { self.new.taken ≤ SOURCE_BYTES }
+        ensures buffered { length self.new.unread ≤ self.new.limit + READ_BYTES }
     {
         let mut skipped = 0;
         let mut scanned = 0;
@@ -184,7 +172,7 @@ impl LineReader {
     fn unread_len(&self) -> usize
         ensures { result ≡ length self.now.unread }
     {
-        self.end - self.start
+        self.buffer.unread().len()
     }
 
     /// The place of the first LF among the unread bytes, of which so many were searched before.
@@ -193,12 +181,11 @@ impl LineReader {
         requires clean { has_lf (take scanned self.now.unread) ≡ false }
         ensures { MatchOption result (has_lf self.now.unread ≡ false) (IsFirstLf self.now.unread) }
     {
-        let found = first_lf(&self.buf[self.start + scanned..self.end])?;
+        let found = first_lf(&self.buffer.unread()[scanned..])?;
         Some(scanned + found)
     }
 
     /// Answers the line before the LF at this place, of which so many bytes were passed over.
-    #[tactic(auto, using(crate::proofs::BufferLemmas::unread_fits))]
     fn close(&mut self, len: usize, skipped: u64) -> Line
         requires lf { len < length self.old.unread }
         requires counted { skipped + length self.old.unread ≤ self.old.taken }
@@ -207,17 +194,16 @@ impl LineReader {
           unread = drop (len + 1) self.old.unread;
           text = without_cr (shown self.old.limit (skipped + len) (take len self.old.unread));
         } }
-        ensures buffered { length self.new.unread ≤ self.new.limit + 65536 }
+        ensures buffered { length self.new.unread ≤ self.new.limit + READ_BYTES }
     {
-        let line = self.show(len, skipped);
-        self.drop_cr();
-        let after = self.start + len + 1;
-        self.start = after;
+        let line = self.cut(len, 1, skipped);
+        if ends_with_cr(self.text()) {
+            self.text_len -= 1;
+        }
         line
     }
 
     /// Answers the last line, of which so many bytes were passed over.
-    #[tactic(auto, using(crate::proofs::BufferLemmas::unread_fits))]
     fn finish(&mut self, skipped: u64) -> Line
         requires counted { skipped + length self.old.unread ≤ self.old.taken }
         ensures line { result ≡ (if skipped + length self.old.unread == 0 then Line.End
@@ -227,11 +213,10 @@ impl LineReader {
           text = shown self.old.limit (skipped + length self.old.unread) self.old.unread;
           ended = true;
         } }
-        ensures buffered { length self.new.unread ≤ self.new.limit + 65536 }
+        ensures buffered { length self.new.unread ≤ self.new.limit + READ_BYTES }
     {
-        let len = self.end - self.start;
-        let line = self.show(len, skipped);
-        self.start = self.end;
+        let len = self.unread_len();
+        let line = self.cut(len, 0, skipped);
         self.ended = true;
         if len == 0 && skipped == 0 {
             Line::End
@@ -240,87 +225,77 @@ impl LineReader {
         }
     }
 
-    /// Shows so many unread bytes as the text, unless the line is over the limit.
-    fn show(&mut self, len: usize, skipped: u64) -> Line
-        requires within { len ≤ length self.old.unread }
+    /// Uses so many unread bytes, which it shows as the text unless the line is over the limit, and so many behind them.
+    fn cut(&mut self, len: usize, behind: usize, skipped: u64) -> Line
+        requires within { len + behind ≤ length self.old.unread }
         requires counted { skipped + length self.old.unread ≤ self.old.taken }
         ensures line { result ≡ answer_of self.old.limit (skipped + len) }
         ensures after { self.new ≡ record self.old {
+          unread = drop (len + behind) self.old.unread;
           text = shown self.old.limit (skipped + len) (take len self.old.unread);
         } }
+        ensures buffered { length self.new.unread ≤ self.new.limit + READ_BYTES }
     {
-        self.text_start = self.start;
+        self.text_len = 0;
+        self.buffer.use_up(len + behind);
         let total = skipped + len as u64;
         if total > self.limit as u64 {
-            self.text_len = 0;
             return Line::Long { len: total };
         }
         self.text_len = len;
         Line::Text
     }
 
-    /// Leaves out the CR at the end of the text.
-    fn drop_cr(&mut self)
-        ensures { self.new ≡ record self.old { text = without_cr self.old.text } }
-    {
-        if ends_with_cr(self.text()) {
-            self.text_len -= 1;
-        }
-    }
-
     /// Passes over the unread bytes where they belong to a line over the limit, and says how many
     /// they were.
     fn skip(&mut self, skipped: u64) -> u64
+        requires { self.old.text ≡ [] }
         ensures exact { result ≡ (if nat_lt 0 skipped || nat_lt self.old.limit (length self.old.unread)
             then length self.old.unread else 0) }
         ensures after { self.new ≡ (if nat_lt 0 skipped || nat_lt self.old.limit (length self.old.unread)
             then record self.old { unread = [] } else self.old) }
         ensures taken { self.new.taken ≡ self.old.taken }
     {
-        let len = self.end - self.start;
+        let len = self.unread_len();
         if skipped > 0 || len > self.limit {
-            self.start = self.end;
+            self.text_len = 0;
+            self.buffer.use_up(len);
             return len as u64;
         }
         0
     }
 
     /// Reads once, behind the unread bytes.
-    #[tactic(auto, using(crate::proofs::BufferLemmas::unread_fits))]
     fn fill<S: Source>(&mut self, src: &mut S) -> Result<usize, LineFault>
         requires open { self.old.ended ≡ false }
         requires room { length self.old.unread ≤ self.old.limit }
+        requires shows_none { self.old.text ≡ [] }
         ensures after { IfOk result (λ k. self.new ≡ record self.old {
           unread = self.new.unread;
           text = [];
           taken = self.old.taken + k;
         }) }
-        ensures takes { IfOk result (Takes self.old self.new (S.left src.old) (S.left src.new)) }
+        ensures takes { IfOk result (Takes self.old.unread self.new.unread (S.left src.old) (S.left src.new)) }
         ensures sound { OnOk result (S.read_faults src.new ≡ S.read_faults src.old) }
         ensures taken { IfOk result (λ k. S.taken src.new ≡ raised k (S.taken src.old)) }
         ensures beside { S.sink_beside src.new ≡ S.sink_beside src.old }
-        ensures bound { IfOk result (λ k. self.old.taken + k ≤ 1099511627776) }
+        ensures bound { IfOk result (λ k. self.old.taken + k ≤ SOURCE_BYTES) }
         ensures broken { IfErr result (λ fault. (self.new ≡ record self.old { text = []; stopped = Some fault })
             × (S.left src.new ≡ S.left src.old) × (S.taken src.new ≡ S.taken src.old)) }
         ensures read_fault { result ≡ Err LineFault.ReadFault → HasRisen (S.read_faults src.old) (S.read_faults src.new) }
         ensures spent { result ≡ Err LineFault.Spent
-            → (self.old.taken ≡ 1099511627776) × (S.read_faults src.new ≡ S.read_faults src.old) }
-        ensures spent_at { self.old.taken ≡ 1099511627776 → result ≡ Err LineFault.Spent }
-        ensures buffered { length self.new.unread ≤ self.new.limit + 65536 }
+            → (self.old.taken ≡ SOURCE_BYTES) × (S.read_faults src.new ≡ S.read_faults src.old) }
+        ensures spent_at { self.old.taken ≡ SOURCE_BYTES → result ≡ Err LineFault.Spent }
+        ensures buffered { length self.new.unread ≤ self.new.limit + READ_BYTES }
     {
-        let kept = self.end - self.start;
-        move_to_front(&mut self.buf, self.start, self.end);
-        self.start = 0;
-        self.end = kept;
-        self.text_len = 0;
-        let room = READ_BYTES.min((SOURCE_BYTES - self.taken) as usize);
-        if room == 0 {
+        let most = READ_BYTES.min((SOURCE_BYTES - self.taken) as usize);
+        if most == 0 {
             self.stopped = Some(LineFault::Spent);
             return Err(LineFault::Spent);
         }
-        match src.read(&mut self.buf[kept..kept + room]) {
+        self.text_len = 0;
+        match self.buffer.fill(src, most) {
             Ok(count) => {
-                self.end += count;
                 self.taken += count as u64;
                 Ok(count)
             }
@@ -332,7 +307,8 @@ impl LineReader {
     }
 }
 
-fn first_lf(bytes: &[u8]) -> Option<usize>
+/// The place of the first LF.
+pub(crate) fn first_lf(bytes: &[u8]) -> Option<usize>
     ensures { MatchOption result (has_lf bytes.now ≡ false) (IsFirstLf bytes.now) }
 {
     memchr(b'\n', bytes)
@@ -342,16 +318,4 @@ fn ends_with_cr(bytes: &[u8]) -> bool
     ensures { result ≡ (slice_index bytes.now (length bytes.now - 1) == 13) }
 {
     bytes.last() == Some(&b'\r')
-}
-
-/// Moves the bytes of this range to the front, where they don't stand there already.
-fn move_to_front(buf: &mut Vec<u8>, start: usize, end: usize)
-    requires in_order { start ≤ end }
-    requires within { end ≤ vec_len buf.old }
-    ensures front { take (end - start) buf.new.items ≡ take (end - start) (drop start buf.old.items) }
-    ensures len { vec_len buf.new ≡ vec_len buf.old }
-{
-    if start > 0 {
-        buf.copy_within(start..end, 0);
-    }
 }

@@ -25,10 +25,10 @@ pub trait Shelf {
 
     /// Hands out the bytes of a file.
     fn read_file(&mut self, alloc: Global, name: &str) -> Result<Vec<u8>, ShelfFault>
-        ensures short { IfOk result (λ file. length file.items ≤ 67108864) }
+        ensures short { IfOk result (λ file. length file.items ≤ FILE_BYTES) }
         ensures bytes { IfOk result (λ file. HoldsFile (content self.old name.now) (λ bytes. file.items ≡ bytes)) }
         ensures long { result ≡ Err ShelfFault.Long
-            → HoldsFile (content self.old name.now) (λ bytes. 67108864 < length bytes) }
+            → HoldsFile (content self.old name.now) (λ bytes. FILE_BYTES < length bytes) }
         ensures asked { Asks result (asked self.old) (asked self.new) name.now }
         ensures faults { CountsFault result (read_faults self.old) (read_faults self.new) }
         ensures content { (file : List ℕ) → content self.new file ≡ content self.old file };
@@ -80,11 +80,11 @@ impl MemShelf {
     }
 
     fn answer(&self, alloc: Global, name: &str) -> Result<Vec<u8>, ShelfFault>
-        ensures short { IfOk result (λ file. length file.items ≤ 67108864) }
+        ensures short { IfOk result (λ file. length file.items ≤ FILE_BYTES) }
         ensures bytes { IfOk result (λ file. content_of self.now.files name.now ≡ Some file.items) }
         ensures ready { OnOk result (is_to_fail_for self.now name.now ≡ false) }
         ensures long { result ≡ Err ShelfFault.Long → (is_to_fail_for self.now name.now ≡ false)
-            × IfSome (content_of self.now.files name.now) (λ bytes. 67108864 < length bytes) }
+            × IfSome (content_of self.now.files name.now) (λ bytes. FILE_BYTES < length bytes) }
         ensures failed { result ≡ Err ShelfFault.Failed → is_to_fail_for self.now name.now ≡ true }
     {
         if self.calls.is_next_to_fail() {
@@ -96,19 +96,14 @@ impl MemShelf {
         if bytes.len() > FILE_BYTES {
             return Err(ShelfFault::Long);
         }
-        Vec::from_slice(alloc, bytes).map_err(|_| ShelfFault::NoMemory)
+        Ok(Vec::from_slice(alloc, bytes)?)
     }
 
     fn keep_name(&mut self, alloc: Global, name: &str) -> Result<(), ShelfFault>
         ensures kept { OnOk result (self.new ≡ record self.old { asked = self.old.asked ++ name.now ∷ [] }) }
         ensures no_memory { IfErr result (λ fault. (fault ≡ ShelfFault.NoMemory) × (self.new ≡ self.old)) }
     {
-        let Ok(name) = String::from_str(alloc, name) else {
-            return Err(ShelfFault::NoMemory);
-        };
-        if self.asked.push(name).is_err() {
-            return Err(ShelfFault::NoMemory);
-        }
+        self.asked.push(String::from_str(alloc, name)?)?;
         Ok(())
     }
 }
@@ -121,13 +116,13 @@ impl Shelf for MemShelf {
     ghost content = { λ s name. Some (content_of s.files name) };
 
     fn read_file(&mut self, alloc: Global, name: &str) -> Result<Vec<u8>, ShelfFault>
-        ensures short { IfOk result (λ file. length file.items ≤ 67108864) }
+        ensures short { IfOk result (λ file. length file.items ≤ FILE_BYTES) }
         ensures bytes { IfOk result (λ file. content_of self.old.files name.now ≡ Some file.items) }
         ensures after { OnOk result ((is_to_fail_for self.old name.now ≡ false) × (self.new ≡ after_ask self.old name.now)) }
 
         // Long exactly where the file is there, over the limit, and the call isn't to fail.
         ensures long { result ≡ Err ShelfFault.Long → (is_to_fail_for self.old name.now ≡ false)
-            × IfSome (content_of self.old.files name.now) (λ bytes. 67108864 < length bytes)
+            × IfSome (content_of self.old.files name.now) (λ bytes. FILE_BYTES < length bytes)
             × (self.new ≡ after_ask self.old name.now) }
 
         // Where the call is to fail or the file is missing, it fails, unless memory runs out.

@@ -120,12 +120,7 @@ impl<R: Files> Shelf for FileShelf<R> {
     ghost content = { λ _ _. None };
 
     fn read_file(&mut self, alloc: Global, name: &str) -> Result<Vec<u8>, ShelfFault> {
-        let Ok(asked) = String::from_str(alloc, name) else {
-            return Err(ShelfFault::NoMemory);
-        };
-        if self.asked.push(asked).is_err() {
-            return Err(ShelfFault::NoMemory);
-        }
+        self.asked.push(String::from_str(alloc, name)?)?;
         let file = read_path(&self.rt, alloc, name);
         if file == Err(ShelfFault::Failed) {
             self.faults = self.faults.saturating_add(1);
@@ -135,7 +130,7 @@ impl<R: Files> Shelf for FileShelf<R> {
 }
 
 fn read_path<R: Files>(rt: &R, alloc: Global, path: &str) -> Result<Vec<u8>, ShelfFault>
-    ensures { IfOk result (λ file. length file.items ≤ 67108864) }
+    ensures { IfOk result (λ file. length file.items ≤ FILE_BYTES) }
 {
     let mut file = fs::open(rt, path).map_err(|_| ShelfFault::Failed)?;
     read_within_limit(alloc, &mut file)
@@ -143,7 +138,7 @@ fn read_path<R: Files>(rt: &R, alloc: Global, path: &str) -> Result<Vec<u8>, She
 
 /// Reads to the end, or one byte past the limit.
 fn read_within_limit<F: Read>(alloc: Global, file: &mut F) -> Result<Vec<u8>, ShelfFault>
-    ensures { IfOk result (λ file. length file.items ≤ 67108864) }
+    ensures { IfOk result (λ file. length file.items ≤ FILE_BYTES) }
 {
     let mut bytes = Vec::new(alloc);
     let mut chunk = [0; CHUNK_BYTES];
@@ -155,9 +150,7 @@ fn read_within_limit<F: Read>(alloc: Global, file: &mut F) -> Result<Vec<u8>, Sh
         if count == 0 {
             return Ok(bytes);
         }
-        if bytes.extend_from_slice(&chunk[..count]).is_err() {
-            return Err(ShelfFault::NoMemory);
-        }
+        bytes.extend_from_slice(&chunk[..count])?;
     }
     Err(ShelfFault::Long)
 }

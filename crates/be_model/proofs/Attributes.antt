@@ -3,6 +3,7 @@ use Rattle.std.proofs.Common.{◌≡◌, ℕ, pos, negsuc, ◌≤ℤ◌, ◌+◌
 use Rattle.std.specs.List.{list_any, list_all, position}
 use Rattle.std.specs.Int.Signed.{le_z}
 use Rattle.std.specs.Bool.{Decides}
+use Rattle.std.proofs.lemmas.Bool.{and_from, and_parts}
 use Rattle.std.proofs.lemmas.Bool.Decides.{nat_tests, same_from_decides}
 use Rattle.std.proofs.lemmas.Int.{ints}
 use Rattle.std.proofs.lemmas.List.{map_push, length_push}
@@ -17,16 +18,13 @@ use Rattle.be_model.specs.Schemas.{Attributes, IsSchema, attribute_of, names_of_
 use Rattle.be_model.proofs.Lists.{list_any-map, position-map}
 
 pub and_left : (a b : Bool) → (a && b) ≡ true → a ≡ true
-and_left true b h = refl
-and_left false b h = h
+and_left a b h = (and_parts a b h).0
 
 pub and_right : (a b : Bool) → (a && b) ≡ true → b ≡ true
-and_right true b h = h
-and_right false b h = absurd (cc)
+and_right a b h = (and_parts a b h).1
 
 pub and_both : (a b : Bool) → a ≡ true → b ≡ true → (a && b) ≡ true
-and_both true b h k = k
-and_both false b h k = h
+and_both a b h k = and_from a b h k
 
 -- the attribute of a name, by the attributes themselves
 pub among_names : (s : Attributes) (name : Text) → is_among_texts name (names_of_attributes s) ≡ list_any (λ (x : Attribute). same_text x.name name) s
@@ -38,8 +36,8 @@ place_among_names s name = position-map (λ (x : Attribute). x.name) (λ other. 
 -- what a test says of each element, at a place
 pub all_at : {X : Type 0} (p : X → Bool) (xs : List X) (i : ℕ) (x : X) → list_all p xs ≡ true → slice_get xs i ≡ Some x → p x ≡ true
 all_at p [] i x h e = absurd (cc)
-all_at p (y ∷ ys) zero x h e = let k : y ≡ x = cc in ap p (sym k) ∙ and_left (p y) (list_all p ys) h
-all_at p (y ∷ ys) (suc i) x h e = all_at p ys i x (and_right (p y) (list_all p ys) h) e
+all_at p (y ∷ ys) zero x h e = let k : y ≡ x = cc in ap p (sym k) ∙ (and_parts (p y) (list_all p ys) h).0
+all_at p (y ∷ ys) (suc i) x h e = all_at p ys i x ((and_parts (p y) (list_all p ys) h).1) e
 
 pub parts3 : (a b c : Bool) → (a && b && c) ≡ true → (a ≡ true) × (b ≡ true) × (c ≡ true)
 parts3 true true c h = (refl, refl, h)
@@ -104,15 +102,15 @@ last_of_all p xs x = list_all-append p xs (x ∷ [])
 pub IsSchema-push : (s : Attributes) (name : Text) (domain : Domain) → IsSchema s → takes s name domain ≡ true → IsSchema (s ++ attribute_of name domain ∷ [])
 IsSchema-push s name domain f h =
     let a = attribute_of name domain in
-    let valid = and_right _ _ h in
-    let free = and_right _ _ (and_left _ _ h) in
-    let fresh = and_right _ _ (and_left _ _ (and_left _ _ h)) in
-    let room = not_full (length s) (and_left _ _ (and_left _ _ (and_left _ _ h))) in
+    let valid = (and_parts _ _ h).1 in
+    let free = (and_parts _ _ ((and_parts _ _ h).0)).1 in
+    let fresh = (and_parts _ _ ((and_parts _ _ ((and_parts _ _ h).0)).0)).1 in
+    let room = not_full (length s) ((and_parts _ _ ((and_parts _ _ ((and_parts _ _ h).0)).0)).0) in
     record {
       few = omega (arith, length_push s a);
-      differ = rw (map_push (λ (x : Attribute). x.name) s a, all_differ_push (names_of_attributes s) name) (and_both _ _ f.differ fresh);
-      unreserved = rw (map_push (λ (x : Attribute). x.name) s a, last_of_all (λ n. not (is_among_texts n reserved_words)) (names_of_attributes s) name) (and_both _ _ f.unreserved (and_both _ _ free refl));
-      domains = rw (last_of_all (λ (x : Attribute). is_domain x.domain) s a) (and_both _ _ f.domains (and_both _ _ valid refl));
+      differ = rw (map_push (λ (x : Attribute). x.name) s a, all_differ_push (names_of_attributes s) name) (and_from _ _ f.differ fresh);
+      unreserved = rw (map_push (λ (x : Attribute). x.name) s a, last_of_all (λ n. not (is_among_texts n reserved_words)) (names_of_attributes s) name) (and_from _ _ f.unreserved (and_from _ _ free refl));
+      domains = rw (last_of_all (λ (x : Attribute). is_domain x.domain) s a) (and_from _ _ f.domains (and_from _ _ valid refl));
     }
 
 -- and each such schema is accepted
@@ -124,4 +122,4 @@ takes-from_IsSchema s name domain f =
     let d = rw (map_push (λ (x : Attribute). x.name) s a, all_differ_push (names_of_attributes s) name) at f.differ in
     let u = rw (map_push (λ (x : Attribute). x.name) s a, last_of_all (λ n. not (is_among_texts n reserved_words)) (names_of_attributes s) name) at f.unreserved in
     let v = rw (last_of_all (λ (x : Attribute). is_domain x.domain) s a) at f.domains in
-    and_both _ _ (and_both _ _ (and_both _ _ room (and_right _ _ d)) (and_left _ _ (and_right _ _ u))) (and_left _ _ (and_right _ _ v))
+    and_from _ _ (and_from _ _ (and_from _ _ room ((and_parts _ _ d).1)) ((and_parts _ _ ((and_parts _ _ u).1)).0)) ((and_parts _ _ ((and_parts _ _ v).1)).0)

@@ -1,8 +1,9 @@
 -- An event that lies in a schema has few items, and shares little with a row.
-use Rattle.std.proofs.Common.{◌≡◌, ℕ, ℤ, ◌+◌, ◌*◌, ◌<◌, ◌≤◌, Bool, true, false, cond, ltb, List, [], ◌∷◌, length, Option, Some, None, refl, arith}
+use Rattle.std.proofs.Common.{◌≡◌, ℕ, ℤ, ◌+◌, ◌*◌, ◌^◌, ◌<◌, ◌≤◌, Bool, true, false, cond, ltb, List, [], ◌∷◌, length, Option, Some, None, refl, arith}
 use Rattle.std.specs.List.{sum_by}
-use Rattle.std.proofs.lemmas.Bool.Decides.{nat_tests}
+use Rattle.std.proofs.lemmas.Bool.{and_parts, ltb-true}
 use Rattle.std.proofs.lemmas.List.Sums.{sum_by-cons}
+use Rattle.be_base.specs.declared.limits.TheConstants.{LOG_CHANGES}
 use Rattle.be_base.specs.declared.names.AttrNo.{AttrNo}
 use Rattle.be_model.specs.declared.changes.Row.{Row}
 use Rattle.be_model.specs.Domains.{Range}
@@ -12,12 +13,8 @@ use Rattle.be_model.specs.Matching.{Assignments, attrs_of}
 use Rattle.be_model.specs.Lies.{lies_in, item_lies, event_lies}
 use Rattle.be_model.specs.Rows.{has}
 use Rattle.be_model.specs.Bounds.{bits_at, ranges_to, shared, visits_bound}
-use Rattle.be_model.proofs.Attributes.{and_left, and_right}
 use Rattle.be_model.proofs.InSchema.{range_below}
 use Rattle.be_model.proofs.RangeBits.{bits_few}
-
-less : (n m : ℕ) → ltb n m ≡ true → n < m
-less n m h = grind (arith, nat_tests)
 
 item_below : (s : Attributes) (item : AttrNo × List ℤ) → item_lies s item ≡ true → item.0.0 < length s
 item_below s item h = by_range (range_of s item.0) refl h
@@ -27,10 +24,10 @@ item_below s item h = by_range (range_of s item.0) refl h
     by_range (Some r) e k = range_below s item.0 r e
 
 few_from : (s : Attributes) (item : AttrNo × List ℤ) (items : Assignments) → attrs_rise (attrs_of (item ∷ items)) ≡ true → event_lies s (item ∷ items) ≡ true → item.0.0 + length (item ∷ items) ≤ length s
-few_from s item [] up lies = omega (arith, item_below s item (and_left (item_lies s item) true lies))
+few_from s item [] up lies = omega (arith, item_below s item ((and_parts (item_lies s item) true lies).0))
 few_from s item (next ∷ items) up lies =
-    let l = less item.0.0 next.0.0 (and_left (ltb item.0.0 next.0.0) (attrs_rise (attrs_of (next ∷ items))) up) in
-    omega (arith, l, few_from s next items (and_right (ltb item.0.0 next.0.0) (attrs_rise (attrs_of (next ∷ items))) up) (and_right (item_lies s item) (event_lies s (next ∷ items)) lies))
+    let l = ltb-true item.0.0 next.0.0 ((and_parts (ltb item.0.0 next.0.0) (attrs_rise (attrs_of (next ∷ items))) up).0) in
+    omega (arith, l, few_from s next items ((and_parts (ltb item.0.0 next.0.0) (attrs_rise (attrs_of (next ∷ items))) up).1) ((and_parts (item_lies s item) (event_lies s (next ∷ items)) lies).1))
 
 -- there are no more items than attributes
 pub few_items : (s : Attributes) (e : Assignments) → attrs_rise (attrs_of e) ≡ true → event_lies s e ≡ true → length e ≤ length s
@@ -53,6 +50,6 @@ few_shared s e row f up lies =
     omega (arith, at_most (ranges_to s row) 33 e (λ item. few_ranges s row item f), few_items s e up lies, f.few)
 
 -- 64 bits count what the bound allows
-pub few_visits : (s : Attributes) (e : Assignments) (rows : List Row) → IsSchema s → attrs_rise (attrs_of e) ≡ true → event_lies s e ≡ true → length rows ≤ 281474976710656 → visits_bound s e rows < 18446744073709551616
+pub few_visits : (s : Attributes) (e : Assignments) (rows : List Row) → IsSchema s → attrs_rise (attrs_of e) ≡ true → event_lies s e ≡ true → length rows ≤ LOG_CHANGES → visits_bound s e rows < 2 ^ 64
 few_visits s e rows f up lies few =
     omega (arith, at_most (shared s e) 8448 rows (λ row. few_shared s e row f up lies))

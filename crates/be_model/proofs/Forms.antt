@@ -1,13 +1,13 @@
 -- Rising lists with one more element.
 use Rattle.std.proofs.Common.{◌≡◌, ◌↔◌, ℤ, ◌-◌, ◌<◌, ◌≤◌, true, ltb, ◌&&◌, List, [], ◌∷◌, ◌++◌, length, get_or, refl, sym, ap, ◌∙◌, arith}
 use Rattle.std.specs.Int.Signed.{lt_z}
+use Rattle.std.proofs.lemmas.Bool.{and_from, and_parts}
 use Rattle.std.proofs.lemmas.List.{length_push, map_push, length-map, get_or-map}
 use Rattle.std.proofs.lemmas.List.Elements.{All-push}
 use Rattle.be_base.specs.declared.names.AttrNo.{AttrNo}
 use Rattle.be_model.specs.Forms.{AreValues, IsEvent, rises, attrs_rise}
 use Rattle.be_model.specs.Matching.{Assignments, attrs_of}
 use Rattle.be_model.proofs.Lists.{rises_push}
-use Rattle.be_model.proofs.Attributes.{and_right, and_both}
 
 -- a rising list with one more value
 pub rises-push : (xs : List ℤ) (v d : ℤ) → 0 < length xs → rises (xs ++ v ∷ []) ≡ (rises xs && lt_z (get_or xs (length xs - 1) d) v)
@@ -20,9 +20,9 @@ AreValues-push xs v d f h =
       λ k. record {
         some = omega (arith, length_push xs v);
         few = omega (arith, length_push xs v);
-        rising = e ∙ and_both (rises xs) (lt_z (get_or xs (length xs - 1) d) v) f.rising k;
+        rising = e ∙ and_from (rises xs) (lt_z (get_or xs (length xs - 1) d) v) f.rising k;
       },
-      λ g. and_right (rises xs) (lt_z (get_or xs (length xs - 1) d) v) (sym e ∙ g.rising),
+      λ g. (and_parts (rises xs) (lt_z (get_or xs (length xs - 1) d) v) (sym e ∙ g.rising)).1,
     )
 
 -- a full set takes no value

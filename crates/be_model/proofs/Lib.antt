@@ -12,6 +12,7 @@ pub mod Orders
 pub mod ReadValues
 pub mod Examples
 pub mod RowsByIds
+pub mod RisingIds
 pub mod RangeBits
 pub mod FewItems
 pub mod ReadBack
@@ -19,3 +20,6 @@ pub mod NamePlaces
 pub mod Putting
 pub mod NamedBelow
 pub mod Pieces
+pub mod SetsBuilt
+pub mod TextsBack
+pub mod SetsLie

@@ -1,12 +1,10 @@
 -- Lists: the first place that passes a test, and lists that rise.
 use Rattle.std.proofs.Common.{◌≡◌, ℕ, ◌+◌, ◌-◌, ◌<◌, suc, Bool, true, false, cond, not, ltb, ◌&&◌, ◌||◌, List, [], ◌∷◌, ◌++◌, length, get_or, map, find, is_some, All, Option, Some, None, refl, sym, ap, subst, ◌∙◌, arith}
 use Rattle.std.specs.List.{list_any, list_all, position, position_or_len, prefix_len}
+use Rattle.std.proofs.Math.Bool.{and_assoc}
+use Rattle.std.proofs.lemmas.List.{length-map}
 use Rattle.std.proofs.lemmas.Bool.Decides.{nat_tests}
 use Rattle.std.proofs.lemmas.List.Elements.{All-head, All-tail}
-
-and_assoc : (a b c : Bool) → (a && (b && c)) ≡ ((a && b) && c)
-and_assoc true b c = refl
-and_assoc false b c = refl
 
 and_true : (a : Bool) → (a && true) ≡ (true && a)
 and_true true = refl
@@ -48,12 +46,8 @@ pub list_any-map : {X Y : Type 0} (f : X → Y) (p : Y → Bool) (xs : List X) �
 list_any-map f p [] = refl
 list_any-map f p (x ∷ xs) = ap (λ b. p (f x) || b) (list_any-map f p xs)
 
-len-map : {X Y : Type 0} (f : X → Y) (xs : List X) → length (map f xs) ≡ length xs
-len-map f [] = refl
-len-map f (x ∷ xs) = ap (λ n. suc n) (len-map f xs)
-
 pub position-map : {X Y : Type 0} (f : X → Y) (p : Y → Bool) (xs : List X) → position p (map f xs) ≡ position (λ x. p (f x)) xs
-position-map f p xs = rw (prefix_len-map f (λ y. not (p y)) xs, len-map f xs) refl
+position-map f p xs = rw (prefix_len-map f (λ y. not (p y)) xs, length-map xs f) refl
 
 found_or_not : {X : Type 0} (b : Bool) (x : X) (o : Option X) → is_some (cond b (Some x) o) ≡ (b || is_some o)
 found_or_not true x o = refl
@@ -84,7 +78,7 @@ rises_front F R one more x [] v d =
     more x v [] ∙ ap (λ b. R x v && b) (one v) ∙ and_true (R x v) ∙ ap (λ b. b && R x v) (sym (one x))
 rises_front F R one more x (y ∷ ys) v d =
     more x y (ys ++ v ∷ []) ∙ ap (λ b. R x y && b) (rises_front F R one more y ys v d)
-    ∙ and_assoc (R x y) (F (y ∷ ys)) (R (get_or (y ∷ ys) (length ys) d) v)
+    ∙ sym (and_assoc (R x y) (F (y ∷ ys)) (R (get_or (y ∷ ys) (length ys) d) v))
     ∙ ap (λ b. b && R (get_or (y ∷ ys) (length ys) d) v) (sym (more x y ys))
 
 -- a list in which each element is before the next, with one more element

@@ -4,7 +4,7 @@ use Rattle.std.specs.Prelude.{unsigned_abs}
 use Rattle.std.specs.Option.{option_map_or}
 use Rattle.std.specs.List.{position_or_len, prefix_len}
 use Rattle.std.specs.Int.Signed.{le_z}
-use Rattle.std.proofs.lemmas.Bool.{or_parts, not-true}
+use Rattle.std.proofs.lemmas.Bool.{and_parts, or_parts, not-true}
 use Rattle.std.proofs.lemmas.Bool.Decides.{nat_tests}
 use Rattle.std.proofs.lemmas.Int.{ints}
 use Rattle.std.proofs.lemmas.Option.{slice_get-map, slice_get-get_or, slice_get_within}
@@ -19,7 +19,7 @@ use Rattle.be_model.specs.declared.schemas.Attribute.{Attribute}
 use Rattle.be_model.specs.Domains.{Range, bounds_of, is_within, within, value_of_word, place_of}
 use Rattle.be_model.specs.Schemas.{Attributes, IsSchema, is_domain, is_among_texts, all_differ, names_of_attributes, numbered, attribute_at, attribute_named}
 use Rattle.be_model.specs.Texts.{value_text, name_at, WordsAreNames}
-use Rattle.be_model.proofs.Attributes.{and_left, and_right, parts3, same_text_sym}
+use Rattle.be_model.proofs.Attributes.{parts3, same_text_sym}
 
 -- a text that isn't among others differs from each of them
 other_there : (texts : List Text) (n : ℕ) (t u : Text) → is_among_texts u texts ≡ false → slice_get texts n ≡ Some t → same_text u t ≡ false
@@ -37,9 +37,9 @@ first_place (w ∷ ws) zero t h e =
     let is : w ≡ t = cc in
     ap (λ b. cond (not b) (1 + prefix_len (λ x. not (same_text x t)) ws) 0) (same_text_from_equal w t is)
 first_place (w ∷ ws) (suc n) t h e =
-    let k : same_text w t ≡ false = other_there ws n t w (not-true _ (and_left _ _ h)) e in
+    let k : same_text w t ≡ false = other_there ws n t w (not-true _ ((and_parts _ _ h).0)) e in
     ap (λ b. cond (not b) (1 + position_or_len (λ other. same_text other t) ws) 0) k
-    ∙ ap (λ m. 1 + m) (first_place ws n t (and_right _ _ h) e) ∙ omega arith
+    ∙ ap (λ m. 1 + m) (first_place ws n t ((and_parts _ _ h).1) e) ∙ omega arith
 
 found_below : (k n m : ℕ) → k ≡ n → n < m → cond (ltb k m) (Some k) None ≡ Some n
 found_below k n m e h = grind (arith, nat_tests)
@@ -60,8 +60,8 @@ small_size lo hi (negsuc n) a b c d = omega (arith, ints)
 within_small : (lo hi v : ℤ) → is_domain (Int lo hi) ≡ true → is_within (lo, hi) v ≡ true → unsigned_abs v ≤ 1099511627776
 within_small lo hi v h k =
     let d = parts3 (le_z (negsuc 2147483647) lo) (le_z lo hi) (le_z hi (pos 2147483647)) h in
-    let a : lo ≤ℤ v = omega (arith, ints, and_left (le_z lo v) (le_z v hi) k) in
-    let b : v ≤ℤ hi = omega (arith, ints, and_right (le_z lo v) (le_z v hi) k) in
+    let a : lo ≤ℤ v = omega (arith, ints, (and_parts (le_z lo v) (le_z v hi) k).0) in
+    let b : v ≤ℤ hi = omega (arith, ints, (and_parts (le_z lo v) (le_z v hi) k).1) in
     small_size lo hi v (omega (arith, ints)) (omega (arith, ints)) a b
 
 within_listing : (m n : ℕ) → 1 ≤ m → is_within (pos 0, pos (m - 1)) (pos n) ≡ true → n < m

@@ -1,13 +1,12 @@
 -- Rows by their ids: the same rows, with ids that rise.
-use Rattle.std.proofs.Common.{◌≡◌, ◌≢◌, ℕ, ◌+◌, ◌<◌, ◌≤◌, zero, suc, Bool, true, false, not, cond, eqb, ltb, ◌||◌, List, [], ◌∷◌, ◌++◌, length, filter, Some, refl, sym, ap, subst, ◌∙◌, arith}
+use Rattle.std.proofs.Common.{◌≡◌, ℕ, ◌+◌, ◌<◌, ◌≤◌, zero, suc, Bool, true, false, not, cond, eqb, ltb, ◌||◌, List, [], ◌∷◌, ◌++◌, length, filter, Some, refl, sym, ap, subst, ◌∙◌, arith}
 use Rattle.std.specs.List.{list_any, list_all, Contains}
 use Rattle.std.specs.Prelude.{IsPermutation}
-use Rattle.std.proofs.lemmas.Bool.Decides.{nat_tests}
+use Rattle.std.proofs.lemmas.Bool.{and_parts, eq-eqb, eqb-false, eqb-true, le-ltb, lt-ltb, ltb-false, ltb-true, ne_eqb, not-true, or_parts}
 use Rattle.std.proofs.lemmas.List.Sorted.{IsPermutation-refl, IsPermutation-sym, IsPermutation-trans, IsPermutation-cons, IsPermutation-middle, length_permutation, Contains-permutation}
 use Rattle.be_model.specs.declared.changes.Row.{Row}
 use Rattle.be_model.specs.Rows.{id_of}
 use Rattle.be_model.specs.ByIds.{ByIds, put_by_id, by_ids, rows_of, row_at, has_id, AllBelow, AllAbove, Rising, SayIds, ids_differ}
-use Rattle.be_model.proofs.Attributes.{and_left, and_right}
 
 abbrev pair : Row → ℕ × Row
 pair row = (id_of row, row)
@@ -19,41 +18,12 @@ put_before row r rs h = ap (λ b. cond b (pair row ∷ r ∷ rs) (r ∷ put_by_i
 put_after : (row : Row) (r : ℕ × Row) (rs : ByIds) → ltb (id_of row) r.0 ≡ false → put_by_id row (r ∷ rs) ≡ r ∷ put_by_id row rs
 put_after row r rs h = ap (λ b. cond b (pair row ∷ r ∷ rs) (r ∷ put_by_id row rs)) h
 
-less : (n m : ℕ) → ltb n m ≡ true → n < m
-less n m h = grind (arith, nat_tests)
-
-not_less : (n m : ℕ) → ltb n m ≡ false → m ≤ n
-not_less n m h = grind (arith, nat_tests)
-
-is_less : (n m : ℕ) → n < m → ltb n m ≡ true
-is_less n m h = grind (arith, nat_tests)
-
-is_not_less : (n m : ℕ) → m ≤ n → ltb n m ≡ false
-is_not_less n m h = grind (arith, nat_tests)
-
-differ : (n m : ℕ) → eqb n m ≡ false → n ≢ m
-differ n m h e = grind (arith, nat_tests)
-
-is_other : (n m : ℕ) → n ≢ m → eqb n m ≡ false
-is_other n m h = grind (arith, nat_tests)
-
-is_same : (n : ℕ) → eqb n n ≡ true
-is_same n = grind (arith, nat_tests)
-
 by_value : (P : Type 0) (b : Bool) → (b ≡ true → P) → (b ≡ false → P) → P
 by_value P true f g = f refl
 by_value P false f g = g refl
 
 by_order : (P : Type 0) (n m : ℕ) → (ltb n m ≡ true → P) → (ltb n m ≡ false → P) → P
 by_order P n m f g = by_value P (ltb n m) f g
-
-or_false : (a b : Bool) → (a || b) ≡ false → (a ≡ false) × (b ≡ false)
-or_false true b h = absurd (cc)
-or_false false b h = (refl, h)
-
-not_true : (b : Bool) → not b ≡ true → b ≡ false
-not_true true h = absurd (cc)
-not_true false h = refl
 
 -- the same rows
 two_turned : (x y : Row) (rows : List Row) → IsPermutation (x ∷ y ∷ rows) (y ∷ x ∷ rows)
@@ -138,44 +108,44 @@ pub put_rising : (row : Row) (m : ByIds) → Rising m → has_id (id_of row) m �
 put_rising row [] up new = (tt, tt)
 put_rising row (r ∷ rs) up new =
     by_order (Rising (put_by_id row (r ∷ rs))) (id_of row) r.0
-    (λ h. let l = less (id_of row) r.0 h in subst Rising (sym (put_before row r rs h)) ((l, above_all (id_of row) r.0 rs l up.0), up))
-    (λ h. let z = or_false (eqb r.0 (id_of row)) (has_id (id_of row) rs) new in let l = not_less (id_of row) r.0 h in let d = differ r.0 (id_of row) z.0 in let k : r.0 < id_of row = omega arith in subst Rising (sym (put_after row r rs h)) (put_above r.0 row rs k up.0, put_rising row rs up.1 z.1))
+    (λ h. let l = ltb-true (id_of row) r.0 h in subst Rising (sym (put_before row r rs h)) ((l, above_all (id_of row) r.0 rs l up.0), up))
+    (λ h. let z = or_parts (eqb r.0 (id_of row)) (has_id (id_of row) rs) new in let l = ltb-false (id_of row) r.0 h in let d = eqb-false r.0 (id_of row) z.0 in let k : r.0 < id_of row = omega arith in subst Rising (sym (put_after row r rs h)) (put_above r.0 row rs k up.0, put_rising row rs up.1 z.1))
 
 pub ids_rise : (rows : List Row) → ids_differ rows ≡ true → Rising (by_ids rows)
 ids_rise [] h = tt
 ids_rise (row ∷ rows) h =
-    let new = not_true (list_any (λ other. eqb (id_of other) (id_of row)) rows) (and_left (not (list_any (λ other. eqb (id_of other) (id_of row)) rows)) (ids_differ rows) h) in
-    put_rising row (by_ids rows) (ids_rise rows (and_right (not (list_any (λ other. eqb (id_of other) (id_of row)) rows)) (ids_differ rows) h)) (has_by_ids (id_of row) rows ∙ new)
+    let new = not-true (list_any (λ other. eqb (id_of other) (id_of row)) rows) ((and_parts (not (list_any (λ other. eqb (id_of other) (id_of row)) rows)) (ids_differ rows) h).0) in
+    put_rising row (by_ids rows) (ids_rise rows ((and_parts (not (list_any (λ other. eqb (id_of other) (id_of row)) rows)) (ids_differ rows) h).1)) (has_by_ids (id_of row) rows ∙ new)
 
 -- rows of different ids are put in either order
 put_turned : (a b : Row) (m : ByIds) → id_of a < id_of b → put_by_id a (put_by_id b m) ≡ put_by_id b (put_by_id a m)
 put_turned a b [] h =
-    put_before a (pair b) [] (is_less (id_of a) (id_of b) h) ∙ sym (put_after b (pair a) [] (is_not_less (id_of b) (id_of a) (omega arith)))
+    put_before a (pair b) [] (lt-ltb (id_of a) (id_of b) h) ∙ sym (put_after b (pair a) [] (le-ltb (id_of b) (id_of a) (omega arith)))
 put_turned a b (r ∷ rs) h =
     let same : Type 0 = put_by_id a (put_by_id b (r ∷ rs)) ≡ put_by_id b (put_by_id a (r ∷ rs)) in
-    let b_after_a = is_not_less (id_of b) (id_of a) (omega arith) in
+    let b_after_a = le-ltb (id_of b) (id_of a) (omega arith) in
     by_order same (id_of a) r.0
     (λ k. by_order same (id_of b) r.0
-    (λ l. ap (put_by_id a) (put_before b r rs l) ∙ put_before a (pair b) (r ∷ rs) (is_less (id_of a) (id_of b) h)
+    (λ l. ap (put_by_id a) (put_before b r rs l) ∙ put_before a (pair b) (r ∷ rs) (lt-ltb (id_of a) (id_of b) h)
     ∙ sym (ap (put_by_id b) (put_before a r rs k) ∙ put_after b (pair a) (r ∷ rs) b_after_a ∙ ap (λ m. pair a ∷ m) (put_before b r rs l)))
     (λ l. ap (put_by_id a) (put_after b r rs l) ∙ put_before a r (put_by_id b rs) k
     ∙ sym (ap (put_by_id b) (put_before a r rs k) ∙ put_after b (pair a) (r ∷ rs) b_after_a ∙ ap (λ m. pair a ∷ m) (put_after b r rs l))))
     (λ k. by_order same (id_of b) r.0
-    (λ l. let x = not_less (id_of a) r.0 k in let y = less (id_of b) r.0 l in absurd (omega arith))
+    (λ l. let x = ltb-false (id_of a) r.0 k in let y = ltb-true (id_of b) r.0 l in absurd (omega arith))
     (λ l. ap (put_by_id a) (put_after b r rs l) ∙ put_after a r (put_by_id b rs) k ∙ ap (λ m. r ∷ m) (put_turned a b rs h)
     ∙ sym (ap (put_by_id b) (put_after a r rs k) ∙ put_after b r (put_by_id a rs) l)))
 
 pub put_either : (a b : Row) (m : ByIds) → eqb (id_of a) (id_of b) ≡ false → put_by_id a (put_by_id b m) ≡ put_by_id b (put_by_id a m)
 put_either a b m h =
     by_order (put_by_id a (put_by_id b m) ≡ put_by_id b (put_by_id a m)) (id_of a) (id_of b)
-    (λ k. put_turned a b m (less (id_of a) (id_of b) k))
-    (λ k. let x = not_less (id_of a) (id_of b) k in let d = differ (id_of a) (id_of b) h in let y : id_of b < id_of a = omega arith in sym (put_turned b a m y))
+    (λ k. put_turned a b m (ltb-true (id_of a) (id_of b) k))
+    (λ k. let x = ltb-false (id_of a) (id_of b) k in let d = eqb-false (id_of a) (id_of b) h in let y : id_of b < id_of a = omega arith in sym (put_turned b a m y))
 
 -- a row whose id is new, put last among the rows
 pub put_last : (rows : List Row) (x : Row) → list_any (λ other. eqb (id_of other) (id_of x)) rows ≡ false → by_ids (rows ++ x ∷ []) ≡ put_by_id x (by_ids rows)
 put_last [] x h = refl
 put_last (row ∷ rows) x h =
-    let z = or_false (eqb (id_of row) (id_of x)) (list_any (λ other. eqb (id_of other) (id_of x)) rows) h in
+    let z = or_parts (eqb (id_of row) (id_of x)) (list_any (λ other. eqb (id_of other) (id_of x)) rows) h in
     ap (put_by_id row) (put_last rows x z.1) ∙ put_either row x (by_ids rows) z.0
 
 -- there are no more rows than ids
@@ -189,8 +159,8 @@ put_below n row (r ∷ rs) h a =
 all_below : (n : ℕ) (rows : List Row) → list_all (λ row. ltb (id_of row) n) rows ≡ true → AllBelow n (by_ids rows)
 all_below n [] h = tt
 all_below n (row ∷ rows) h =
-    put_below n row (by_ids rows) (less (id_of row) n (and_left (ltb (id_of row) n) (list_all (λ other. ltb (id_of other) n) rows) h))
-    (all_below n rows (and_right (ltb (id_of row) n) (list_all (λ other. ltb (id_of other) n) rows) h))
+    put_below n row (by_ids rows) (ltb-true (id_of row) n ((and_parts (ltb (id_of row) n) (list_all (λ other. ltb (id_of other) n) rows) h).0))
+    (all_below n rows ((and_parts (ltb (id_of row) n) (list_all (λ other. ltb (id_of other) n) rows) h).1))
 
 few_from : (low n : ℕ) (m : ByIds) → low < n → AllAbove low m → AllBelow n m → Rising m → low + length m < n
 few_from low n [] h a b up = omega arith
@@ -211,11 +181,11 @@ found_later : (id : ℕ) (r : ℕ × Row) (rs : ByIds) → eqb r.0 id ≡ false 
 found_later id r rs h = ap (λ b. cond b (Some r.1) (row_at id rs)) h
 
 put_found : (row : Row) (m : ByIds) → has_id (id_of row) m ≡ false → row_at (id_of row) (put_by_id row m) ≡ Some row
-put_found row [] new = found_here (id_of row) (pair row) [] (is_same (id_of row))
+put_found row [] new = found_here (id_of row) (pair row) [] (eq-eqb (id_of row) (id_of row) refl)
 put_found row (r ∷ rs) new =
     by_order (row_at (id_of row) (put_by_id row (r ∷ rs)) ≡ Some row) (id_of row) r.0
-    (λ h. ap (row_at (id_of row)) (put_before row r rs h) ∙ found_here (id_of row) (pair row) (r ∷ rs) (is_same (id_of row)))
-    (λ h. let z = or_false (eqb r.0 (id_of row)) (has_id (id_of row) rs) new in ap (row_at (id_of row)) (put_after row r rs h) ∙ found_later (id_of row) r (put_by_id row rs) z.0 ∙ put_found row rs z.1)
+    (λ h. ap (row_at (id_of row)) (put_before row r rs h) ∙ found_here (id_of row) (pair row) (r ∷ rs) (eq-eqb (id_of row) (id_of row) refl))
+    (λ h. let z = or_parts (eqb r.0 (id_of row)) (has_id (id_of row) rs) new in ap (row_at (id_of row)) (put_after row r rs h) ∙ found_later (id_of row) r (put_by_id row rs) z.0 ∙ put_found row rs z.1)
 
 put_other : (id : ℕ) (row : Row) (m : ByIds) → eqb (id_of row) id ≡ false → row_at id (put_by_id row m) ≡ row_at id m
 put_other id row [] h = found_later id (pair row) [] h
@@ -226,21 +196,21 @@ put_other id row (r ∷ rs) h =
 
 any_here : (p : Row → Bool) (rows : List Row) (x : Row) → list_any p rows ≡ false → Contains rows x → p x ≡ false
 any_here p [] x h c = absurd (omega (arith, c.1))
-any_here p (row ∷ rows) x h (zero, l, is) = ap p (sym is) ∙ (or_false (p row) (list_any p rows) h).0
-any_here p (row ∷ rows) x h (suc k, l, is) = any_here p rows x (or_false (p row) (list_any p rows) h).1 (k, omega arith, is)
+any_here p (row ∷ rows) x h (zero, l, is) = ap p (sym is) ∙ (or_parts (p row) (list_any p rows) h).0
+any_here p (row ∷ rows) x h (suc k, l, is) = any_here p rows x (or_parts (p row) (list_any p rows) h).1 (k, omega arith, is)
 
 -- each row is found by its id
 pub row_found : (rows : List Row) (x : Row) → ids_differ rows ≡ true → Contains rows x → row_at (id_of x) (by_ids rows) ≡ Some x
 row_found [] x d c = absurd (omega (arith, c.1))
 row_found (row ∷ rows) x d (zero, l, is) =
-    let new = not_true (list_any (λ other. eqb (id_of other) (id_of row)) rows) (and_left (not (list_any (λ other. eqb (id_of other) (id_of row)) rows)) (ids_differ rows) d) in
+    let new = not-true (list_any (λ other. eqb (id_of other) (id_of row)) rows) ((and_parts (not (list_any (λ other. eqb (id_of other) (id_of row)) rows)) (ids_differ rows) d).0) in
     ap (λ y. row_at (id_of y) (put_by_id row (by_ids rows))) (sym is) ∙ put_found row (by_ids rows) (has_by_ids (id_of row) rows ∙ new) ∙ ap Some is
 row_found (row ∷ rows) x d (suc k, l, is) =
-    let new = not_true (list_any (λ other. eqb (id_of other) (id_of row)) rows) (and_left (not (list_any (λ other. eqb (id_of other) (id_of row)) rows)) (ids_differ rows) d) in
+    let new = not-true (list_any (λ other. eqb (id_of other) (id_of row)) rows) ((and_parts (not (list_any (λ other. eqb (id_of other) (id_of row)) rows)) (ids_differ rows) d).0) in
     let c : Contains rows x = (k, omega arith, is) in
     let a = any_here (λ other. eqb (id_of other) (id_of row)) rows x new c in
-    let b : eqb (id_of row) (id_of x) ≡ false = is_other (id_of row) (id_of x) (λ e. differ (id_of x) (id_of row) a (sym e)) in
-    put_other (id_of x) row (by_ids rows) b ∙ row_found rows x (and_right (not (list_any (λ other. eqb (id_of other) (id_of row)) rows)) (ids_differ rows) d) c
+    let b : eqb (id_of row) (id_of x) ≡ false = ne_eqb (id_of row) (id_of x) (λ e. eqb-false (id_of x) (id_of row) a (sym e)) in
+    put_other (id_of x) row (by_ids rows) b ∙ row_found rows x ((and_parts (not (list_any (λ other. eqb (id_of other) (id_of row)) rows)) (ids_differ rows) d).1) c
 
 -- and what is found by an id is a row that has it
 put_says : (row : Row) (m : ByIds) → SayIds m → SayIds (put_by_id row m)
@@ -254,15 +224,12 @@ all_say : (rows : List Row) → SayIds (by_ids rows)
 all_say [] = tt
 all_say (row ∷ rows) = put_says row (by_ids rows) (all_say rows)
 
-same_number : (n m : ℕ) → eqb n m ≡ true → n ≡ m
-same_number n m h = grind (arith, nat_tests)
-
 found_says : (id : ℕ) (m : ByIds) (x : Row) → SayIds m → row_at id m ≡ Some x → Contains (rows_of m) x × (id_of x ≡ id)
 found_says id [] x s h = absurd (cc)
 found_says id (r ∷ rs) x s h =
     by_value (Contains (rows_of (r ∷ rs)) x × (id_of x ≡ id)) (eqb r.0 id)
     (λ e. let is : Some r.1 ≡ Some x = sym (found_here id r rs e) ∙ h in
-    let same : r.1 ≡ x = cc in ((zero, omega arith, same), ap id_of (sym same) ∙ s.0 ∙ same_number r.0 id e))
+    let same : r.1 ≡ x = cc in ((zero, omega arith, same), ap id_of (sym same) ∙ s.0 ∙ eqb-true r.0 id e))
     (λ e. let z = found_says id rs x s.1 (sym (found_later id r rs e) ∙ h) in ((suc z.0.0, omega (arith, z.0.1), z.0.2), z.1))
 
 pub found_row : (rows : List Row) (id : ℕ) (x : Row) → row_at id (by_ids rows) ≡ Some x → Contains rows x × (id_of x ≡ id)

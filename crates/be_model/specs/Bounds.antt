@@ -1,6 +1,7 @@
 -- The bound of what a search costs, over rows as plain data: it knows nothing of the tree that holds them.
 use Rattle.std.specs.Prelude.{ℕ, ℤ, ◌+◌, ◌*◌, ◌≤◌, Bool, List, length, Option, Some, None, if◌then◌else◌}
 use Rattle.std.specs.List.{list_all, sum_by, count_by}
+use Rattle.be_base.specs.declared.limits.TheConstants.{LEAF_ROWS}
 use Rattle.be_base.specs.declared.names.AttrNo.{AttrNo}
 use Rattle.be_model.specs.declared.preds.Pred.{Pred}
 use Rattle.be_model.specs.declared.changes.Row.{Row}
@@ -36,7 +37,7 @@ is_covered e row = list_all (λ (p : Pred). is_assigned e p.attr) row.conj
 
 -- 16 rows at each visited node, and the covered rows
 abbrev pub tested_bound : Assignments → ℕ → List Row → ℕ
-tested_bound e visits rows = 16 * visits + count_by (is_covered e) rows
+tested_bound e visits rows = LEAF_ROWS * visits + count_by (is_covered e) rows
 
 -- the cost of a search for the event among the rows is within its bounds
 pub record IsWithinBound (s : Attributes) (e : Assignments) (rows : List Row) (cost : Cost) : Type 0 where

@@ -12,4 +12,5 @@ pub mod Texts
 pub mod Costs
 pub mod ByIds
 pub mod Bounds
+pub mod SetTexts
 pub mod Letters

@@ -4,10 +4,7 @@ use Rattle.std.specs.List.{list_any}
 use Rattle.std.specs.Arc.{arc_value}
 use Rattle.std.specs.declared.sync.Arc.{Arc}
 use Rattle.be_base.specs.declared.names.AttrNo.{AttrNo}
-use Rattle.be_base.specs.declared.names.SessionNo.{SessionNo}
 use Rattle.be_model.specs.declared.changes.Row.{Row}
-use Rattle.be_model.specs.declared.changes.Change.{Change}
-use Rattle.be_model.specs.declared.changes.Change.TheVariants.{Sub, Unsub, Bye}
 use Rattle.be_model.specs.Hulls.{is_on}
 
 abbrev pub rows_in : {Z : Type 0} → List (Arc Row Z) → List Row
@@ -27,9 +24,3 @@ id_of row = row.id.0
 -- the row has a predicate on the attribute
 abbrev pub has : AttrNo → Row → Bool
 has a row = list_any (is_on a) row.conj
-
--- the session that made a change
-abbrev pub session_of : Change → SessionNo
-session_of (Sub session serial row) = session
-session_of (Unsub session serial name) = session
-session_of (Bye session serial) = session

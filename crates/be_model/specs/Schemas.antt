@@ -1,8 +1,9 @@
 -- Schemas: which attributes there are.
 pub use Rattle.be_base.specs.TextLists.{is_among_texts, all_differ}
-use Rattle.std.specs.Prelude.{◌≡◌, ℕ, ℤ, pos, negsuc, ◌≤◌, ◌&&◌, not, Bool, true, false, List, [], ◌∷◌, length, map, nat_le, int_le, Option, option_and_then, option_map, Result, Ok, Err, slice_get, codes}
+use Rattle.std.specs.Prelude.{◌≡◌, ℕ, ℤ, ◌≤◌, ◌&&◌, not, Bool, true, false, List, [], ◌∷◌, length, map, nat_le, int_le, Option, option_and_then, option_map, Result, Ok, Err, slice_get, codes}
 use Rattle.std.specs.List.{list_all}
 use Rattle.be_base.specs.Text.{Text, name_of}
+use Rattle.be_base.specs.declared.limits.TheConstants.{ATTRIBUTES, FIRST_INT, LAST_INT, SYMBOLS}
 use Rattle.be_base.specs.declared.names.NameFault.{NameFault}
 use Rattle.be_base.specs.declared.names.AttrNo.{AttrNo}
 use Rattle.be_model.specs.declared.schemas.Domain.{Domain}
@@ -22,12 +23,12 @@ abbrev pub reserved_words : List Text
 reserved_words = codes "all" ∷ codes "and" ∷ codes "between" ∷ codes "in" ∷ codes "not" ∷ []
 
 abbrev pub is_domain : Domain → Bool
-is_domain (Int lo hi) = int_le (negsuc 2147483647) lo && int_le lo hi && int_le hi (pos 2147483647)
-is_domain (Sym words) = nat_le 1 (length words) && nat_le (length words) 4096 && all_differ words
+is_domain (Int lo hi) = int_le FIRST_INT lo && int_le lo hi && int_le hi LAST_INT
+is_domain (Sym words) = nat_le 1 (length words) && nat_le (length words) SYMBOLS && all_differ words
 
 -- the form of a schema
 pub record IsSchema (s : Attributes) : Type 0 where
-  pub few : length s ≤ 256
+  pub few : length s ≤ ATTRIBUTES
   pub differ : all_differ (names_of_attributes s) ≡ true
   pub unreserved : list_all (λ name. not (is_among_texts name reserved_words)) (names_of_attributes s) ≡ true
   pub domains : list_all (λ (a : Attribute). is_domain a.domain) s ≡ true
@@ -35,7 +36,7 @@ pub record IsSchema (s : Attributes) : Type 0 where
 -- whether an attribute may be put last
 abbrev pub takes : Attributes → Text → Domain → Bool
 takes s name domain =
-    not (nat_le 256 (length s)) && not (is_among_texts name (names_of_attributes s)) && not (is_among_texts name reserved_words) && is_domain domain
+    not (nat_le ATTRIBUTES (length s)) && not (is_among_texts name (names_of_attributes s)) && not (is_among_texts name reserved_words) && is_domain domain
 
 abbrev pub attribute_of : Text → Domain → Attribute
 attribute_of name domain = record { name = name; domain = domain }

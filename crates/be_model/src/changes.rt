@@ -3,7 +3,6 @@
 ghost use Rattle.std.specs.Prelude.{◌≡◌};
 ghost use Rattle.be_model.specs.Forms.{IsConj};
 ghost use Rattle.be_model.specs.Lies.{row_lies};
-ghost use Rattle.be_model.specs.Rows.{session_of};
 
 use crate::conjs::Conj;
 use crate::schemas::Schema;
@@ -47,17 +46,4 @@ pub enum Change {
         session: SessionNo,
         serial: u64,
     },
-}
-
-impl Change {
-    /// The session that made the change.
-    pub fn session(&self) -> SessionNo
-        ensures { result ≡ session_of self.now }
-    {
-        match self {
-            Change::Sub { session, .. } => *session,
-            Change::Unsub { session, .. } => *session,
-            Change::Bye { session, .. } => *session,
-        }
-    }
 }

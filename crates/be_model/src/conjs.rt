@@ -1,6 +1,6 @@
 //! Conditions on events: conjunctions of predicates.
 
-ghost use Rattle.std.specs.Prelude.{◌≡◌, ◌↔◌, ◌<◌, [], ◌∷◌, ◌++◌, true, false, not, nat_le, length, position, find, slice_get, option_copied, Some, option_map, OnOk, OnErr, IsOk, IsNone, IfErr, IfSome};
+ghost use Rattle.std.specs.Prelude.{◌≡◌, ◌↔◌, ◌<◌, ◌≤◌, [], ◌∷◌, ◌++◌, true, false, not, length, position, find, slice_get, option_copied, Some, option_map, IsTrue, OnOk, OnErr, IsOk, IsNone, IfErr, IfSome};
 ghost use Rattle.std.specs.List.{list_any};
 ghost use Rattle.be_model.specs.Forms.{IsConj};
 ghost use Rattle.be_model.specs.Hulls.{span_in, is_on};
@@ -52,15 +52,13 @@ impl Conj {
     {
         // It is asked for the form of the comparison alone.
         let _ = pred.op.lies((0, 0));
-        match self.preds.push(pred) {
-            Ok(()) => Ok(()),
-            Err(_) => Err(NoMemory),
-        }
+        self.preds.push(pred)?;
+        Ok(())
     }
 
     /// Whether no further predicate may be put.
     pub fn is_full(&self) -> bool
-        ensures { result ≡ nat_le PREDICATES (length self.now) }
+        ensures { IsTrue result ↔ (PREDICATES ≤ length self.now) }
     {
         PREDICATES <= self.preds.len()
     }
@@ -72,9 +70,9 @@ impl Conj {
     }
 
     pub fn is_empty(&self) -> bool
-        ensures { result ≡ nat_le (length self.now) 0 }
+        ensures { IsTrue result ↔ (self.now ≡ []) }
     {
-        self.preds.len() <= 0
+        self.preds.is_empty()
     }
 
     pub fn preds(&self) -> &[Pred]

@@ -1,6 +1,6 @@
 //! Events: sets of values of attributes.
 
-ghost use Rattle.std.specs.Prelude.{◌≡◌, [], ◌∷◌, ◌++◌, true, nat_le, length, option_copied, OnOk, OnErr, IfOk};
+ghost use Rattle.std.specs.Prelude.{◌≡◌, ◌↔◌, [], ◌∷◌, ◌++◌, true, length, option_copied, IsTrue, OnOk, OnErr, IfOk};
 ghost use Rattle.be_model.specs.Forms.{attrs_rise, IsEvent};
 ghost use Rattle.be_model.specs.Matching.{attrs_of, values_of};
 ghost use Rattle.be_model.specs.Lies.{item_lies, event_lies};
@@ -48,10 +48,8 @@ impl Event {
     {
         // A slice shows the form of the values.
         let _ = item.1.as_slice();
-        match self.items.push(item) {
-            Ok(()) => Ok(()),
-            Err(_) => Err(NoMemory),
-        }
+        self.items.push(item)?;
+        Ok(())
     }
 
     /// Whether the attribute may be put last.
@@ -71,9 +69,9 @@ impl Event {
     }
 
     pub fn is_empty(&self) -> bool
-        ensures { result ≡ nat_le (length self.now) 0 }
+        ensures { IsTrue result ↔ (self.now ≡ []) }
     {
-        self.items.len() <= 0
+        self.items.is_empty()
     }
 
     pub fn items(&self) -> &[(AttrNo, Values)]
@@ -109,10 +107,7 @@ impl Event {
         let items = self.items.as_slice();
         let mut copies = Vec::with_capacity(*self.items.allocator(), items.len())?;
         for item in items {
-            match copies.push((item.0, item.1.copy()?)) {
-                Ok(()) => {}
-                Err(_) => return Err(NoMemory),
-            }
+            copies.push((item.0, item.1.copy()?))?;
         }
         Ok(Event { items: copies })
     }

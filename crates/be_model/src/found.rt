@@ -1,6 +1,6 @@
 //! Rows that a search found.
 
-ghost use Rattle.std.specs.Prelude.{◌≡◌, ◌+◌, ◌-◌, ◌<◌, ◌≤◌, [], ◌∷◌, ◌++◌, nat_le, length, take, OnOk, OnErr, IsPermutation};
+ghost use Rattle.std.specs.Prelude.{◌≡◌, ◌↔◌, ◌+◌, ◌-◌, ◌<◌, ◌≤◌, [], ◌∷◌, ◌++◌, length, take, IsTrue, OnOk, OnErr, IsPermutation};
 ghost use Rattle.std.specs.List.Sorted.{IsNonDecreasingBy};
 ghost use Rattle.std.specs.Arc.{arc_value};
 ghost use Rattle.be_model.specs.Rows.{found, id_of, rows_in};
@@ -47,10 +47,8 @@ impl Found {
         ensures kept { self.old.spare ≤ self.new.spare }
         ensures refused { OnErr result (self.new ≡ self.old) }
     {
-        match self.rows.reserve(n) {
-            Ok(()) => Ok(()),
-            Err(_) => Err(NoMemory),
-        }
+        self.rows.reserve(n)?;
+        Ok(())
     }
 
     /// Puts a row last.
@@ -67,13 +65,9 @@ impl Found {
         ensures put { OnOk result (self.new ≡ found (self.old.rows ++ arc_value row.now ∷ []) (self.old.spare - 1)) }
         ensures refused { OnErr result (self.new ≡ self.old) }
     {
-        match Arc::try_clone(row) {
-            Ok(row) => {
-                self.push(row);
-                Ok(())
-            }
-            Err(_) => Err(NoMemory),
-        }
+        let row = Arc::try_clone(row)?;
+        self.push(row);
+        Ok(())
     }
 
     /// Keeps the first `n` rows.
@@ -114,9 +108,9 @@ impl Found {
     }
 
     pub fn is_empty(&self) -> bool
-        ensures { result ≡ nat_le (length self.now.rows) 0 }
+        ensures { IsTrue result ↔ (self.now.rows ≡ []) }
     {
-        self.rows.len() <= 0
+        self.rows.is_empty()
     }
 
     /// How many more rows can be put without memory.
@@ -124,41 +118,5 @@ impl Found {
         ensures { result ≡ self.now.spare }
     {
         self.rows.capacity() - self.rows.len()
-    }
-}
-
-#[cfg(test)]
-mod tests {
-    use super::*;
-    use crate::conjs::Conj;
-    use be_base::{Id, Name, SessionNo};
-    use std::test::Fail;
-
-    #[test]
-    fn rows_come_in_order_of_their_ids(rt: HostRuntime) -> Result<(), Fail> {
-        let alloc = rt.alloc();
-        let mut found = Found::make(alloc);
-        found.reserve(4)?;
-        for id in [7, 3, 5] {
-            let name = Name::read(b"a").map_err(|_| NoMemory)?;
-            let conj = Conj::make(alloc);
-            let row = Arc::new(
-                alloc,
-                Row {
-                    id: Id(id),
-                    session: SessionNo(1),
-                    name,
-                    conj,
-                },
-            )?;
-            if 0 < found.spare() {
-                found.push_again(&row)?;
-            }
-        }
-        found.order();
-        let ids = found.rows();
-        assert_eq!(rt; ids.len(), 3);
-        assert_eq!(rt; (ids[0].id.0, ids[1].id.0, ids[2].id.0), (3, 5, 7));
-        Ok(())
     }
 }

@@ -1,4 +1,7 @@
 //! Schemas, conditions, events, rows and changes, and when an event satisfies a condition.
+//!
+//! Its contract: `Conj::satisfied_by` answers `satisfies` of specs/Matching, and the laws of src/laws.rt say what hulls and
+//! spans are good for. It stands on be_base. Begin with specs/Schemas, specs/Matching and specs/Hulls.
 #![tactic(auto)]
 
 mod changes;
@@ -8,11 +11,14 @@ mod events;
 mod found;
 mod laws;
 mod letters;
+mod name_lists;
 mod ops;
 mod paths;
 mod preds;
 mod row_lists;
+mod sameness;
 mod schemas;
+mod set_texts;
 mod texts;
 mod values;
 
@@ -26,9 +32,11 @@ pub use laws::{
     values_are_read, values_are_words,
 };
 pub use letters::{EventText, Letter};
+pub use name_lists::Names;
 pub use ops::Op;
 pub use paths::{Hop, Path};
 pub use preds::Pred;
 pub use row_lists::RowList;
-pub use schemas::{Attribute, Domain, Names, Schema, is_reserved};
-pub use values::Values;
+pub use schemas::{Attribute, Domain, Schema, is_reserved};
+pub use set_texts::Met;
+pub use values::{VALUES_IN_PLACE, Values};

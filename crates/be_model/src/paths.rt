@@ -44,31 +44,13 @@ impl Path {
         ensures put { OnOk result (self.new ≡ self.old ++ hop ∷ []) }
         ensures refused { OnErr result (self.new ≡ self.old) }
     {
-        match self.hops.push(hop) {
-            Ok(()) => Ok(()),
-            Err(_) => Err(NoMemory),
-        }
+        self.hops.push(hop)?;
+        Ok(())
     }
 
     pub fn hops(&self) -> &[Hop]
         ensures { result.now ≡ self.now }
     {
         self.hops.as_slice()
-    }
-}
-
-#[cfg(test)]
-mod tests {
-    use super::*;
-    use std::test::Fail;
-
-    #[test]
-    fn steps_are_put(rt: HostRuntime) -> Result<(), Fail> {
-        let mut path = Path::make(rt.alloc());
-        for hop in [Hop::Part(AttrNo(3)), Hop::Low, Hop::High] {
-            path.push(hop)?;
-        }
-        assert_eq!(rt; path.hops().len(), 3);
-        Ok(())
     }
 }

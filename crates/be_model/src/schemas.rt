@@ -6,104 +6,10 @@ ghost use Rattle.be_base.specs.Text.{same_text};
 ghost use Rattle.be_model.specs.Domains.{bounds_of, width, bits, value_of_word, place_of};
 ghost use Rattle.be_model.specs.Schemas.{IsSchema, attribute_of, attribute_named, attribute_at, names_of_attributes, is_among_texts, all_differ, is_domain, takes, reserved_words, range_of};
 
+use crate::name_lists::Names;
 use be_base::{ATTRIBUTES, AttrNo, FIRST_INT, LAST_INT, Name, NoMemory, SYMBOLS, read_int};
 use std::alloc::Global;
-use std::collections::HashMap;
 use std::marker::Model;
-
-/// A list of names. A name is found by its text without a scan.
-#[derive(Drop)]
-pub struct Names {
-    names: Vec<Name>,
-    // The first place of each name.
-    places: HashMap<Name, usize>,
-    // Whether no two names are the same.
-    differ: bool,
-}
-
-impl Model for Names {
-    ghost use Rattle.std.specs.Prelude.{ℕ, List};
-    ghost use Rattle.be_model.specs.Places.{FindsPlaces};
-
-    ghost Value = { List (List ℕ) };
-
-    ghost view = { λ n. n.names.items };
-
-    ghost invariant = { λ n. FindsPlaces n.places n.differ n.names.items };
-}
-
-impl Names {
-    /// No names. It takes no memory.
-    pub fn make(alloc: Global) -> Names
-        ensures { result ≡ [] }
-    {
-        Names {
-            names: Vec::new(alloc),
-            places: HashMap::new(alloc),
-            differ: true,
-        }
-    }
-
-    /// Puts a name last.
-    pub fn push(&mut self, name: Name) -> Result<(), NoMemory>
-        ensures put { OnOk result (self.new ≡ self.old ++ name ∷ []) }
-        ensures refused { OnErr result (self.new ≡ self.old) }
-    {
-        let place = self.names.len();
-        let known = self.place(name.bytes()).is_some();
-        if self.names.push(name).is_err() {
-            return Err(NoMemory);
-        }
-        if known {
-            self.differ = false;
-            return Ok(());
-        }
-        match self.places.insert(name, place) {
-            Ok(_) => Ok(()),
-            Err(_) => {
-                self.names.truncate(place);
-                Err(NoMemory)
-            }
-        }
-    }
-
-    pub fn len(&self) -> usize
-        ensures { result ≡ length self.now }
-    {
-        self.names.len()
-    }
-
-    pub fn is_empty(&self) -> bool
-        ensures { result ≡ nat_le (length self.now) 0 }
-    {
-        self.names.len() <= 0
-    }
-
-    pub fn as_slice(&self) -> &[Name]
-        ensures { result.now ≡ self.now }
-    {
-        self.names.as_slice()
-    }
-
-    /// The place of the name that the text is.
-    pub fn place(&self, text: &[u8]) -> Option<usize>
-        ensures exact { result ≡ place_of text.now self.now }
-        ensures below { IfSome result (λ place. place < length self.now) }
-    {
-        let places = &self.places;
-        match Name::read(text) {
-            Ok(name) => places.get(&name).copied(),
-            Err(_) => None,
-        }
-    }
-
-    /// Whether no two names are the same.
-    pub fn are_different(&self) -> bool
-        ensures { result ≡ all_differ self.now }
-    {
-        self.differ
-    }
-}
 
 /// The values of an attribute.
 #[derive(Drop)]
@@ -142,8 +48,8 @@ impl Domain {
         requires { is_domain self.now ≡ true }
         ensures bounds { result ≡ bounds_of self.now }
         ensures rising { result.0 ≤ℤ result.1 }
-        ensures low { negsuc 2147483647 ≤ℤ result.0 }
-        ensures high { result.1 ≤ℤ pos 2147483647 }
+        ensures low { FIRST_INT ≤ℤ result.0 }
+        ensures high { result.1 ≤ℤ LAST_INT }
     {
         self.bounds()
     }
@@ -239,17 +145,12 @@ impl Schema {
     {
         let (name, domain) = item;
         let count = self.attributes.len();
-        match self.attributes.push(Attribute { name, domain }) {
-            Ok(()) => {}
-            Err(_) => return Err(NoMemory),
+        self.attributes.push(Attribute { name, domain })?;
+        if self.names.push(name).is_err() {
+            self.attributes.truncate(count);
+            return Err(NoMemory);
         }
-        match self.names.push(name) {
-            Ok(()) => Ok(()),
-            Err(_) => {
-                self.attributes.truncate(count);
-                Err(NoMemory)
-            }
-        }
+        Ok(())
     }
 
     /// Whether an attribute of this name and domain may be put last.
@@ -285,7 +186,7 @@ impl Schema {
 
     /// Whether no further attribute may be put.
     pub fn is_full(&self) -> bool
-        ensures { result ≡ nat_le 256 (length self.now) }
+        ensures { result ≡ nat_le ATTRIBUTES (length self.now) }
     {
         ATTRIBUTES <= self.attributes.len()
     }
@@ -294,16 +195,16 @@ impl Schema {
     pub fn has(&self, name: &Name) -> bool
         ensures { result ≡ is_among_texts name.now (names_of_attributes self.now) }
     {
-        self.names.place(name.bytes()).is_some()
+        self.names.find(name).is_some()
     }
 
     /// The attribute of this name.
     pub fn find(&self, name: &Name) -> Option<AttrNo>
         ensures exact { result ≡ attribute_named self.now name.now }
         ensures below { IfSome result (λ a. a.0 < length self.now) }
-        ensures few { IfSome result (λ a. a.0 < 256) }
+        ensures few { IfSome result (λ a. a.0 < ATTRIBUTES) }
     {
-        let place = self.names.place(name.bytes())?;
+        let place = self.names.find(name)?;
         Some(AttrNo(place as u16))
     }
 
@@ -319,8 +220,8 @@ impl Schema {
         requires { a.0 < length self.now }
         ensures bounds { option_map (λ x. bounds_of x.domain) (attribute_at self.now a) ≡ Some result }
         ensures rising { result.0 ≤ℤ result.1 }
-        ensures low { negsuc 2147483647 ≤ℤ result.0 }
-        ensures high { result.1 ≤ℤ pos 2147483647 }
+        ensures low { FIRST_INT ≤ℤ result.0 }
+        ensures high { result.1 ≤ℤ LAST_INT }
     {
         self.attribute(a).domain.limits()
     }

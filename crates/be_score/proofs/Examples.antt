@@ -10,16 +10,16 @@ use Rattle.be_score.specs.Scores.{weight, score}
 abbrev schema : Attributes
 schema = attribute_of (codes "price") (Int (pos 0) (pos 1000)) ∷ attribute_of (codes "qty") (Int (negsuc 4) (pos 5)) ∷ []
 
-abbrev row : ℕ → Row
-row id = record { id = record { 0 = id }; session = record { 0 = 1 }; name = codes "a"; conj = record { attr = numbered 0; op = Eq (pos 5) } ∷ [] }
+abbrev priced : ℕ → Row
+priced id = record { id = record { 0 = id }; session = record { 0 = 1 }; name = codes "a"; conj = record { attr = numbered 0; op = Eq (pos 5) } ∷ [] }
 
 abbrev other : Row
 other = record { id = record { 0 = 3 }; session = record { 0 = 1 }; name = codes "b"; conj = record { attr = numbered 1; op = Eq (pos 0) } ∷ [] }
 
 abbrev rows : List Row
-rows = row 0 ∷ row 1 ∷ row 2 ∷ other ∷ []
+rows = priced 0 ∷ priced 1 ∷ priced 2 ∷ other ∷ []
 
-weight_of_price : weight schema (numbered 0) (row 0) ≡ 1000
+weight_of_price : weight schema (numbered 0) (priced 0) ≡ 1000
 weight_of_price = refl
 
 weight_of_quantity : weight schema (numbered 1) other ≡ 910

@@ -2,7 +2,7 @@
 use Rattle.std.proofs.Common.{◌≡◌, Bool, true, false, cond, List, Option, Some, None, Result, Ok, Err, refl, ap, codes}
 use Rattle.be_base.specs.Text.{Text, same_text, name_of}
 use Rattle.be_base.specs.Tokens.{Lexeme, word, put_token}
-use Rattle.be_model.specs.declared.conditions.Pred.{Pred}
+use Rattle.be_model.specs.declared.preds.Pred.{Pred}
 use Rattle.be_model.specs.Schemas.{Attributes}
 use Rattle.be_model.specs.Matching.{Assignments}
 use Rattle.be_expr.specs.declared.faults.ExprFault.{ExprFault}
@@ -11,8 +11,8 @@ use Rattle.be_expr.specs.Expressions as conditions
 use Rattle.be_event.specs.declared.events.EventFault.{EventFault}
 use Rattle.be_event.specs.declared.events.EventFault.TheVariants as event
 use Rattle.be_event.specs.Events as events
-use Rattle.be_change.specs.Requests.{refused, bad}
-use Rattle.be_transcript.specs.Readings.{request_of, commanded, subscription, publication, publishing, expr_refusal, event_refusal}
+use Rattle.be_change.specs.Requests.{refused, bad, publish}
+use Rattle.be_transcript.specs.Readings.{request_of, commanded, subscription, of_event, asking_of, expr_refusal, event_refusal}
 
 five_bad : (a b c d e : Bool) → refused bad ≡ cond a (refused bad) (cond b (refused bad) (cond c (refused bad) (cond d (refused bad) (cond e (refused bad) (refused bad)))))
 five_bad true b c d e = refl
@@ -41,6 +41,7 @@ event_fault event.Bad read r other = r
 event_fault (event.Attr name) read r other = r
 event_fault (event.Dom a) read r other = r
 event_fault (event.Twice a) read r other = r
+event_fault (event.Many count) read r other = r
 event_fault event.NoMemory read r other = absurd (other refl)
 
 -- a name and a condition with a fault
@@ -52,5 +53,5 @@ faulty_subscription s word_read name None fault named read = ap (λ f. refused (
     same_fault f e = cc
 faulty_subscription s word_read name (Some ts) fault named read = rw (named, read) refl
 
-pub faulty_publication : (s : Attributes) (ts : Option (List Lexeme)) (fault : EventFault) → events.event_of s ts ≡ Err fault → publication s ts ≡ refused (event_refusal s fault)
-faulty_publication s ts fault read = ap (publishing s) read
+pub faulty_publication : (s : Attributes) (ts : Option (List Lexeme)) (fault : EventFault) → events.event_of s ts ≡ Err fault → of_event publish s ts ≡ refused (event_refusal s fault)
+faulty_publication s ts fault read = ap (asking_of publish s) read

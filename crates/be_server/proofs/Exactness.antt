@@ -1,19 +1,19 @@
 -- What the file holds decides the status.
-use Rattle.std.proofs.Common.{◌≡◌, inl, inr, ℕ, ◌<◌, ◌≤◌, List, length, Option, Some, None, Result, Ok, Err, refl, sym, subst, ◌∙◌, arith}
-use Rattle.be_io.specs.Shelf.{HoldsFile}
+use Rattle.std.proofs.Common.{◌≡◌, ◌⊎◌, inl, inr, ℕ, ◌<◌, ◌≤◌, List, length, Option, Some, None, Result, Ok, Err, refl, sym, subst, ◌∙◌, arith}
 use Rattle.be_base.specs.Text.{Text}
+use Rattle.be_base.specs.declared.limits.TheConstants.{FILE_BYTES}
 use Rattle.be_event.specs.declared.schema_texts.SchemaFault.{SchemaFault}
 use Rattle.be_event.specs.declared.schema_texts.SchemaFault.TheVariants.{Line}
-use Rattle.be_event.specs.declared.schema_texts.SchemaKind.{SchemaKind}
 use Rattle.be_event.specs.SchemaTexts.{schema_of}
+use Rattle.be_io.specs.Counts.{HasRisen}
+use Rattle.be_io.specs.Shelf.{HoldsFile}
 use Rattle.be_model.specs.Schemas.{Attributes}
-use Rattle.be_server.specs.declared.session.SessionEnd.{SessionEnd}
-use Rattle.be_server.specs.declared.session.SessionEnd.TheVariants as ends
 use Rattle.be_server.specs.declared.status.Status.{Status}
 use Rattle.be_server.specs.declared.status.Status.TheVariants.{Done, Words, SchemaBad, NoMemory, ReadFault, LongFile, WriteFault, Spent, Split, Stray, Shut}
+use Rattle.be_server.specs.Exact.{IsFaultless, IsExact, EndsExactly}
+use Rattle.be_server.specs.Files.{ToldFile, FileReads, IsSchemaOf}
+use Rattle.be_server.specs.Promise.{CommandState, RunEnds, Ends}
 use Rattle.be_server.specs.Words.{Command, run}
-use Rattle.be_server.specs.Outcome.{ToldFile, Effects, ServedWith, RunEnds, IsExact, most_file_bytes}
-use Rattle.be_server.specs.Entry.{Ends, EndsExactly}
 
 -- what is told of the file
 told : (file : ToldFile) (text : List ℕ) (P : List ℕ → Type 0) → file ≡ Some (Some text) → HoldsFile file P → P text
@@ -22,96 +22,64 @@ told file text P e h = subst (λ (o : ToldFile). HoldsFile o P) e h
 gone : (file : ToldFile) (P : List ℕ → Type 0) → file ≡ Some None → HoldsFile file P → ⊥
 gone file P e h = subst (λ (o : ToldFile). HoldsFile o P) e h
 
--- a file that reads as a schema has no fault
-served_no_fault : (file : ToldFile) (x : Effects) (e : SessionEnd) (text : List ℕ) (fault : SchemaFault) → ServedWith file x e → file ≡ Some (Some text) → schema_of text ≡ Err fault → ⊥
-served_no_fault file x e text fault w is bad =
-    let read = told file text (λ t. (length t ≤ most_file_bytes) × (schema_of t ≡ Ok w.0)) is w.2.1 in
-    let ok : schema_of text ≡ Ok w.0 = read.1 in
-    let clash : Ok w.0 ≡ Err fault = sym ok ∙ bad in cc
+too_long : (text : List ℕ) → length text ≤ FILE_BYTES → FILE_BYTES < length text → ⊥
+too_long text a b = omega arith
 
--- a file that was read is within the limit
-served_not_long : (file : ToldFile) (x : Effects) (e : SessionEnd) (text : List ℕ) → ServedWith file x e → file ≡ Some (Some text) → most_file_bytes < length text → ⊥
-served_not_long file x e text w is long =
-    let read = told file text (λ t. (length t ≤ most_file_bytes) × (schema_of t ≡ Ok w.0)) is w.2.1 in
-    let short : length text ≤ most_file_bytes = read.0 in omega arith
+reads : (file : ToldFile) (text : List ℕ) (r : Result Attributes SchemaFault) → FileReads file r → file ≡ Some (Some text) → (length text ≤ FILE_BYTES) × (schema_of text ≡ r)
+reads file text r f is = told file text (λ t. (length t ≤ FILE_BYTES) × (schema_of t ≡ r)) is f
 
--- a session was served to its end, so all is done
-exact_done : (file : ToldFile) (x : Effects) (e : SessionEnd) → ServedWith file x e → IsExact file x Done
-exact_done file x e r = record {
-  schema_bad = λ text line kind is short bad. absurd (served_no_fault file x e text (Line line kind) r is bad);
-  long_file = λ text is long. absurd (served_not_long file x e text r is long);
-  missing = λ none. absurd (gone file (λ t. (length t ≤ most_file_bytes) × (schema_of t ≡ Ok r.0)) none r.2.1);
-  complete = λ text s is short good quiet. inl refl;
-}
-
-exact_run : (Untouched : Type 0) (file : ToldFile) (x : Effects) (status : Status) → RunEnds Untouched file x status → IsExact file x status
-exact_run U file x Done (inl r) = exact_done file x ends.Eof r
-exact_run U file x Done (inr r) = exact_done file x ends.Quit r
-exact_run U file x Words r = absurd r
-exact_run U file x (SchemaBad l k) r = record {
+-- a session was served with the file's schema, so the file is as it should be, and where no call failed all is done
+exact_served : (file : ToldFile) (before after : CommandState) (status : Status) (s : Attributes) → IsSchemaOf file s
+    → (IsFaultless before after → (status ≡ Done) ⊎ (status ≡ NoMemory)) → IsExact file before after status
+exact_served file before after status s is_schema ends = record {
   schema_bad = λ text line kind is short bad.
-      let read = told file text (λ t. (length t ≤ most_file_bytes) × (schema_of t ≡ Err (Line l k))) is r.1 in
-      inl (same_fault l line k kind (schema_of text) read.1 bad);
-  long_file = λ text is long.
-      let read = told file text (λ t. (length t ≤ most_file_bytes) × (schema_of t ≡ Err (Line l k))) is r.1 in
-      absurd (too_long text read.0 long);
-  missing = λ none. absurd (gone file (λ t. (length t ≤ most_file_bytes) × (schema_of t ≡ Err (Line l k))) none r.1);
+      let read = reads file text (Ok s) is_schema.1 is in
+      let clash : Ok s ≡ Err (Line line kind) = sym read.1 ∙ bad in absurd cc;
+  long_file = λ text is long. absurd (too_long text (reads file text (Ok s) is_schema.1 is).0 long);
+  missing = λ none. absurd (gone file (λ t. (length t ≤ FILE_BYTES) × (schema_of t ≡ Ok s)) none is_schema.1);
+  complete = λ text t is short good. ends;
+}
+
+-- memory was wanting, or the shelf failed
+exact_refused : (file : ToldFile) (before after : CommandState) (status : Status) → ((status ≡ ReadFault) × HasRisen before.shelf after.shelf) ⊎ ((status ≡ NoMemory) × (after.shelf ≡ before.shelf))
+    → (IsFaultless before after → (status ≡ Done) ⊎ (status ≡ NoMemory)) → IsExact file before after status
+exact_refused file before after status refused ends = record {
+  schema_bad = λ text line kind is short bad. inr refused;
+  long_file = λ text is long. inr refused;
+  missing = λ none. refused;
+  complete = λ text t is short good. ends;
+}
+
+exact_run : (Untouched : Type 0) (file : ToldFile) (before after : CommandState) (status : Status) → RunEnds Untouched file before after status → IsExact file before after status
+exact_run U file before after Done (_, inl r) = exact_served file before after Done r.schema r.is_schema (λ quiet. inl refl)
+exact_run U file before after Done (_, inr r) = exact_served file before after Done r.schema r.is_schema (λ quiet. inl refl)
+exact_run U file before after Words r = absurd r
+exact_run U file before after (SchemaBad l k) r = record {
+  schema_bad = λ text line kind is short bad.
+      let read = reads file text (Err (Line l k)) r.2 is in
+      let same : Err (Line l k) ≡ Err (Line line kind) = sym read.1 ∙ bad in inl cc;
+  long_file = λ text is long. absurd (too_long text (reads file text (Err (Line l k)) r.2 is).0 long);
+  missing = λ none. absurd (gone file (λ t. (length t ≤ FILE_BYTES) × (schema_of t ≡ Err (Line l k))) none r.2);
   complete = λ text s is short good quiet.
-      let read = told file text (λ t. (length t ≤ most_file_bytes) × (schema_of t ≡ Err (Line l k))) is r.1 in
-      absurd (no_fault s (Line l k) (schema_of text) read.1 good);
+      let read = reads file text (Err (Line l k)) r.2 is in
+      let clash : Err (Line l k) ≡ Ok s = sym read.1 ∙ good in absurd cc;
 }
-  where
-    same_fault : (l line : ℕ) (k kind : SchemaKind) (r : Result Attributes SchemaFault) → r ≡ Err (Line l k) → r ≡ Err (Line line kind) → SchemaBad l k ≡ SchemaBad line kind
-    same_fault l line k kind r a b = let e : Err (Line l k) ≡ Err (Line line kind) = sym a ∙ b in cc
-
-    no_fault : (s : Attributes) (fault : SchemaFault) (r : Result Attributes SchemaFault) → r ≡ Err fault → r ≡ Ok s → ⊥
-    no_fault s fault r a b = let e : Err fault ≡ Ok s = sym a ∙ b in cc
-
-    too_long : (text : List ℕ) → length text ≤ most_file_bytes → most_file_bytes < length text → ⊥
-    too_long text a b = omega arith
-exact_run U file x NoMemory r = record {
-  schema_bad = λ text line kind is short bad. inr (inl refl);
-  long_file = λ text is long. inr (inl refl);
-  missing = λ none. inl refl;
-  complete = λ text s is short good quiet. inr refl;
-}
-exact_run U file x ReadFault (inl r) = record {
-  schema_bad = λ text line kind is short bad. inr (inr (refl, r.1));
-  long_file = λ text is long. inr (inr (refl, r.1));
-  missing = λ none. inr (refl, r.1);
-  complete = λ text s is short good quiet. absurd (quiet.shelf r.1);
-}
-exact_run U file x ReadFault (inr r) = record {
-  schema_bad = λ text line kind is short bad. absurd (served_no_fault file x ends.ReadFault text (Line line kind) r is bad);
-  long_file = λ text is long. absurd (served_not_long file x ends.ReadFault text r is long);
-  missing = λ none. absurd (gone file (λ t. (length t ≤ most_file_bytes) × (schema_of t ≡ Ok r.0)) none r.2.1);
-  complete = λ text s is short good quiet. absurd (quiet.source r.4.ended.0);
-}
-exact_run U file x LongFile r = record {
-  schema_bad = λ text line kind is short bad. absurd (too_long text short (told file text (λ t. most_file_bytes < length t) is r.1));
+exact_run U file before after NoMemory r = exact_refused file before after NoMemory (inr (refl, r.0)) (λ quiet. inr refl)
+exact_run U file before after ReadFault (inl r) = exact_refused file before after ReadFault (inl (refl, r.0)) (λ quiet. absurd (quiet.shelf r.0))
+exact_run U file before after ReadFault (inr r) = exact_served file before after ReadFault r.1.schema r.1.is_schema (λ quiet. absurd (quiet.source r.1.ends.0))
+exact_run U file before after LongFile r = record {
+  schema_bad = λ text line kind is short bad. absurd (too_long text short (told file text (λ t. FILE_BYTES < length t) is r.2));
   long_file = λ text is long. inl refl;
-  missing = λ none. absurd (gone file (λ t. most_file_bytes < length t) none r.1);
-  complete = λ text s is short good quiet. absurd (too_long text short (told file text (λ t. most_file_bytes < length t) is r.1));
+  missing = λ none. absurd (gone file (λ t. FILE_BYTES < length t) none r.2);
+  complete = λ text s is short good quiet. absurd (too_long text short (told file text (λ t. FILE_BYTES < length t) is r.2));
 }
-  where
-    too_long : (text : List ℕ) → length text ≤ most_file_bytes → most_file_bytes < length text → ⊥
-    too_long text a b = omega arith
-exact_run U file x WriteFault r = record {
-  schema_bad = λ text line kind is short bad. absurd (served_no_fault file x ends.WriteFault text (Line line kind) r is bad);
-  long_file = λ text is long. absurd (served_not_long file x ends.WriteFault text r is long);
-  missing = λ none. absurd (gone file (λ t. (length t ≤ most_file_bytes) × (schema_of t ≡ Ok r.0)) none r.2.1);
-  complete = λ text s is short good quiet. absurd (quiet.sink r.4.ended.0);
-}
-exact_run U file x Spent r = record {
-  schema_bad = λ text line kind is short bad. absurd (served_no_fault file x ends.Spent text (Line line kind) r is bad);
-  long_file = λ text is long. absurd (served_not_long file x ends.Spent text r is long);
-  missing = λ none. absurd (gone file (λ t. (length t ≤ most_file_bytes) × (schema_of t ≡ Ok r.0)) none r.2.1);
-  complete = λ text s is short good quiet. absurd (quiet.bytes r.4.ended.0);
-}
-exact_run U file x (Split rift) r = absurd r
-exact_run U file x (Stray stray) r = absurd r
-exact_run U file x (Shut shade) r = absurd r
+exact_run U file before after WriteFault r = exact_served file before after WriteFault r.1.schema r.1.is_schema (λ quiet. absurd (quiet.sink r.1.ends.0))
+exact_run U file before after Spent r = exact_served file before after Spent r.1.schema r.1.is_schema (λ quiet. absurd (quiet.bytes r.1.ends.0))
+exact_run U file before after (Split rift) r = absurd r
+exact_run U file before after (Stray stray) r = absurd r
+exact_run U file before after (Shut shade) r = absurd r
 
-pub exact_ends : (c : Option Command) (Untouched : Type 0) (content : Text → ToldFile) (x : Effects) (status : Status) → Ends c Untouched content x status → EndsExactly c content x status
-exact_ends None U content x status e = tt
-exact_ends (Some (run schema)) U content x status e = exact_run U (content schema) x status e
+pub exact_ends : (c : Option Command) (Untouched : Type 0) (content : Text → ToldFile) (before after : CommandState) (status : Status)
+    → Ends c Untouched content before after status → EndsExactly c content before after status
+exact_ends None U content before after status e = tt
+exact_ends (Some (run schema)) U content before after status e = exact_run U (content schema) before after status e

@@ -1,8 +1,9 @@
 -- A session's turns, one after another, are a legal transcript of the lines that were read.
-use Rattle.std.proofs.Common.{◌≡◌, ◌⊎◌, inl, inr, ℕ, ◌+◌, ◌<◌, ◌≤◌, Bool, true, false, not, List, [], ◌∷◌, ◌++◌, length, map, take, drop, Option, Some, None, Err, refl, sym, ap, ◌∙◌, subst, arith, append_assoc, length-drop}
+use Rattle.std.proofs.Common.{◌≡◌, inl, inr, ℕ, ◌+◌, ◌<◌, ◌≤◌, Bool, true, false, not, List, [], ◌∷◌, ◌++◌, length, map, take, drop, Option, Some, None, Err, refl, sym, ap, ◌∙◌, subst, arith, append_assoc, length-drop}
 use Rattle.std.proofs.lemmas.List.{map_push, append-nil, take-append-drop}
 use Rattle.std.proofs.lemmas.List.Concat.{flat_map-append}
 use Rattle.std.proofs.lemmas.List.Folds.{list_all-append}
+use Rattle.be_base.specs.declared.limits.TheConstants.{LINE_BYTES, SOURCE_BYTES}
 use Rattle.be_io.specs.Counts.{HasRisen, HasRisenBy, RisesBy}
 use Rattle.be_io.specs.Told.{WhereTold, HoldsMore}
 use Rattle.be_io.specs.Lines.{TextLine, closed_line, line_of, read_line, lines}
@@ -13,43 +14,45 @@ use Rattle.be_io.proofs.LineLemmas.{lines-ClosedLine, lines-OpenLine, lines-begu
 use Rattle.be_io.proofs.ToldLemmas.{HoldsMore-append, HoldsMore-nil}
 use Rattle.be_model.specs.Schemas.{Attributes}
 use Rattle.be_change.specs.History.{Entry, has_left}
-use Rattle.be_change.specs.Requests.{Request, refused, subscribe, unsubscribe, publish, listing, quit, Reply, Exchange}
-use Rattle.be_change.specs.Walk.{beginning}
+use Rattle.be_change.specs.Requests.{Request, quit, Reply, Exchange}
+use Rattle.be_change.specs.Walk.{beginning_at}
 use Rattle.be_change.specs.Made.{made}
 use Rattle.be_change.specs.Alone.{RanAlone}
 use Rattle.be_change.proofs.Alone.{alone_ran}
+use Rattle.be_transcript.specs.LinesRead.{read_ahead, ReadToEnd, ReadInPart, ReadFirstLines}
 use Rattle.be_transcript.specs.Readings.{reading}
-use Rattle.be_transcript.specs.Replies.{reply_text}
-use Rattle.be_transcript.specs.Transcript.{line_limit, AnswersEach, requests, texts, TellsCounts, AreRun, is_quit, HasNoQuit, read_ahead, ReadToEnd, ReadInPart, ReadFirstLines}
+use Rattle.be_transcript.specs.Replies.{last_line, reply_text, with_lf}
+use Rattle.be_transcript.specs.Runs.{AreAlone, AreRun, is_quit, HasNoQuit}
+use Rattle.be_transcript.specs.Transcript.{AnswersEach, requests, texts}
 use Rattle.be_server.specs.declared.session.SessionEnd.{SessionEnd}
 use Rattle.be_server.specs.declared.session.SessionEnd.TheVariants as ends
 use Rattle.be_server.specs.declared.session.Turn.TheVariants.{Next, Over, AfterQuit}
-use Rattle.be_server.specs.Given.{Replies}
-use Rattle.be_server.specs.Ties.{Ties}
-use Rattle.be_server.specs.Wrote.{SinkState, TookPart}
-use Rattle.be_server.specs.Turns.{SourceState, TurnState, TakesAlike, IsFirstLine, TookLine, EndsAt, Answered, AnswersLine, Turned}
-use Rattle.be_server.specs.Serving.{IsNew, GoesOn, IsServing, Gave, Leaves, QuitsAtEnd, RanWhole, RanCut, TakesWithin, ServedTo, Served}
-use Rattle.be_server.proofs.Steps.{Plain, Stepped, tie_beginning, tie_step, tie_next}
+use Rattle.be_io.specs.Source.{SourceState}
+use Rattle.be_io.specs.Sink.{SinkState, TookPart}
+use Rattle.be_server.specs.Promise.{link, NoWriteFailed, QuitsAtEnd, Leaves, Replied, ReachedQuit, BrokeOff, CutShort, SessionEnds, TakesWithin}
+use Rattle.be_server.specs.Session.{Ties, TurnState, IsReading, TakesAlike, IsFirstLine, TookLine, TookBreak, IsSilent, EndsAt, Answered, AnswersLine, Turned, new_reader, GoesOn, IsServing}
+use Rattle.be_server.specs.Subscriptions.{Replies}
+use Rattle.be_server.proofs.Steps.{Stepped, one_line, tie_beginning, tie_step, tie_next}
 
 -- one more line
 goes_on : (start unread b bytes unread' a : List ℕ) (ended : Bool) (done : List TextLine) → GoesOn false start unread b done
-    → NextLine ended (unread ++ b) bytes (unread' ++ a) → GoesOn ended start unread' a (done ++ read_line line_limit ended bytes ∷ [])
+    → NextLine ended (unread ++ b) bytes (unread' ++ a) → GoesOn ended start unread' a (done ++ read_line LINE_BYTES ended bytes ∷ [])
 goes_on start unread b bytes unread' a ended done g (inl n) =
     let front : List ℕ = g.0 ++ (bytes ++ 10 ∷ []) in
-    let line : TextLine = closed_line line_limit bytes in
+    let line : TextLine = closed_line LINE_BYTES bytes in
     let whole : start ≡ front ++ (unread' ++ a) =
     g.1 ∙ ap (λ (x : List ℕ). g.0 ++ x) (n.1.1 ∙ sym (append_assoc bytes (10 ∷ []) (unread' ++ a))) ∙ sym (append_assoc g.0 (bytes ++ 10 ∷ []) (unread' ++ a)) in
-    let later : (e : Bool) (x : List ℕ) → lines line_limit e (front ++ x) ≡ (done ++ line ∷ []) ++ lines line_limit e x =
-    λ e x. ap (lines line_limit e) (append_assoc g.0 (bytes ++ 10 ∷ []) x)
+    let later : (e : Bool) (x : List ℕ) → lines LINE_BYTES e (front ++ x) ≡ (done ++ line ∷ []) ++ lines LINE_BYTES e x =
+    λ e x. ap (lines LINE_BYTES e) (append_assoc g.0 (bytes ++ 10 ∷ []) x)
     ∙ g.2 e ((bytes ++ 10 ∷ []) ++ x)
-    ∙ ap (λ (ls : List TextLine). done ++ ls) (lines-ClosedLine line_limit e ((bytes ++ 10 ∷ []) ++ x) bytes x (n.1.0, append_assoc bytes (10 ∷ []) x))
-    ∙ sym (append_assoc done (line ∷ []) (lines line_limit e x)) in
-    subst (λ (e : Bool). GoesOn e start unread' a (done ++ read_line line_limit e bytes ∷ [])) (sym n.0) (front, whole, later)
+    ∙ ap (λ (ls : List TextLine). done ++ ls) (lines-ClosedLine LINE_BYTES e ((bytes ++ 10 ∷ []) ++ x) bytes x (n.1.0, append_assoc bytes (10 ∷ []) x))
+    ∙ sym (append_assoc done (line ∷ []) (lines LINE_BYTES e x)) in
+    subst (λ (e : Bool). GoesOn e start unread' a (done ++ read_line LINE_BYTES e bytes ∷ [])) (sym n.0) (front, whole, later)
 goes_on start unread b bytes unread' a ended done g (inr n) =
-    let all : lines line_limit true start ≡ done ++ line_of line_limit bytes ∷ [] =
-    ap (lines line_limit true) g.1 ∙ g.2 true (unread ++ b) ∙ ap (λ (ls : List TextLine). done ++ ls) (lines-OpenLine line_limit (unread ++ b) bytes (unread' ++ a) n.1) in
+    let all : lines LINE_BYTES true start ≡ done ++ line_of LINE_BYTES bytes ∷ [] =
+    ap (lines LINE_BYTES true) g.1 ∙ g.2 true (unread ++ b) ∙ ap (λ (ls : List TextLine). done ++ ls) (lines-OpenLine LINE_BYTES (unread ++ b) bytes (unread' ++ a) n.1) in
     let nothing : a ≡ [] = none_after unread' a n.1.3 in
-    subst (λ (e : Bool). GoesOn e start unread' a (done ++ read_line line_limit e bytes ∷ [])) (sym n.0) (nothing, all)
+    subst (λ (e : Bool). GoesOn e start unread' a (done ++ read_line LINE_BYTES e bytes ∷ [])) (sym n.0) (nothing, all)
   where
     none_after : (x y : List ℕ) → x ++ y ≡ [] → y ≡ []
     none_after [] y e = e
@@ -68,9 +71,16 @@ goes_on_told None (Some b) after unread unread' line ended done g n = absurd g
 goes_on_told (Some s) None after unread unread' line ended done g n = absurd g
 goes_on_told (Some s) (Some b) None unread unread' line ended done g n = absurd n
 
-texts-push : (ps : List Exchange) (p : Exchange) → texts (ps ++ p ∷ []) ≡ texts ps ++ reply_text p.1
-texts-push ps p =
-    flat_map-append (λ (q : Exchange). reply_text q.1) ps (p ∷ []) ∙ ap (λ (x : List ℕ). texts ps ++ x) (append-nil (reply_text p.1))
+texts-push : (s : Attributes) (ps : List Exchange) (p : Exchange) → texts s (ps ++ p ∷ []) ≡ texts s ps ++ reply_text s p.1
+texts-push s ps p =
+    flat_map-append (λ (q : Exchange). reply_text s q.1) ps (p ∷ []) ∙ ap (λ (x : List ℕ). texts s ps ++ x) (append-nil (reply_text s p.1))
+
+-- the texts of the replies, and of one more that fits the list
+texts_with : (s : Attributes) (ps : List Exchange) (h after : List Entry) (r : Request) (q : Reply) → Replies h r q after
+    → texts s (ps ++ (r, q) ∷ []) ≡ texts s ps ++ with_lf (last_line q)
+texts_with s ps h after r q f =
+    let alone : reply_text s q ≡ with_lf (last_line q) = rw (one_line s h after r q f) (append-nil (with_lf (last_line q))) in
+    texts-push s ps (r, q) ∙ ap (λ (x : List ℕ). texts s ps ++ x) alone
 
 requests-push : (s : Attributes) (ps : List Exchange) (done : List TextLine) (line : TextLine) (reply : Reply) → requests ps ≡ map (reading s) done
     → requests (ps ++ (reading s line, reply) ∷ []) ≡ map (reading s) (done ++ line ∷ [])
@@ -86,7 +96,7 @@ rises-along a b c t u v p q e = omega arith
 
 -- what one more answered line leads to, but for what its write took
 record AnsweredOne (s : Attributes) (source : SourceState) (sink : SinkState) (before after : TurnState) (g : IsServing s source sink before) (line : TextLine) (reply : Reply) : Type 0 where
-  pub stepped : Stepped g.ps (reading s line) reply after.list
+  pub stepped : Stepped s g.ps (reading s line) reply after.list
   pub asked : requests (g.ps ++ (reading s line, reply) ∷ []) ≡ map (reading s) (g.done ++ line ∷ [])
   pub lines_read : WhereTold source.left after.source.left (λ b a. GoesOn after.reader.ended b after.reader.unread a (g.done ++ line ∷ []))
 
@@ -96,7 +106,7 @@ answered_one s source sink before after g line reply took f =
     let going : WhereTold source.left before.source.left (λ b a. GoesOn false b before.reader.unread a g.done) =
     subst (λ (e : Bool). WhereTold source.left before.source.left (λ b a. GoesOn e b before.reader.unread a g.done)) took.going g.lines_read in
     record {
-      stepped = tie_step g.ps g.walk before.list after.list (reading s line) reply g.ties f;
+      stepped = tie_step s g.ps g.walk before.list after.list (reading s line) reply g.ties f;
       asked = requests-push s g.ps g.done line reply g.asked;
       lines_read = goes_on_told source.left before.source.left after.source.left before.reader.unread after.reader.unread line after.reader.ended g.done going took.next;
     }
@@ -110,7 +120,7 @@ serves_on s source sink before after g l t =
     let reply : Reply = l.2.1.0 in
     let p : Exchange = (reading s line, reply) in
     let one = answered_one s source sink before after g line reply took l.2.1.1 in
-    let next = tie_next g.ps (reading s line) reply after.list l.2.0 one.stepped in
+    let next = tie_next s g.ps (reading s line) reply after.list l.2.0 one.stepped in
     record {
       ps = g.ps ++ p ∷ [];
       walk = next.0;
@@ -118,9 +128,10 @@ serves_on s source sink before after g l t =
       ties = next.1;
       asked = one.asked;
       no_quit = no_quit_push s g.done line g.no_quit l.2.0;
-      written = subst (λ (x : List ℕ). HoldsMore sink.held after.sink.held x) (sym (texts-push g.ps p))
-          (HoldsMore-append sink.held before.sink.held after.sink.held (texts g.ps) (reply_text reply) g.written l.2.1.2.0);
+      written = subst (λ (x : List ℕ). HoldsMore sink.held after.sink.held x) (sym (texts_with s g.ps before.list after.list (reading s line) reply l.2.1.1))
+          (HoldsMore-append sink.held before.sink.held after.sink.held (texts s g.ps) (with_lf (last_line reply)) g.written l.2.1.2.0);
       quiet = l.2.1.2.1 ∙ g.quiet;
+      unrefused = l.2.1.2.2 ∙ g.unrefused;
       sound = took.faults ∙ g.sound;
       taken = rises-along source.taken before.source.taken after.source.taken before.reader.taken t.0 after.reader.taken g.taken t.2 t.1;
       reads = took.reads;
@@ -136,7 +147,7 @@ answered_present : (s : Attributes) (source : SourceState) (sink : SinkState) (b
     → has_left 1 after.list ≡ false
 answered_present s source sink before after g line took goes reply fits =
     let one = answered_one s source sink before after g line reply took fits in
-    let next = tie_next g.ps (reading s line) reply after.list goes one.stepped in
+    let next = tie_next s g.ps (reading s line) reply after.list goes one.stepped in
     subst (λ (h : List Entry). has_left 1 h ≡ false) next.1.made_is next.1.alone.present
 
 -- nor has one that ended without a QUIT
@@ -154,29 +165,25 @@ each true asked answered e = ([], sym e ∙ sym (append-nil answered))
 each false asked answered e = e
 
 -- what was answered is a run over the list that it made
-are_run : (s : Attributes) (ps : List Exchange) (ls : List TextLine) → RanAlone 1 ps → Plain ps → TellsCounts 0 ps → requests ps ≡ map (reading s) ls → AreRun s ls ps
-are_run s ps ls ran plain counts e = record {
+are_run : (s : Attributes) (ps : List Exchange) (ls : List TextLine) → RanAlone s [] 1 ps → AreAlone [] ps → requests ps ≡ map (reading s) ls → AreRun s [] ls ps
+are_run s ps ls ran alone e = record {
   exchanges = record { session = ran.session; each = each ran.session.end.ended (map (reading s) ls) (requests ps) e };
   formed = ran.formed;
-  plain = plain;
-  counts = counts;
+  alone = alone;
 }
 
-left_along : (made_list now after : List Entry) → made_list ≡ now → Leaves false now after → Leaves false made_list after
-left_along made_list now after e l = subst (λ (h : List Entry). Leaves false h after) (sym e) l
+leaves_along : (quits : Bool) (made_list now after : List Entry) → made_list ≡ now → Leaves quits now after → Leaves quits made_list after
+leaves_along quits made_list now after e l = subst (λ (h : List Entry). Leaves quits h after) (sym e) l
 
 -- the lines that were answered, where the session goes on
-whole_transcript : (s : Attributes) (source : SourceState) (sink : SinkState) (now : TurnState) (after : SinkState) (h : List Entry) (g : IsServing s source sink now) → after ≡ now.sink
-    → Leaves false now.list h → Gave sink after (RanWhole s g.done false h)
-whole_transcript s source sink now after h g same l = record {
-  transcript = texts g.ps;
-  held = subst (λ (x : SinkState). HoldsMore sink.held x.held (texts g.ps)) (sym same) g.written;
-  is_it = record {
-    ps = g.ps;
-    transcript = record { run = are_run s g.ps g.done (alone_ran 1 g.ps g.walk g.ties.alone) g.ties.plain g.ties.counts g.asked; is_text = refl };
-    last_line = g.no_quit;
-    list = left_along (made 1 g.ps) now.list h g.ties.made_is l;
-  };
+replied : (s : Attributes) (source : SourceState) (sink : SinkState) (now : TurnState) (after : SinkState) (h : List Entry) (g : IsServing s source sink now) → after ≡ now.sink
+    → Leaves false now.list h → Replied s g.done false sink after h
+replied s source sink now after h g same l = record {
+  exchanges = g.ps;
+  legal = are_run s g.ps g.done (alone_ran s [] 1 g.ps g.walk g.ties.alone) g.ties.replies g.asked;
+  written = subst (λ (x : SinkState). HoldsMore sink.held x.held (texts s g.ps)) (sym same) g.written;
+  last_line = g.no_quit;
+  leaves = leaves_along false (made [] 1 g.ps) now.list h g.ties.made_is l;
 }
 
 -- at the end all lines were answered
@@ -189,7 +196,7 @@ read_to_end (Some s) None after ended unread done g e = absurd g
 read_to_end (Some s) (Some b) None ended unread done g e = absurd e
 read_to_end (Some s) (Some b) (Some a) true unread done g e = (e ∙ g.0, sym g.1)
 read_to_end (Some s) (Some b) (Some a) false unread done g e =
-    (e.1, sym (ap (lines line_limit true) g.1 ∙ g.2 true (unread ++ b) ∙ ap (λ (x : List ℕ). done ++ lines line_limit true x) e.0 ∙ append-nil done))
+    (e.1, sym (ap (lines LINE_BYTES true) g.1 ∙ g.2 true (unread ++ b) ∙ ap (λ (x : List ℕ). done ++ lines LINE_BYTES true x) e.0 ∙ append-nil done))
 
 -- where the input broke off the whole lines were answered
 read_in_part : (start before after : Option (List ℕ)) (unread : List ℕ) (done : List TextLine)
@@ -202,7 +209,7 @@ read_in_part (Some s) (Some b) None unread done g e = absurd e
 read_in_part (Some s) (Some b) (Some a) unread done g e = (
   g.0 ++ e.0,
   g.1 ∙ ap (λ (x : List ℕ). g.0 ++ x) e.2 ∙ sym (append_assoc g.0 e.0 a),
-  sym (g.2 false e.0 ∙ ap (λ (ls : List TextLine). done ++ ls) (lines-begun line_limit e.0 e.1) ∙ append-nil done),
+  sym (g.2 false e.0 ∙ ap (λ (ls : List TextLine). done ++ ls) (lines-begun LINE_BYTES e.0 e.1) ∙ append-nil done),
 )
 
 -- the answered lines are the first ones of all, and no more was read than them and what the reader keeps
@@ -224,8 +231,8 @@ first_lines (Some s) (Some a) false unread done few g = record {
   ahead = unread;
   parts = g.1;
   few = few;
-  are_lines = sym (ap (lines line_limit true) (sym (append-nil g.0)) ∙ g.2 true [] ∙ append-nil done);
-  first = (lines line_limit true (unread ++ a), ap (lines line_limit true) g.1 ∙ g.2 true (unread ++ a));
+  are_lines = sym (ap (lines LINE_BYTES true) (sym (append-nil g.0)) ∙ g.2 true [] ∙ append-nil done);
+  first = (lines LINE_BYTES true (unread ++ a), ap (lines LINE_BYTES true) g.1 ∙ g.2 true (unread ++ a));
 }
 
 -- the request of the last line
@@ -234,181 +241,155 @@ quits_at_end s front line true none e = (front, line, refl, none, a_quit (readin
   where
     a_quit : (r : Request) → is_quit r ≡ true → r ≡ quit
     a_quit quit e = refl
-    a_quit (refused r) e = absurd cc
-    a_quit (subscribe name conj) e = absurd cc
-    a_quit (unsubscribe name) e = absurd cc
-    a_quit (publish x) e = absurd cc
-    a_quit listing e = absurd cc
+    a_quit _ e = absurd cc
 quits_at_end s front line false none e = no_quit_push s front line none e
 
 -- a QUIT, and its reply
-quit_transcript : (s : Attributes) (source : SourceState) (sink : SinkState) (before after : TurnState)
-    → IsServing s source sink before → AnswersLine s before after (AfterQuit ends.Quit)
-    → (ls : List TextLine) × ReadFirstLines source.left after.source.left ls × Gave sink after.sink (RanWhole s ls true after.list)
-quit_transcript s source sink before after g l =
+reached_quit : (s : Attributes) (source : SourceState) (sink : SinkState) (before after : TurnState)
+    → IsServing s source sink before → AnswersLine s before after (AfterQuit ends.Quit) → ReachedQuit s (link source sink) (link after.source after.sink) after.list
+reached_quit s source sink before after g l =
     let line : TextLine = l.0 in
     let took : TookLine before after line = l.1 in
     let reply : Reply = l.2.1.0 in
     let p : Exchange = (reading s line, reply) in
-    let one = answered_one s source sink before after g line reply took l.2.1.1 in (
-      g.done ++ line ∷ [],
-      first_lines source.left after.source.left after.reader.ended after.reader.unread (g.done ++ line ∷ []) took.buffered one.lines_read,
-      record {
-        transcript = texts (g.ps ++ p ∷ []);
-        held = subst (λ (x : List ℕ). HoldsMore sink.held after.sink.held x) (sym (texts-push g.ps p))
-            (HoldsMore-append sink.held before.sink.held after.sink.held (texts g.ps) (reply_text reply) g.written l.2.1.2.0);
-        is_it = record {
-          ps = g.ps ++ p ∷ [];
-          transcript = record { run = are_run s (g.ps ++ p ∷ []) (g.done ++ line ∷ []) one.stepped.ran one.stepped.plain one.stepped.counts one.asked; is_text = refl };
-          last_line = quits_at_end s g.done line true g.no_quit l.2.0;
-          list = sym one.stepped.made_is;
-        };
-      },
-    )
-
-leaves_along : (quits : Bool) (made_list now after : List Entry) → made_list ≡ now → Leaves quits now after → Leaves quits made_list after
-leaves_along quits made_list now after e l = subst (λ (h : List Entry). Leaves quits h after) (sym e) l
+    let done : List TextLine = g.done ++ line ∷ [] in
+    let one = answered_one s source sink before after g line reply took l.2.1.1 in
+    record {
+      lines = done;
+      read = first_lines source.left after.source.left after.reader.ended after.reader.unread done took.buffered one.lines_read;
+      reads = took.faults ∙ g.sound;
+      writes = record { faults = l.2.1.2.1 ∙ g.quiet; refusals = l.2.1.2.2 ∙ g.unrefused };
+      replied = record {
+        exchanges = g.ps ++ p ∷ [];
+        legal = are_run s (g.ps ++ p ∷ []) done one.stepped.walked.ran one.stepped.replies one.asked;
+        written = subst (λ (x : List ℕ). HoldsMore sink.held after.sink.held x) (sym (texts_with s g.ps before.list after.list (reading s line) reply l.2.1.1))
+            (HoldsMore-append sink.held before.sink.held after.sink.held (texts s g.ps) (with_lf (last_line reply)) g.written l.2.1.2.0);
+        last_line = quits_at_end s g.done line true g.no_quit l.2.0;
+        leaves = sym one.stepped.walked.made_is;
+      };
+    }
 
 -- a reply that was cut short
-cut_transcript : (s : Attributes) (source : SourceState) (sink : SinkState) (before after : TurnState) (h : List Entry) (quits : Bool) (fault : SinkFault)
+cut_short : (s : Attributes) (source : SourceState) (sink : SinkState) (before after : TurnState) (h : List Entry) (quits : Bool) (fault : SinkFault)
     → IsServing s source sink before → (line : TextLine) → TookLine before after line → is_quit (reading s line) ≡ quits
-    → (a : Answered before.list (reading s line) after.list before.sink after.sink (Err fault)) → TookPart before.sink after.sink (reply_text a.0)
-    → Leaves quits after.list h
-    → (ls : List TextLine) × ReadFirstLines source.left after.source.left ls × Gave sink after.sink (RanCut s ls quits h)
-cut_transcript s source sink before after h quits fault g line took is a part l =
+    → (a : Answered before.list (reading s line) after.list before.sink after.sink (Err fault)) → TookPart before.sink after.sink (with_lf (last_line a.0))
+    → Leaves quits after.list h → CutShort s (link source sink) (link after.source after.sink) h
+cut_short s source sink before after h quits fault g line took is a part l =
     let reply : Reply = a.0 in
     let p : Exchange = (reading s line, reply) in
-    let text : List ℕ = reply_text reply in
+    let text : List ℕ = with_lf (last_line reply) in
     let one = answered_one s source sink before after g line reply took a.1 in
     let done : List TextLine = g.done ++ line ∷ [] in
     let missing : 0 < length (drop part.0 text) = omega (arith, length-drop part.0 text, part.1) in
-    let split : texts (g.ps ++ p ∷ []) ≡ (texts g.ps ++ take part.0 text) ++ drop part.0 text =
-    texts-push g.ps p ∙ ap (λ (x : List ℕ). texts g.ps ++ x) (sym (take-append-drop part.0 text)) ∙ sym (append_assoc (texts g.ps) (take part.0 text) (drop part.0 text)) in (
-      done,
-      first_lines source.left after.source.left after.reader.ended after.reader.unread done took.buffered one.lines_read,
-      record {
-        transcript = texts g.ps ++ take part.0 text;
-        held = HoldsMore-append sink.held before.sink.held after.sink.held (texts g.ps) (take part.0 text) g.written part.2;
-        is_it = record {
-          ps = g.ps;
-          last = p;
-          transcript = record {
-            run = are_run s (g.ps ++ p ∷ []) done one.stepped.ran one.stepped.plain one.stepped.counts one.asked;
-            missing = drop part.0 text;
-            some = missing;
-            is_text = split;
-            whole = (take part.0 text, refl);
-          };
-          last_line = quits_at_end s g.done line quits g.no_quit is;
-          list = leaves_along quits (made 1 (g.ps ++ p ∷ [])) after.list h one.stepped.made_is l;
-        };
-      },
-    )
+    let split : texts s (g.ps ++ p ∷ []) ≡ (texts s g.ps ++ take part.0 text) ++ drop part.0 text =
+    texts_with s g.ps before.list after.list (reading s line) reply a.1 ∙ ap (λ (x : List ℕ). texts s g.ps ++ x) (sym (take-append-drop part.0 text))
+    ∙ sym (append_assoc (texts s g.ps) (take part.0 text) (drop part.0 text)) in
+    record {
+      lines = done;
+      quits = quits;
+      read = first_lines source.left after.source.left after.reader.ended after.reader.unread done took.buffered one.lines_read;
+      reads = took.faults ∙ g.sound;
+      replied = record {
+        exchanges = g.ps;
+        last = p;
+        legal = are_run s (g.ps ++ p ∷ []) done one.stepped.walked.ran one.stepped.replies one.asked;
+        out = texts s g.ps ++ take part.0 text;
+        written = HoldsMore-append sink.held before.sink.held after.sink.held (texts s g.ps) (take part.0 text) g.written part.2;
+        cut = record { missing = drop part.0 text; some = missing; is_text = split; whole = (take part.0 text, refl) };
+        last_line = quits_at_end s g.done line quits g.no_quit is;
+        leaves = leaves_along quits (made [] 1 (g.ps ++ p ∷ [])) after.list h one.stepped.walked.made_is l;
+      };
+    }
 
 -- what the reader took since the first line is what the source gave since
-within : (r r' a b c : ℕ) → RisesBy r a b → TakesAlike r r' b c → r' ≤ 1099511627776 → TakesWithin a c
+within : (r r' a b c : ℕ) → RisesBy r a b → TakesAlike r r' b c → r' ≤ SOURCE_BYTES → TakesWithin a c
 within r r' a b c p q bound = (r', bound, rises-along a b c r q.0 r' p q.2 q.1)
 
-spent : (a c r : ℕ) → RisesBy r a c → r ≡ 1099511627776 → HasRisenBy 1099511627776 a c
+spent : (a c r : ℕ) → RisesBy r a c → r ≡ SOURCE_BYTES → HasRisenBy SOURCE_BYTES a c
 spent a c r p e = omega arith
 
-cut_or_whole : (s : Attributes) (sink after : SinkState) (ls : List TextLine) (quits : Bool) (h : List Entry) → Gave sink after (RanCut s ls quits h)
-    → Gave sink after (λ out. RanWhole s ls false h out ⊎ RanCut s ls quits h out)
-cut_or_whole s sink after ls quits h c = record { transcript = c.transcript; held = c.held; is_it = inr c.is_it }
+-- no write failed before, and none was made since
+unwritten : (source : SourceState) (sink : SinkState) (before after : TurnState) {s : Attributes} → IsServing s source sink before → IsSilent before after
+    → NoWriteFailed (link source sink) (link after.source after.sink)
+unwritten source sink before after g silent = record {
+  faults = ap (λ (x : SinkState). x.faults) silent.sink ∙ g.quiet;
+  refusals = ap (λ (x : SinkState). x.refusals) silent.sink ∙ g.unrefused;
+}
 
--- the session has ended without a QUIT, and left
-over_to : (s : Attributes) (source : SourceState) (sink : SinkState) (before after : TurnState) (h : List Entry) (e : SessionEnd)
-    → IsServing s source sink before → Turned s before after (Over e) → RisesBy after.reader.taken source.taken after.source.taken → Leaves false after.list h
-    → ServedTo s source after.source sink after.sink h e
-over_to s source sink before after h ends.Eof g t k l = (
-  t.0.faults ∙ g.sound,
-  ap (λ (x : SinkState). x.faults) t.1.sink ∙ g.quiet,
-  g.done,
-  read_to_end source.left before.source.left after.source.left before.reader.ended before.reader.unread g.done g.lines_read t.0.next,
-  whole_transcript s source sink before after.sink h g t.1.sink (subst (λ (x : List Entry). Leaves false x h) t.1.list l),
-)
-over_to s source sink before after h ends.Quit g t k l = absurd t.2
-over_to s source sink before after h ends.ReadFault g t k l = (
-  subst (λ (n : ℕ). HasRisen n after.source.faults) g.sound t.2,
-  ap (λ (x : SinkState). x.faults) t.1.sink ∙ g.quiet,
-  g.done,
-  read_in_part source.left before.source.left after.source.left before.reader.unread g.done
-      (subst (λ (e : Bool). WhereTold source.left before.source.left (λ b a. GoesOn e b before.reader.unread a g.done)) t.0.going g.lines_read) t.0.next,
-  whole_transcript s source sink before after.sink h g t.1.sink (subst (λ (x : List Entry). Leaves false x h) t.1.list l),
-)
-over_to s source sink before after h ends.Spent g t k l = (
-  spent source.taken after.source.taken after.reader.taken k t.2,
-  t.3 ∙ g.sound,
-  ap (λ (x : SinkState). x.faults) t.1.sink ∙ g.quiet,
-  g.done,
-  read_in_part source.left before.source.left after.source.left before.reader.unread g.done
-      (subst (λ (e : Bool). WhereTold source.left before.source.left (λ b a. GoesOn e b before.reader.unread a g.done)) t.0.going g.lines_read) t.0.next,
-  whole_transcript s source sink before after.sink h g t.1.sink (subst (λ (x : List Entry). Leaves false x h) t.1.list l),
-)
-over_to s source sink before after h ends.WriteFault g t k l =
-    let a = t.2.1 in
-    let cut = cut_transcript s source sink before after h false Failed g t.0 t.1 t.2.0 a a.2.0 l in
-    (subst (λ (n : ℕ). HasRisen n after.sink.faults) g.quiet a.2.1, t.1.faults ∙ g.sound, cut.0, false, cut.1, cut.2)
-over_to s source sink before after h ends.NoMemory g t k l =
-    let a = t.2.1 in
-    let cut = cut_transcript s source sink before after h false NoMemory g t.0 t.1 t.2.0 a a.2.0 l in
-    (t.1.faults ∙ g.sound, a.2.1 ∙ g.quiet, cut.0, false, cut.1, cut_or_whole s sink after.sink cut.0 false h cut.2)
-
--- a QUIT was read
-quit_to : (s : Attributes) (source : SourceState) (sink : SinkState) (before after : TurnState) (e : SessionEnd)
-    → IsServing s source sink before → Turned s before after (AfterQuit e) → ServedTo s source after.source sink after.sink after.list e
-quit_to s source sink before after ends.Quit g t =
-    let whole = quit_transcript s source sink before after g t in
-    (t.1.faults ∙ g.sound, t.2.1.2.1 ∙ g.quiet, whole.0, whole.1, whole.2)
-quit_to s source sink before after ends.WriteFault g t =
-    let a = t.2.1 in
-    let cut = cut_transcript s source sink before after after.list true Failed g t.0 t.1 t.2.0 a a.2.0 refl in
-    (subst (λ (n : ℕ). HasRisen n after.sink.faults) g.quiet a.2.1, t.1.faults ∙ g.sound, cut.0, true, cut.1, cut.2)
-quit_to s source sink before after ends.NoMemory g t =
-    let a = t.2.1 in
-    let cut = cut_transcript s source sink before after after.list true NoMemory g t.0 t.1 t.2.0 a a.2.0 refl in
-    (t.1.faults ∙ g.sound, a.2.1 ∙ g.quiet, cut.0, true, cut.1, cut_or_whole s sink after.sink cut.0 true after.list cut.2)
-quit_to s source sink before after ends.Eof g t = absurd t.2
-quit_to s source sink before after ends.ReadFault g t = absurd t.2
-quit_to s source sink before after ends.Spent g t = absurd t.2
+-- the input broke off
+broke_off : (s : Attributes) (source : SourceState) (sink : SinkState) (before after : TurnState) (h : List Entry) → IsServing s source sink before
+    → TookBreak before after → IsSilent before after → Leaves false after.list h → BrokeOff s (link source sink) (link after.source after.sink) h
+broke_off s source sink before after h g t silent l = record {
+  lines = g.done;
+  read = read_in_part source.left before.source.left after.source.left before.reader.unread g.done
+      (subst (λ (e : Bool). WhereTold source.left before.source.left (λ b a. GoesOn e b before.reader.unread a g.done)) t.going g.lines_read) t.next;
+  writes = unwritten source sink before after g silent;
+  replied = replied s source sink before after.sink h g silent.sink (subst (λ (x : List Entry). Leaves false x h) silent.list l);
+}
 
 -- the turn that ended the session without a QUIT, after which it left
-pub served : (s : Attributes) (source : SourceState) (sink : SinkState) (before after : TurnState) (h : List Entry) (e : SessionEnd)
-    → IsServing s source sink before → Turned s before after (Over e)
-    → TakesAlike before.reader.taken after.reader.taken before.source.taken after.source.taken → after.reader.taken ≤ 1099511627776
-    → Leaves false after.list h → Served s source after.source sink after.sink h e
-served s source sink before after h e g t k bound l = record {
-  within = within before.reader.taken after.reader.taken source.taken before.source.taken after.source.taken g.taken k bound;
-  ended = over_to s source sink before after h e g t
-      (rises-along source.taken before.source.taken after.source.taken before.reader.taken k.0 after.reader.taken g.taken k.2 k.1) l;
+pub ended_over : (Untouched : Type 0) (s : Attributes) (source : SourceState) (sink : SinkState) (before after : TurnState) (h : List Entry) (e : SessionEnd)
+    → IsServing s source sink before → Turned s before after (Over e) → TakesAlike before.reader.taken after.reader.taken before.source.taken after.source.taken
+    → Leaves false after.list h → SessionEnds Untouched s (link source sink) (link after.source after.sink) h e
+ended_over U s source sink before after h ends.Eof g t k l = record {
+  lines = g.done;
+  read = read_to_end source.left before.source.left after.source.left before.reader.ended before.reader.unread g.done g.lines_read t.0.next;
+  reads = t.0.faults ∙ g.sound;
+  writes = unwritten source sink before after g t.1;
+  replied = replied s source sink before after.sink h g t.1.sink (subst (λ (x : List Entry). Leaves false x h) t.1.list l);
 }
+ended_over U s source sink before after h ends.Quit g t k l = absurd t.2
+ended_over U s source sink before after h ends.ReadFault g t k l =
+    (subst (λ (n : ℕ). HasRisen n after.source.faults) g.sound t.2, broke_off s source sink before after h g t.0 t.1 l)
+ended_over U s source sink before after h ends.Spent g t k l = (
+  spent source.taken after.source.taken after.reader.taken
+      (rises-along source.taken before.source.taken after.source.taken before.reader.taken k.0 after.reader.taken g.taken k.2 k.1) t.2,
+  t.3 ∙ g.sound,
+  broke_off s source sink before after h g t.0 t.1 l,
+)
+ended_over U s source sink before after h ends.WriteFault g t k l =
+    let a = t.2.1 in
+    (subst (λ (n : ℕ). HasRisen n after.sink.faults) g.quiet a.2.1, cut_short s source sink before after h false Failed g t.0 t.1 t.2.0 a a.2.0 l)
+ended_over U s source sink before after h ends.NoMemory g t k l =
+    let a = t.2.1 in inr (subst (λ (n : ℕ). HasRisen n after.sink.refusals) g.unrefused a.2.1, cut_short s source sink before after h false NoMemory g t.0 t.1 t.2.0 a a.2.0 l)
 
 -- the turn that read a QUIT
-pub served_quit : (s : Attributes) (source : SourceState) (sink : SinkState) (before after : TurnState) (e : SessionEnd)
-    → IsServing s source sink before → Turned s before after (AfterQuit e)
-    → TakesAlike before.reader.taken after.reader.taken before.source.taken after.source.taken → after.reader.taken ≤ 1099511627776
-    → Served s source after.source sink after.sink after.list e
-served_quit s source sink before after e g t k bound = record {
-  within = within before.reader.taken after.reader.taken source.taken before.source.taken after.source.taken g.taken k bound;
-  ended = quit_to s source sink before after e g t;
-}
+pub ended_quit : (Untouched : Type 0) (s : Attributes) (source : SourceState) (sink : SinkState) (before after : TurnState) (e : SessionEnd)
+    → IsServing s source sink before → Turned s before after (AfterQuit e) → SessionEnds Untouched s (link source sink) (link after.source after.sink) after.list e
+ended_quit U s source sink before after ends.Quit g t = reached_quit s source sink before after g t
+ended_quit U s source sink before after ends.WriteFault g t =
+    let a = t.2.1 in
+    (subst (λ (n : ℕ). HasRisen n after.sink.faults) g.quiet a.2.1, cut_short s source sink before after after.list true Failed g t.0 t.1 t.2.0 a a.2.0 refl)
+ended_quit U s source sink before after ends.NoMemory g t =
+    let a = t.2.1 in inr (subst (λ (n : ℕ). HasRisen n after.sink.refusals) g.unrefused a.2.1, cut_short s source sink before after after.list true NoMemory g t.0 t.1 t.2.0 a a.2.0 refl)
+ended_quit U s source sink before after ends.Eof g t = absurd t.2
+ended_quit U s source sink before after ends.ReadFault g t = absurd t.2
+ended_quit U s source sink before after ends.Spent g t = absurd t.2
+
+-- the source gave what the reader took
+pub taken_within : (s : Attributes) (source : SourceState) (sink : SinkState) (before after : TurnState) → IsServing s source sink before
+    → TakesAlike before.reader.taken after.reader.taken before.source.taken after.source.taken → after.reader.taken ≤ SOURCE_BYTES → TakesWithin source.taken after.source.taken
+taken_within s source sink before after g k bound = within before.reader.taken after.reader.taken source.taken before.source.taken after.source.taken g.taken k bound
 
 -- a session that has answered no line yet
 pub serves_first : (s : Attributes) (source : SourceState) (sink : SinkState) (r : ReaderState) (h : List Entry)
-    → IsNew r h → IsServing s source sink (record { reader = r; source = source; sink = sink; list = h })
-serves_first s source sink r h new = record {
+    → r ≡ new_reader → h ≡ [] → IsServing s source sink (record { reader = r; source = source; sink = sink; list = h })
+serves_first s source sink r h new none = record {
   ps = [];
-  walk = beginning;
+  walk = beginning_at 0;
   done = [];
-  ties = subst (Ties [] beginning) (sym new.none) tie_beginning;
+  ties = subst (Ties s [] (beginning_at 0)) (sym none) (tie_beginning s);
   asked = refl;
   no_quit = refl;
   written = HoldsMore-nil sink.held;
   quiet = refl;
+  unrefused = refl;
   sound = refl;
-  taken = rises_none r.taken source.taken new.taken;
-  reads = new.reads;
-  lines_read = subst (λ (e : Bool). WhereTold source.left source.left (λ b a. GoesOn e b r.unread a [])) (sym new.going) (at_first source.left r.unread new.unread);
+  taken = rises_none r.taken source.taken (ap (λ (x : ReaderState). x.taken) new);
+  reads = subst IsReading (sym new) (record { limit = refl; sound = refl });
+  lines_read =
+      subst (λ (e : Bool). WhereTold source.left source.left (λ b a. GoesOn e b r.unread a [])) (sym (ap (λ (x : ReaderState). x.ended) new))
+      (at_first source.left r.unread (ap (λ (x : ReaderState). x.unread) new));
 }
   where
     rises_none : (t n : ℕ) → t ≡ 0 → RisesBy t n n

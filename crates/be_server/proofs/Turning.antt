@@ -1,6 +1,7 @@
 -- What a call of the reader of lines means for a turn.
 use Rattle.std.proofs.Common.{◌≡◌, ℕ, ◌+◌, ◌<◌, ◌≤◌, Bool, true, false, List, ◌++◌, length, Option, Some, None, Result, Ok, Err, refl, sym, ap, ◌∙◌, subst, arith, nat_lt}
 use Rattle.std.proofs.lemmas.Bool.Decides.{nat_tests}
+use Rattle.be_base.specs.declared.limits.TheConstants.{LINE_BYTES}
 use Rattle.be_io.specs.Told.{WhereTold}
 use Rattle.be_io.specs.Lines.{TextLine, text, long, read_line}
 use Rattle.be_io.specs.Reader.{GivesLine, FitsLine, text_of}
@@ -9,19 +10,18 @@ use Rattle.be_io.specs.declared.lines.Line.TheVariants.{Text, Long, End}
 use Rattle.be_io.specs.declared.faults.SinkFault.{SinkFault}
 use Rattle.be_io.specs.declared.faults.SinkFault.TheVariants.{Failed, NoMemory}
 use Rattle.be_change.specs.History.{Entry}
-use Rattle.be_change.specs.Requests.{Request, refused, subscribe, unsubscribe, publish, listing, quit, Reply, no_memory}
+use Rattle.be_change.specs.Requests.{Request, refused, subscribe, unsubscribe, publish, costing, listing, sending, fetching, dumping, tailing, quit, Reply, no_memory}
 use Rattle.be_model.specs.Schemas.{Attributes}
 use Rattle.be_transcript.specs.Readings.{reading}
-use Rattle.be_transcript.specs.Replies.{reply_text}
-use Rattle.be_transcript.specs.Transcript.{line_limit, is_quit}
-use Rattle.be_server.specs.Asked.{TakesMemory}
+use Rattle.be_transcript.specs.Replies.{last_line, with_lf}
+use Rattle.be_transcript.specs.Runs.{is_quit}
+use Rattle.be_server.specs.Requests.{TakesMemory}
 use Rattle.be_server.specs.declared.session.SessionEnd.TheVariants as ends
 use Rattle.be_server.specs.declared.session.Turn.{Turn}
 use Rattle.be_server.specs.declared.session.Turn.TheVariants.{Next, Over, AfterQuit}
-use Rattle.be_server.specs.Ends.{turn_after, turn_after_quit}
-use Rattle.be_server.specs.Given.{Replies}
-use Rattle.be_server.specs.Turns.{TurnState, IsReading, IsFirstLine, TookLine, Answered, TurnsAfter, Turned}
-use Rattle.be_server.specs.Wrote.{SinkState, Wrote}
+use Rattle.be_server.specs.Subscriptions.{Replies}
+use Rattle.be_server.specs.Session.{turn_after, turn_after_quit, TurnState, IsReading, IsFirstLine, TookLine, Answered, TurnsAfter, Turned}
+use Rattle.be_io.specs.Sink.{SinkState, Wrote}
 
 told_along : (before after : Option (List ℕ)) (P Q : List ℕ → List ℕ → Type 0) → ((b a : List ℕ) → P b a → Q b a) → WhereTold before after P → WhereTold before after Q
 told_along None None P Q f t = tt
@@ -29,11 +29,11 @@ told_along (Some b) (Some a) P Q f t = f b a t
 told_along None (Some a) P Q f t = t
 told_along (Some b) None P Q f t = t
 
-short_line : (ended : Bool) (bytes : List ℕ) → length bytes ≤ 65536 → text (text_of ended bytes) ≡ read_line line_limit ended bytes
+short_line : (ended : Bool) (bytes : List ℕ) → length bytes ≤ 65536 → text (text_of ended bytes) ≡ read_line LINE_BYTES ended bytes
 short_line true bytes few = let no : nat_lt 65536 (length bytes) ≡ false = grind (arith, nat_tests) in rw no refl
 short_line false bytes few = let no : nat_lt 65536 (length bytes) ≡ false = grind (arith, nat_tests) in rw no refl
 
-long_line : (ended : Bool) (bytes : List ℕ) (len : ℕ) → length bytes ≡ len → 65536 < len → long len ≡ read_line line_limit ended bytes
+long_line : (ended : Bool) (bytes : List ℕ) (len : ℕ) → length bytes ≡ len → 65536 < len → long len ≡ read_line LINE_BYTES ended bytes
 long_line true bytes len same many =
     let yes : nat_lt 65536 (length bytes) ≡ true = grind (arith, nat_tests) in rw (yes, same) refl
 long_line false bytes len same many =
@@ -92,19 +92,16 @@ turns_after_quit h after before held (Err NoMemory) a = (refl, a)
 
 -- a request other than QUIT was given this reply
 pub said : (h after : List Entry) (r : Request) (q : Reply) (before held : SinkState) (result : Result (Unit {0}) SinkFault) (turn : Turn) → is_quit r ≡ false
-    → Replies h r q after → Wrote before held (reply_text q) result → turn ≡ turn_after result → TurnsAfter h r after before held turn
+    → Replies h r q after → Wrote before held (with_lf (last_line q)) result → turn ≡ turn_after result → TurnsAfter h r after before held turn
 said h after r q before held result turn goes fits wrote is =
     subst (λ (t : Turn). TurnsAfter h r after before held t) (sym is) (turns_after h after r before held result goes (q, fits, wrote))
 
 -- memory was wanting to read a request
 pub wanted_memory : (h : List Entry) (r : Request) (before held : SinkState) (result : Result (Unit {0}) SinkFault) (turn : Turn) → TakesMemory r
-    → Wrote before held (reply_text no_memory) result → turn ≡ turn_after result → TurnsAfter h r h before held turn
+    → Wrote before held (with_lf (last_line no_memory)) result → turn ≡ turn_after result → TurnsAfter h r h before held turn
 wanted_memory h (subscribe name conj) before held result turn takes wrote is = said h h (subscribe name conj) no_memory before held result turn refl refl wrote is
 wanted_memory h (publish e) before held result turn takes wrote is = said h h (publish e) no_memory before held result turn refl refl wrote is
-wanted_memory h (refused r) before held result turn takes wrote is = absurd takes
-wanted_memory h (unsubscribe name) before held result turn takes wrote is = absurd takes
-wanted_memory h listing before held result turn takes wrote is = absurd takes
-wanted_memory h quit before held result turn takes wrote is = absurd takes
+wanted_memory h _ before held result turn takes wrote is = absurd takes
 
 -- an answered line ends the session or not
 pub turned_line : (s : Attributes) (before after : TurnState) (line : TextLine) (turn : Turn) → TookLine before after line

@@ -1,9 +1,12 @@
 //! The one call that the program makes.
 
-ghost use Rattle.std.specs.Prelude.{◌≡◌, ◌↔◌, map, string_bytes, None};
-ghost use Rattle.be_server.specs.Words.{command_of, files};
-ghost use Rattle.be_server.specs.Outcome.{AsksFor};
-ghost use Rattle.be_server.specs.Entry.{Ends, EndsExactly};
+ghost use Rattle.std.specs.Prelude.{◌≡◌, ◌↔◌, None};
+ghost use Rattle.be_server.specs.Exact.{EndsExactly};
+ghost use Rattle.be_server.specs.Files.{AsksFor};
+ghost use Rattle.be_io.specs.Counts.{HasRisen};
+ghost use Rattle.be_io.specs.Outside.{source_state, sink_state};
+ghost use Rattle.be_server.specs.Promise.{link, command_state, Ends, TakesWithin};
+ghost use Rattle.be_server.specs.Words.{command_of, words_of, files};
 
 use crate::run::run;
 use crate::status::Status;
@@ -35,34 +38,34 @@ where
     L: Link + Send,
     D: Door<L> + Sync,
     G: Gate + Sync,
-    // How the command ends: each status with its cause and with what it leaves.
-    ensures ends { Ends (command_of (map (λ word. string_bytes word) words.now))
-        ((input.new ≡ input.old) × (out.new ≡ out.old)) (F.content shelf.old)
-        (record {
-          shelf = F.read_faults shelf.old;
-          shelf' = F.read_faults shelf.new;
-          source = record { left = S.left input.old; faults = S.read_faults input.old; taken = S.taken input.old };
-          source' = record { left = S.left input.new; faults = S.read_faults input.new; taken = S.taken input.new };
-          sink = record { held = K.held out.old; faults = K.write_faults out.old };
-          sink' = record { held = K.held out.new; faults = K.write_faults out.new };
-        }) result }
+    // How the command ends: each status with its cause, and with what was read and written.
+    ensures ends { Ends (command_of (words_of words.now)) ((input.new ≡ input.old) × (out.new ≡ out.old)) (F.content shelf.old)
+        (command_state (F.read_faults shelf.old)
+        (link (source_state S.Source input.old) (sink_state K.Sink out.old)))
+        (command_state (F.read_faults shelf.new)
+        (link (source_state S.Source input.new) (sink_state K.Sink out.new)))
+        result }
 
     // A faulty schema and a file over the limit are named. Where nothing is wrong, all is done.
-    ensures exact { EndsExactly (command_of (map (λ word. string_bytes word) words.now)) (F.content shelf.old)
-        (record {
-          shelf = F.read_faults shelf.old;
-          shelf' = F.read_faults shelf.new;
-          source = record { left = S.left input.old; faults = S.read_faults input.old; taken = S.taken input.old };
-          source' = record { left = S.left input.new; faults = S.read_faults input.new; taken = S.taken input.new };
-          sink = record { held = K.held out.old; faults = K.write_faults out.old };
-          sink' = record { held = K.held out.new; faults = K.write_faults out.new };
-        }) result }
+    ensures exact { EndsExactly (command_of (words_of words.now)) (F.content shelf.old)
+        (command_state (F.read_faults shelf.old)
+        (link (source_state S.Source input.old) (sink_state K.Sink out.old)))
+        (command_state (F.read_faults shelf.new)
+        (link (source_state S.Source input.new) (sink_state K.Sink out.new)))
+        result }
 
     // The words are refused exactly where they have no reading.
-    ensures words { (result ≡ Status.Words) ↔ (command_of (map (λ word. string_bytes word) words.now) ≡ None) }
+    ensures words { (result ≡ Status.Words) ↔ (command_of (words_of words.now) ≡ None) }
+
+    // Where memory was wanting, the session hadn't begun, or the output refused a write for want of it.
+    ensures memory { result ≡ Status.NoMemory → (HasRisen (K.refusals out.old) (K.refusals out.new) → ⊥)
+        → (input.new ≡ input.old) × (out.new ≡ out.old) }
+
+    // The input gives 2^40 bytes at most.
+    ensures within { TakesWithin (S.taken input.old) (S.taken input.new) }
 
     // The shelf is asked for the first ones of the files that the words name, and for nothing else.
-    ensures asked { AsksFor (files (map (λ word. string_bytes word) words.now)) (F.asked shelf.old) (F.asked shelf.new) }
+    ensures asked { AsksFor (files (words_of words.now)) (F.asked shelf.old) (F.asked shelf.new) }
     ensures door { door.new ≡ door.old }
 {
     let _ = door;

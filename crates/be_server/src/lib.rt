@@ -12,4 +12,6 @@ mod subscriptions;
 mod words;
 
 pub use entry::be_main;
+pub use session::{Session, SessionEnd};
 pub use status::{Rift, Shade, Status, Stray};
+pub use subscriptions::Subscriptions;

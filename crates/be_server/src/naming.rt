@@ -2,8 +2,8 @@
 
 ghost use Rattle.std.specs.Prelude.{◌≡◌, ◌++◌, ◌∷◌, [], length, codes, OnOk, IfOk};
 ghost use Rattle.be_change.specs.History.{live};
-ghost use Rattle.be_transcript.specs.Replies.{number, reply_text};
-ghost use Rattle.be_server.specs.Wanting.{is_wanted, names_wanted, naming, head_of};
+ghost use Rattle.be_transcript.specs.Replies.{number, last_line, with_lf};
+ghost use Rattle.be_server.specs.Naming.{is_wanted, names_wanted, naming, head_of};
 
 use crate::subscriptions::{SESSION, Subscriptions};
 use be_base::NoMemory;
@@ -44,8 +44,9 @@ impl Wanted<'_> {
 pub fn push_part(text: &mut Vec<u8>, part: &[u8]) -> Result<(), NoMemory>
     ensures { OnOk result (text.new.items ≡ text.old.items ++ 32 ∷ part.now) }
 {
-    text.push(b' ').map_err(|_| NoMemory)?;
-    text.extend_from_slice(part).map_err(|_| NoMemory)
+    text.extend_from_slice(b" ")?;
+    text.extend_from_slice(part)?;
+    Ok(())
 }
 
 fn push_number(text: &mut Vec<u8>, n: u64) -> Result<(), NoMemory>
@@ -76,7 +77,7 @@ impl Scratch {
         subscriptions: &Subscriptions,
         wanted: Wanted<'_>,
     ) -> Result<&[u8], NoMemory>
-        ensures { IfOk result (λ text. text.now ≡ reply_text (naming wanted.entry (length subscriptions.now) (names_wanted wanted.entry (live subscriptions.now)))) }
+        ensures { IfOk result (λ text. text.now ≡ with_lf (last_line (naming wanted.entry (length subscriptions.now) (names_wanted wanted.entry (live subscriptions.now))))) }
     {
         self.names.clear();
         self.reply.clear();
@@ -102,11 +103,10 @@ fn write_reply(
     requires { reply.old.items ≡ [] }
     ensures { OnOk result (reply.new.items ≡ (((head.now ++ number n) ++ number count) ++ names.now) ++ 10 ∷ []) }
 {
-    reply
-        .extend_from_slice(head.as_bytes())
-        .map_err(|_| NoMemory)?;
+    reply.extend_from_slice(head.as_bytes())?;
     push_number(reply, n)?;
     push_number(reply, count)?;
-    reply.extend_from_slice(names).map_err(|_| NoMemory)?;
-    reply.push(b'\n').map_err(|_| NoMemory)
+    reply.extend_from_slice(names)?;
+    reply.extend_from_slice(b"\n")?;
+    Ok(())
 }

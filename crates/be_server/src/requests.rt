@@ -3,10 +3,11 @@
 ghost use Rattle.std.specs.Prelude.{◌≡◌, Some};
 ghost use Rattle.be_base.specs.Tokens.{word, tokens, put_token};
 ghost use Rattle.be_io.specs.Lines as line;
-ghost use Rattle.be_transcript.specs.Readings.{reading, subscription, removal, publication, alone, expr_refusal, event_refusal};
+ghost use Rattle.be_change.specs.Requests as asked;
+ghost use Rattle.be_transcript.specs.Readings.{reading, subscription, removal, of_event, alone, expr_refusal, event_refusal};
 ghost use Rattle.be_expr.specs.Expressions.{IsKnown as IsKnownExpr};
 ghost use Rattle.be_event.specs.Events.{IsKnown as IsKnownEvent};
-ghost use Rattle.be_server.specs.Asked.{Reads, plain_request, Refuses};
+ghost use Rattle.be_server.specs.Requests.{Reads, plain_request, Refuses};
 
 use be_base::{AttrNo, Name, NoMemory, Scan, Token, next_token};
 use be_event::{EventFault, read_event};
@@ -114,7 +115,7 @@ fn read_subscription(alloc: Global, schema: &Schema, text: &[u8]) -> Result<Requ
 }
 
 fn read_publication(alloc: Global, schema: &Schema, text: &[u8]) -> Result<Request, NoMemory>
-    ensures { Reads result (publication schema.now (tokens text.now)) }
+    ensures { Reads result (of_event asked.publish schema.now (tokens text.now)) }
 {
     match read_event(alloc, schema, text) {
         Ok(event) => Ok(Request::Publish(event)),
@@ -152,6 +153,7 @@ fn of_event(schema: &Schema, fault: EventFault) -> Result<Refusal, NoMemory>
         EventFault::Twice { attr } => Ok(Refusal::Twice {
             name: schema.name(attr),
         }),
+        EventFault::Many { count } => Ok(Refusal::Many { count }),
         EventFault::NoMemory => Err(NoMemory),
     }
 }

@@ -1,9 +1,9 @@
 //! Replies of a word with numbers or a name, which take no memory.
 
 ghost use Rattle.std.specs.Prelude.{◌≡◌, ◌+◌, ◌≤◌, ◌++◌, [], length};
-ghost use Rattle.be_transcript.specs.Replies.{part, number, refusal_text, reply_text};
-ghost use Rattle.be_server.specs.Asked.{plain_refusal};
-ghost use Rattle.be_server.specs.Shorts.{plain_reply};
+ghost use Rattle.be_transcript.specs.Replies.{part, number, refusal_line, last_line, with_lf};
+ghost use Rattle.be_server.specs.Requests.{plain_refusal};
+ghost use Rattle.be_server.specs.Short.{plain_reply};
 
 use crate::requests::Refusal;
 use arrayvec::ArrayString;
@@ -24,7 +24,7 @@ pub enum Short {
 impl Short {
     /// The bytes of the reply, its LF included.
     pub fn text(self) -> ArrayString<96>
-        ensures { result.bytes ≡ reply_text (plain_reply self) }
+        ensures { result.bytes ≡ with_lf (last_line (plain_reply self)) }
     {
         let mut text = ArrayString::new();
         match self {
@@ -45,7 +45,7 @@ impl Short {
 
 fn push_refusal(text: &mut ArrayString<96>, refusal: Refusal)
     requires { text.old.bytes ≡ [] }
-    ensures exact { text.new.bytes ≡ refusal_text (plain_refusal refusal) }
+    ensures exact { text.new.bytes ≡ refusal_line (plain_refusal refusal) }
     ensures short { length text.new.bytes ≤ 72 }
 {
     match refusal {
@@ -76,6 +76,7 @@ fn push_named(text: &mut ArrayString<96>, word: &str, name: &Name)
     ensures exact { text.new.bytes ≡ word.now ++ part name.now }
     ensures short { length text.new.bytes ≤ 70 }
 {
+    // How long a name is comes to light at a call on it.
     let _form = name.bytes();
     push(text, word);
     push(text, " ");

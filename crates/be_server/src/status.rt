@@ -1,9 +1,10 @@
 //! How the program ends.
 
 ghost use Rattle.std.specs.Prelude.{◌≡◌, Some};
-ghost use Rattle.be_server.specs.Statuses.{code_of, status_text};
+ghost use Rattle.be_server.specs.Status.{code_of, status_text, status_of_shelf, status_of_schema};
 
-use be_event::SchemaKind;
+use be_event::{SchemaFault, SchemaKind};
+use be_io::ShelfFault;
 use std::fmt;
 
 /// Two numbers of a desk that should agree and don't. No part of the program makes one yet.
@@ -45,6 +46,29 @@ pub enum Status {
     Split(Rift),
     Stray(Stray),
     Shut(Shade),
+}
+
+impl From<ShelfFault> for Status {
+    ghost from_gives = { λ fault status. status ≡ status_of_shelf fault };
+
+    fn from(fault: ShelfFault) -> Status {
+        match fault {
+            ShelfFault::Failed => Status::ReadFault,
+            ShelfFault::Long => Status::LongFile,
+            ShelfFault::NoMemory => Status::NoMemory,
+        }
+    }
+}
+
+impl From<SchemaFault> for Status {
+    ghost from_gives = { λ fault status. status ≡ status_of_schema fault };
+
+    fn from(fault: SchemaFault) -> Status {
+        match fault {
+            SchemaFault::Line { line, kind } => Status::SchemaBad { line, kind },
+            SchemaFault::NoMemory => Status::NoMemory,
+        }
+    }
 }
 
 impl Status {

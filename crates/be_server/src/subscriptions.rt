@@ -7,15 +7,15 @@ ghost use Rattle.std.specs.Map.{remove_entry};
 ghost use Rattle.std.specs.Ordering.{nat_cmp};
 ghost use Rattle.indexmap.specs.IndexMap.{spare, Updates};
 ghost use Rattle.be_base.specs.Text.{same_text};
+ghost use Rattle.be_base.specs.declared.limits.TheConstants.{LOG_CHANGES};
 ghost use Rattle.be_transcript.specs.Replies.{names_text};
-ghost use Rattle.be_change.specs.Entries.{entry_of, live_in, most_entries, HasIdAt};
+ghost use Rattle.be_change.specs.Entries.{entry_of, live_in, HasIdAt};
 ghost use Rattle.be_change.specs.History.{live, has_left, subscribed};
-ghost use Rattle.be_change.specs.Made.{change_named};
+ghost use Rattle.be_change.specs.Made.{change_named, row_made};
 ghost use Rattle.be_change.specs.Requests as asked;
-ghost use Rattle.be_server.specs.Given.{Replies};
-ghost use Rattle.be_server.specs.Kept.{id_named, row_made};
-ghost use Rattle.be_server.specs.Shorts.{plain_reply};
-ghost use Rattle.be_server.specs.Wanting.{names_wanted};
+ghost use Rattle.be_server.specs.Subscriptions.{id_named, Replies};
+ghost use Rattle.be_server.specs.Short.{plain_reply};
+ghost use Rattle.be_server.specs.Naming.{names_wanted};
 
 use crate::naming::{Wanted, push_part};
 use crate::short::Short;
@@ -49,7 +49,7 @@ impl Model for Subscriptions {
     ghost use Rattle.be_base.specs.Text.{same_text};
     ghost use Rattle.be_change.specs.Entries.{live_in};
     ghost use Rattle.indexmap.specs.IndexMap.{get};
-    ghost use Rattle.be_server.specs.Kept.{IsKept};
+    ghost use Rattle.be_server.specs.Subscriptions.{IsKept};
 
     ghost view = { λ s. s.log.list };
 
@@ -68,10 +68,17 @@ impl Subscriptions {
         }
     }
 
+    /// The changes, in their order.
+    pub fn changes(&self) -> &ChangeLog
+        ensures { result.now.list ≡ self.now }
+    {
+        &self.log
+    }
+
     /// How many changes there are.
     pub fn len(&self) -> u64
         ensures len { result ≡ length self.now }
-        ensures few { result ≤ most_entries }
+        ensures few { result ≤ LOG_CHANGES }
     {
         self.log.len()
     }
@@ -102,7 +109,7 @@ impl Subscriptions {
     fn add(&mut self, alloc: Global, name: Name, conj: Conj) -> Result<(), NoMemory>
         requires going { has_left 1 self.old ≡ false }
         requires free { id_named name (live self.old) ≡ None }
-        ensures added { OnOk result (self.new ≡ self.old ++ change_named 1 (length self.old) (asked.subscribe name conj)) }
+        ensures added { OnOk result (self.new ≡ self.old ++ change_named 1 (length self.old) (length self.old) (asked.subscribe name conj)) }
         ensures refused { OnErr result (self.new ≡ self.old) }
     {
         let place = self.log.len();
@@ -135,7 +142,7 @@ impl Subscriptions {
     fn remove(&mut self, alloc: Global, name: Name, id: Id) -> Result<(), NoMemory>
         requires going { has_left 1 self.old ≡ false }
         requires there { id_named name (live self.old) ≡ Some id }
-        ensures removed { OnOk result (self.new ≡ self.old ++ change_named 1 (length self.old) (asked.unsubscribe name)) }
+        ensures removed { OnOk result (self.new ≡ self.old ++ change_named 1 (length self.old) (length self.old) (asked.unsubscribe name)) }
         ensures refused { OnErr result (self.new ≡ self.old) }
     {
         let removal = Change::Unsub {
@@ -165,7 +172,7 @@ impl Subscriptions {
 
     fn close(&mut self, alloc: Global) -> Result<(), NoMemory>
         requires going { has_left 1 self.old ≡ false }
-        ensures closed { OnOk result (self.new ≡ self.old ++ change_named 1 (length self.old) asked.quit) }
+        ensures closed { OnOk result (self.new ≡ self.old ++ change_named 1 (length self.old) (length self.old) asked.quit) }
         ensures refused { OnErr result (self.new ≡ self.old) }
     {
         let bye = Change::Bye {
@@ -205,7 +212,7 @@ fn new_row(alloc: Global, place: u64, name: Name, conj: Conj) -> Result<Arc<Row>
 fn subscription(alloc: Global, place: u64, row: &Arc<Row>) -> Result<Arc<Change>, NoMemory>
     ensures { IfOk result (λ change. entry_of (arc_value change) ≡ subscribed 1 place (arc_value row.now)) }
 {
-    let row = Arc::try_clone(row).map_err(|_| NoMemory)?;
+    let row = Arc::try_clone(row)?;
     let change = Change::Sub {
         session: SESSION,
         serial: place,
@@ -237,7 +244,8 @@ fn make_room(register: &mut IndexMap<Name, Id>) -> Result<(), NoMemory>
     ensures room { OnOk result (0 < spare register.new) }
     ensures same { register.new.entries ≡ register.old.entries }
 {
-    register.reserve(1).map_err(|_| NoMemory)
+    register.reserve(1)?;
+    Ok(())
 }
 
 // Puts a name into the register, for which there is room.
@@ -295,6 +303,7 @@ fn write_names(
     ensures count { IfOk result (λ n. n ≡ length (names_wanted wanted.entry (live_in rows.now.entries))) }
 {
     let mut count = 0;
+    // That the count fits comes to light at the length of the map.
     let _ = rows.len();
     for (_, row) in rows {
         if wanted.takes(row) {

@@ -1,8 +1,7 @@
 //! The words after the program's name.
 
-ghost use Rattle.std.specs.Prelude.{◌≡◌, string_bytes, map};
-ghost use Rattle.be_server.specs.Words.{command_of};
-ghost use Rattle.be_server.specs.Commands.{plain_command};
+ghost use Rattle.std.specs.Prelude.{◌≡◌};
+ghost use Rattle.be_server.specs.Words.{command_of, words_of, plain_command};
 
 /// What the words ask for.
 #[derive(Clone, Copy, Debug)]
@@ -13,7 +12,7 @@ pub enum Command<'a> {
 
 /// Reads the words. They are compared by hand while `run SCHEMA` is the one reading.
 pub fn read_words(words: &[String]) -> Option<Command<'_>>
-    ensures { plain_command result ≡ command_of (map (λ word. string_bytes word) words.now) }
+    ensures { plain_command result ≡ command_of (words_of words.now) }
 {
     match words {
         [command, schema] if command.as_str() == "run" => Some(Command::Run {

@@ -1,16 +1,20 @@
 -- Readings of lines and texts of replies, by computation.
-use Rattle.std.proofs.Common.{◌≡◌, [], ◌∷◌, pos, negsuc, true, false, refl, codes, arith}
+use Rattle.std.proofs.Common.{◌≡◌, ℕ, List, length, ap, length-append, [], ◌∷◌, pos, negsuc, true, false, refl, codes, arith}
 use Rattle.std.specs.Fmt.{digits}
 use Rattle.be_base.specs.Text.{is_word_byte}
+use Rattle.be_base.specs.Tokens.{tokens}
 use Rattle.be_io.specs.Lines.{text, long, lines}
 use Rattle.be_model.specs.declared.schemas.Domain.TheVariants.{Int}
-use Rattle.be_model.specs.declared.conditions.Op.TheVariants.{Ge, Ne, Between, OneOf}
+use Rattle.be_model.specs.declared.ops.Op.TheVariants.{Lt, Ge, Ne, Between, OneOf}
 use Rattle.be_model.specs.Schemas.{Attributes}
-use Rattle.be_change.specs.Requests.{refused, subscribe, unsubscribe, publish, listing, quit, bad, given_twice, too_many, refusal, ok, bye, dup, none, hit, listed, no_memory}
+use Rattle.be_change.specs.Requests.{refused, subscribe, unsubscribe, publish, costing, listing, fetching, tailing, quit, bad, given_twice, too_many, note, refusal, ok, bye, dup, none, hit, cost, listed, sent, notes, dumped, tailed, no_memory}
 use Rattle.be_change.specs.Requests as asked
-use Rattle.be_transcript.specs.Readings.{reading}
+use Rattle.be_change.specs.History.{subscribed, unsubscribed}
+use Rattle.be_change.specs.Made.{row_made}
+use Rattle.be_transcript.specs.Readings.{reading, of_event, fetch, tail}
 use Rattle.be_transcript.specs.Replies.{reply_text}
-use Rattle.be_transcript.specs.Transcript.{TellsCounts, HasNoQuit, EndsWithQuit}
+use Rattle.be_transcript.specs.Transcript.{IsCutText}
+use Rattle.be_transcript.specs.Runs.{TellsCounts, RemovalsMayWant, HasNoQuit, EndsWithQuit}
 
 abbrev example : Attributes
 example =
@@ -29,9 +33,21 @@ two_tokens : reading example (text (codes "SUB a price < = 10")) ≡ refused bad
 unfolding is_word_byte
 two_tokens = refl
 
-an_event : reading example (text (codes "PUB price=10")) ≡ publish ((record { 0 = 0 }, pos 10) ∷ [])
+an_event : reading example (text (codes "PUB price=10")) ≡ publish ((record { 0 = 0 }, pos 10 ∷ []) ∷ [])
 unfolding is_word_byte
 an_event = refl
+
+a_set_of_values : reading example (text (codes "PUB price={900, 100,900} qty=0")) ≡ publish ((record { 0 = 0 }, pos 100 ∷ pos 900 ∷ []) ∷ (record { 0 = 1 }, pos 0 ∷ []) ∷ [])
+unfolding is_word_byte
+a_set_of_values = refl
+
+an_empty_set : reading example (text (codes "PUB price={}")) ≡ refused bad
+unfolding is_word_byte
+an_empty_set = refl
+
+outside_in_a_set : reading example (text (codes "PUB price={1,1001}")) ≡ refused (asked.outside_domain (codes "price"))
+unfolding is_word_byte
+outside_in_a_set = refl
 
 outside_the_domain : reading example (text (codes "PUB price=1001")) ≡ refused (asked.outside_domain (codes "price"))
 unfolding is_word_byte
@@ -74,9 +90,51 @@ the_empty_event : reading example (text (codes "PUB -")) ≡ publish []
 unfolding is_word_byte
 the_empty_event = refl
 
-a_later_command : reading example (text (codes "COST price=1")) ≡ refused bad
+-- commands that aren't read yet
+a_later_cost : reading example (text (codes "COST price=1")) ≡ refused bad
 unfolding is_word_byte
-a_later_command = refl
+a_later_cost = refl
+
+a_later_send : reading example (text (codes "SEND -")) ≡ refused bad
+unfolding is_word_byte
+a_later_send = refl
+
+a_later_fetch : reading example (text (codes "FETCH 5")) ≡ refused bad
+unfolding is_word_byte
+a_later_fetch = refl
+
+a_later_dump : reading example (text (codes "DUMP")) ≡ refused bad
+unfolding is_word_byte
+a_later_dump = refl
+
+a_later_tail : reading example (text (codes "TAIL 0 5")) ≡ refused bad
+unfolding is_word_byte
+a_later_tail = refl
+
+-- what the words after them will ask for
+a_cost : of_event costing example (tokens (codes "price=1")) ≡ costing ((record { 0 = 0 }, pos 1 ∷ []) ∷ [])
+unfolding is_word_byte
+a_cost = refl
+
+some_letters : fetch (tokens (codes "1000000")) ≡ fetching 1000000
+unfolding is_word_byte
+some_letters = refl
+
+too_many_letters : fetch (tokens (codes "1000001")) ≡ refused bad
+unfolding is_word_byte
+too_many_letters = refl
+
+letters_of_two : fetch (tokens (codes "5 5")) ≡ refused bad
+unfolding is_word_byte
+letters_of_two = refl
+
+some_changes : tail (tokens (codes "007 5")) ≡ tailing 7 5
+unfolding is_word_byte
+some_changes = refl
+
+changes_without_a_number : tail (tokens (codes "7")) ≡ refused bad
+unfolding is_word_byte
+changes_without_a_number = refl
 
 lower_case : reading example (text (codes "pub price=1")) ≡ refused bad
 unfolding is_word_byte
@@ -88,42 +146,70 @@ empty_line = refl
 long_line : reading example (long 65537) ≡ refused asked.long
 long_line = refl
 
-accepted : reply_text (ok 1) ≡ codes "OK 1\n"
+accepted : reply_text example (ok 1) ≡ codes "OK 1\n"
 unfolding digits
 accepted = refl
 
-found : reply_text (hit 12 (codes "a" ∷ codes "b-c" ∷ [])) ≡ codes "HIT 12 2 a b-c\n"
+found : reply_text example (hit 12 (codes "a" ∷ codes "b-c" ∷ [])) ≡ codes "HIT 12 2 a b-c\n"
 unfolding digits
 found = refl
 
-found_none : reply_text (hit 1 []) ≡ codes "HIT 1 0\n"
+found_none : reply_text example (hit 1 []) ≡ codes "HIT 1 0\n"
 unfolding digits
 found_none = refl
 
-named_twice : reply_text (dup 3 2) ≡ codes "DUP 3 2\n"
+named_twice : reply_text example (dup 3 2) ≡ codes "DUP 3 2\n"
 unfolding digits
 named_twice = refl
 
-not_live : reply_text (none 7) ≡ codes "NONE 7\n"
+not_live : reply_text example (none 7) ≡ codes "NONE 7\n"
 unfolding digits
 not_live = refl
 
-its_names : reply_text (listed 2 (codes "a" ∷ codes "b" ∷ [])) ≡ codes "LIST 2 2 a b\n"
+its_names : reply_text example (listed 2 (codes "a" ∷ codes "b" ∷ [])) ≡ codes "LIST 2 2 a b\n"
 unfolding digits
 its_names = refl
 
-has_left : reply_text (bye 10) ≡ codes "BYE 10\n"
+has_left : reply_text example (bye 10) ≡ codes "BYE 10\n"
 unfolding digits
 has_left = refl
 
-many : reply_text (refusal (too_many 33)) ≡ codes "MANY 33\n"
+its_cost : reply_text example (cost 17 (record { visits = 12; tested = 17 })) ≡ codes "COST 17 12 17\n"
+unfolding digits
+its_cost = refl
+
+letters_sent : reply_text example (sent 3 1 1) ≡ codes "SENT 3 1 1\n"
+unfolding digits
+letters_sent = refl
+
+letters : reply_text example (notes (note 1 (codes "a") [] ∷ note 2 (codes "b") ((record { 0 = 0 }, pos 3 ∷ pos 5 ∷ []) ∷ []) ∷ [])) ≡ codes "NOTE 1 a -\nNOTE 2 b price={3,5}\nEND 2\n"
+unfolding digits
+letters = refl
+
+no_letters : reply_text example (notes []) ≡ codes "END 0\n"
+unfolding digits
+no_letters = refl
+
+all_rows : reply_text example (dumped 3 (row_made 0 0 (codes "a") [] ∷ row_made 1 2 (codes "b") (record { attr = record { 0 = 0 }; op = Lt (pos 5) } ∷ []) ∷ [])) ≡ codes "ROW a all\nROW b price < 5\n# DUMP 3 2\n"
+unfolding digits
+all_rows = refl
+
+the_last_changes : reply_text example (tailed 3 1 (subscribed 1 1 (row_made 1 1 (codes "b") (record { attr = record { 0 = 0 }; op = Lt (pos 5) } ∷ [])) ∷ unsubscribed 1 2 (codes "a") ∷ [])) ≡ codes "AT 1 SUB 1 1 b price < 5\nAT 2 UNSUB 1 2 a\nTAILED 3 2\n"
+unfolding digits
+the_last_changes = refl
+
+no_changes : reply_text example (tailed 3 9 []) ≡ codes "TAILED 3 0\n"
+unfolding digits
+no_changes = refl
+
+many : reply_text example (refusal (too_many 33)) ≡ codes "MANY 33\n"
 unfolding digits
 many = refl
 
-without_reading : reply_text (refusal bad) ≡ codes "BAD\n"
+without_reading : reply_text example (refusal bad) ≡ codes "BAD\n"
 without_reading = refl
 
-without_memory : reply_text no_memory ≡ codes "NOMEM\n"
+without_memory : reply_text example no_memory ≡ codes "NOMEM\n"
 without_memory = refl
 
 three_lines : lines 4 true (codes "ab\n\nabcde\nx") ≡ text (codes "ab") ∷ text [] ∷ long 5 ∷ text (codes "x") ∷ []
@@ -157,3 +243,18 @@ no_quit = refl
 a_quit_among_them : HasNoQuit example (text (codes "QUIT") ∷ text (codes "LIST") ∷ []) → ⊥
 unfolding is_word_byte
 a_quit_among_them free = absurd cc
+
+-- an UNSUB of a live name for which memory was wanting, and one of a name that isn't live
+wanted : RemovalsMayWant [] [] ((subscribe (codes "a") [], ok 1) ∷ (unsubscribe (codes "a"), no_memory) ∷ [])
+wanted = (tt, (refl, tt))
+
+wanted_for_nothing : RemovalsMayWant [] [] ((subscribe (codes "a") [], ok 1) ∷ (unsubscribe (codes "b"), no_memory) ∷ []) → ⊥
+wanted_for_nothing wants = absurd cc
+
+-- a text that is cut within its last reply, and one that isn't cut
+cut_within : IsCutText example ((quit, ok 1) ∷ []) (listing, listed 1 (codes "a" ∷ [])) (codes "OK 1\nLIST 1 ")
+unfolding digits
+cut_within = record { missing = codes "1 a\n"; some = omega arith; is_text = refl; whole = (codes "LIST 1 ", refl) }
+
+not_cut : IsCutText example [] (quit, no_memory) (codes "NOMEM\n") → ⊥
+not_cut c = omega (arith, ap (λ (x : List ℕ). length x) c.is_text, length-append (codes "NOMEM\n") c.missing, c.some)

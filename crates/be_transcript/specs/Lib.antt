@@ -1,3 +1,5 @@
 pub mod Readings
 pub mod Replies
 pub mod Transcript
+pub mod Runs
+pub mod LinesRead

@@ -1,14 +1,16 @@
 -- What a session's line asks for.
-use Rattle.std.specs.Prelude.{List, [], ◌∷◌, Option, Some, Result, Ok, Err, codes, if◌then◌else◌}
+use Rattle.std.specs.Prelude.{ℕ, ◌&&◌, Bool, true, false, List, [], ◌∷◌, Option, Some, None, Result, Ok, Err, codes, nat_le, if◌then◌else◌}
+use Rattle.be_base.specs.declared.limits.TheConstants.{ASKED}
+use Rattle.be_base.specs.Numbers.{count_of}
 use Rattle.be_base.specs.Text.{Text, same_text, name_of}
 use Rattle.be_base.specs.Tokens.{Lexeme, word, tokens}
 use Rattle.be_base.specs.declared.names.NameFault.{NameFault}
 use Rattle.be_io.specs.Lines as line
-use Rattle.be_model.specs.declared.conditions.Pred.{Pred}
+use Rattle.be_model.specs.declared.preds.Pred.{Pred}
 use Rattle.be_model.specs.Matching.{Assignments}
 use Rattle.be_model.specs.Schemas.{Attributes}
 use Rattle.be_model.specs.Texts.{name_at}
-use Rattle.be_change.specs.Requests.{Refusal, bad, long, unknown_attribute, outside_domain, given_twice, too_many, Request, refused, subscribe, unsubscribe, publish, listing, quit}
+use Rattle.be_change.specs.Requests.{Refusal, bad, long, unknown_attribute, outside_domain, given_twice, too_many, Request, refused, subscribe, unsubscribe, publish, costing, listing, sending, fetching, dumping, tailing, quit}
 use Rattle.be_expr.specs.declared.faults.ExprFault.{ExprFault}
 use Rattle.be_expr.specs.declared.faults.ExprFault.TheVariants as expr
 use Rattle.be_expr.specs.Expressions.{condition}
@@ -30,6 +32,7 @@ event_refusal s event.Bad = bad
 event_refusal s (event.Attr name) = unknown_attribute name
 event_refusal s (event.Dom a) = outside_domain (name_at s a)
 event_refusal s (event.Twice a) = given_twice (name_at s a)
+event_refusal s (event.Many count) = too_many count
 event_refusal s event.NoMemory = bad
 
 abbrev pub subscribing : Attributes → Result Text NameFault → Result (List Pred) ExprFault → Request
@@ -51,27 +54,77 @@ abbrev pub removal : Option (List Lexeme) → Request
 removal (Some (word name ∷ [])) = unsubscribing (name_of name)
 removal _ = refused bad
 
-abbrev pub publishing : Attributes → Result Assignments EventFault → Request
-publishing s (Ok e) = publish e
-publishing s (Err fault) = refused (event_refusal s fault)
+abbrev pub asking_of : (Assignments → Request) → Attributes → Result Assignments EventFault → Request
+asking_of ask s (Ok e) = ask e
+asking_of ask s (Err fault) = refused (event_refusal s fault)
 
 -- an event
-abbrev pub publication : Attributes → Option (List Lexeme) → Request
-publication s ts = publishing s (event_of s ts)
+abbrev pub of_event : (Assignments → Request) → Attributes → Option (List Lexeme) → Request
+of_event ask s ts = asking_of ask s (event_of s ts)
+
+-- a number of letters or changes that a line may ask for
+abbrev pub number_asked : Option ℕ → Option ℕ
+number_asked None = None
+number_asked (Some n) = if nat_le n ASKED then Some n else None
+
+abbrev pub fetching_at_most : Option ℕ → Request
+fetching_at_most (Some max) = fetching max
+fetching_at_most None = refused bad
+
+-- a number of letters alone
+abbrev pub fetch : Option (List Lexeme) → Request
+fetch (Some (word max ∷ [])) = fetching_at_most (number_asked (count_of max))
+fetch _ = refused bad
+
+abbrev pub tailing_at_most : Option ℕ → Option ℕ → Request
+tailing_at_most (Some place) (Some max) = tailing place max
+tailing_at_most _ _ = refused bad
+
+-- a place and a number of changes
+abbrev pub tail : Option (List Lexeme) → Request
+tail (Some (word place ∷ word max ∷ [])) = tailing_at_most (count_of place) (number_asked (count_of max))
+tail _ = refused bad
 
 -- the command alone
 abbrev pub alone : Request → Option (List Lexeme) → Request
 alone r (Some []) = r
 alone r _ = refused bad
 
--- what the words after a command ask for
+-- a command's first word, what the words after it ask for, and whether it is read yet
+pub record Command : Type 0 where
+  pub name : Text
+  pub asks : Attributes → Option (List Lexeme) → Request
+  pub built : Bool
+
+abbrev pub built : Text → (Attributes → Option (List Lexeme) → Request) → Command
+built name asks = record { name = name; asks = asks; built = true }
+
+abbrev pub unbuilt : Text → (Attributes → Option (List Lexeme) → Request) → Command
+unbuilt name asks = record { name = name; asks = asks; built = false }
+
+-- the commands of a session's lines
+abbrev pub commands : List Command
+commands =
+    built (codes "SUB") subscription
+    ∷ built (codes "UNSUB") (λ s. removal)
+    ∷ built (codes "PUB") (of_event publish)
+    ∷ unbuilt (codes "COST") (of_event costing)
+    ∷ built (codes "LIST") (λ s. alone listing)
+    ∷ unbuilt (codes "SEND") (of_event sending)
+    ∷ unbuilt (codes "FETCH") (λ s. fetch)
+    ∷ unbuilt (codes "DUMP") (λ s. alone dumping)
+    ∷ unbuilt (codes "TAIL") (λ s. tail)
+    ∷ built (codes "QUIT") (λ s. alone quit)
+    ∷ []
+
+-- what a command's words ask for. A command that isn't read yet is none
+abbrev pub commanded_by : List Command → Attributes → Text → Option (List Lexeme) → Request
+commanded_by [] s name ts = refused bad
+commanded_by (c ∷ cs) s name ts =
+    if c.built && same_text name c.name then c.asks s ts else commanded_by cs s name ts
+
 abbrev pub commanded : Attributes → Text → Option (List Lexeme) → Request
-commanded s command ts =
-    if same_text command (codes "SUB") then subscription s ts else
-    (if same_text command (codes "UNSUB") then removal ts else
-    (if same_text command (codes "PUB") then publication s ts else
-    (if same_text command (codes "LIST") then alone listing ts else
-    (if same_text command (codes "QUIT") then alone quit ts else refused bad))))
+commanded s name ts = commanded_by commands s name ts
 
 abbrev pub request_of : Attributes → Option (List Lexeme) → Request
 request_of s (Some (word command ∷ ts)) = commanded s command (Some ts)

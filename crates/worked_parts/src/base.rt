@@ -1,6 +1,6 @@
 //! What no clause says: that the clauses mean what they should.
 
-use super::*;
+use be_base::{Name, Scan, Token, next_token, read_count, read_int};
 use std::collections::{BTreeMap, HashMap};
 use std::test::Fail;
 

@@ -2,8 +2,23 @@
 #![tactic(auto)]
 
 #[cfg(test)]
+mod base;
+#[cfg(test)]
+mod change;
+#[cfg(test)]
+mod core_;
+#[cfg(test)]
+mod event;
+#[cfg(test)]
+mod expr;
+mod io;
+#[cfg(test)]
 mod mail;
 #[cfg(test)]
 mod match_;
+#[cfg(test)]
+mod model;
+#[cfg(test)]
+mod score;
 #[cfg(test)]
 mod shape;

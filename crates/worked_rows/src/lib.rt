@@ -4,6 +4,10 @@
 #[cfg(test)]
 mod faults;
 #[cfg(test)]
+mod left;
+#[cfg(test)]
+mod limits;
+#[cfg(test)]
 mod memory;
 #[cfg(test)]
 mod refusals;
@@ -11,3 +15,5 @@ mod refusals;
 mod rows;
 #[cfg(test)]
 mod setting;
+#[cfg(test)]
+mod size;

@@ -29,7 +29,7 @@ fn calls_have_memory(rt: HostRuntime) -> Result<(), Fail> {
         op: Op::Ge(10),
     })?;
     let mut event = Event::make(alloc);
-    event.push((AttrNo(0), 10))?;
+    event.push((AttrNo(0), Values::one(alloc, 10)?))?;
     assert!(rt; conj.satisfied_by(&event) && conj.lies(&schema) && event.lies(&schema));
     let row = Row {
         id: Id(0),

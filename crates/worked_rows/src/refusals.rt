@@ -125,9 +125,6 @@ fn files_without_a_schema(rt: HostRuntime) -> Result<(), Fail> {
     let ran = run(&rt, alloc, &refused(RUN, SCHEMA, 1))?;
     assert!(rt; ran.status == Status::ReadFault && is_untouched(&ran));
     assert!(rt; !ran.is_next_ask_refused, "the shelf failed once");
-    let over = vec![in alloc; b'#'; 67_108_865]?;
-    let ran = run(&rt, alloc, &refused(RUN, &over, 2))?;
-    assert!(rt; ran.status == Status::LongFile && is_untouched(&ran));
     let ran = run(&rt, alloc, &refused(RUN, b"", 2))?;
     assert_eq!(rt;
         str::from_utf8(&ran.out)?,

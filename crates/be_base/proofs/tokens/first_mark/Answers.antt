@@ -1,5 +1,4 @@
-use Rattle.std.proofs.Common.{refl, arith}
-use Rattle.be_base.specs.Text.{is_word_byte}
+use Rattle.std.proofs.Common.{arith}
 use Rattle.be_base.proofs.Lexing.{tokens_less_or_equal, tokens_greater_or_equal, tokens_not_equal}
 use Rattle.be_base.proofs.FirstTokenLemmas.{no_token, at_bang}
 use Rattle.be_base.proofs.tokens.first_mark.Goals as goal

@@ -8,7 +8,7 @@ returns-in-Some c =
     seen_set c.args.session.0 c.args.n c.args.rows.now.items c.in-Some.place c.index_mut.result.now
     (sym (c.place_of.ensures.exact ∙ ap (position (λ x. x.0.0 == c.args.session.0)) c.as_slice.ensures.value) ∙ c.in-Some.is) c.index_mut.ensures.value
 
-pub returns-in-Ok : goal.returns-in-Ok
-returns-in-Ok c =
-    c.in-Ok.ensures.items
+pub returns-in_ok-push-in-None : goal.returns-in_ok-push-in-None
+returns-in_ok-push-in-None c =
+    c.in_ok-push-in-None.ensures.items
     ∙ sym (seen_new c.args.session.0 c.args.n c.args.rows.now.items (sym (c.place_of.ensures.exact ∙ ap (position (λ x. x.0.0 == c.args.session.0)) c.as_slice.ensures.value) ∙ c.in-None.is))

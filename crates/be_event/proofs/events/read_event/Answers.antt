@@ -1,28 +1,39 @@
-use Rattle.std.proofs.Common.{rules}
+use Rattle.std.proofs.Common.{subst, sym}
+use Rattle.std.proofs.lemmas.Result.{err_from_is_err_and}
+use Rattle.be_base.specs.Tokens.{tokens}
 use Rattle.be_event.specs.Events.{event, Reads}
-use Rattle.be_event.proofs.Known.{known_answer}
-use Rattle.be_event.proofs.Readings.{IsItems, read_dash, read_ok, read_short}
+use Rattle.be_event.proofs.Known.{known_read}
+use Rattle.be_event.proofs.Readings.{reads_empty, reads_fault, read_ok, read_short, sources_fine}
 use Rattle.be_event.proofs.events.read_event.Goals as goal
 
-pub returns-then-is_dash-clause-exact : goal.returns-then-is_dash-clause-exact
-returns-then-is_dash-clause-exact c = read_dash c.args.schema.now c.args.text.now c.make.result (c.is_dash.ensures.0 c.if-is_dash.true) c.make.ensures
+pub returns-in_default-clause-exact : goal.returns-in_default-clause-exact
+returns-in_default-clause-exact c =
+    subst (λ r. Reads r (event c.args.schema.now c.args.text.now)) (sym c.empty_event.ensures) (reads_empty c.args.schema.now (tokens c.args.text.now) c.in_default.ensures)
 
-pub returns-in-Ok-clause-exact : goal.returns-in-Ok-clause-exact
-returns-in-Ok-clause-exact c =
-    let items : IsItems c.args.text.now = record { some = λ h. let k = c.is_blank.ensures.1 h in cc; other = λ h. let k = c.is_dash.ensures.1 h in cc } in
-    (read_ok c.args.schema.now c.args.text.now c.in-Some.found c.in-Ok.event items c.in-Ok.ensures.few c.in-Some.ensures (c.in_ok-judge.ensures c.args.schema.now) c.in-Ok.ensures.built).0
-
-pub returns-in-Ok-clause-lies : goal.returns-in-Ok-clause-lies
-returns-in-Ok-clause-lies c =
-    let items : IsItems c.args.text.now = record { some = λ h. let k = c.is_blank.ensures.1 h in cc; other = λ h. let k = c.is_dash.ensures.1 h in cc } in
-    (read_ok c.args.schema.now c.args.text.now c.in-Some.found c.in-Ok.event items c.in-Ok.ensures.few c.in-Some.ensures (c.in_ok-judge.ensures c.args.schema.now) c.in-Ok.ensures.built).1
-
-pub returns-in-Err-clause-exact : goal.returns-in-Err-clause-exact
-returns-in-Err-clause-exact c =
-    let items : IsItems c.args.text.now = record { some = λ h. let k = c.is_blank.ensures.1 h in cc; other = λ h. let k = c.is_dash.ensures.1 h in cc } in
-    read_short c.args.schema.now c.args.text.now c.in-Some.found items c.in-Err.ensures.few c.in-Some.ensures (c.in_ok-judge.ensures c.args.schema.now)
+pub returns-in_err-judge-clause-exact : goal.returns-in_err-judge-clause-exact
+returns-in_err-judge-clause-exact c =
+    let p = err_from_is_err_and c.from_residual.result c.from_residual.ensures.1 in
+    rw (p.1, p.2) (reads_fault c.args.schema.now c.args.text.now c.in-Some.found c.in_err-judge.field-0.0 c.in-Some.ensures c.if-not-found.false (c.in_err-judge.ensures c.args.schema.now))
 
 pub returns-in_err-judge-clause-known : goal.returns-in_err-judge-clause-known
 returns-in_err-judge-clause-known c =
-    let exact : Reads c.from_residual.result (event c.args.schema.now c.args.text.now) = search rules in
-    known_answer c.args.schema.now c.args.text.now c.from_residual.result exact
+    let p = err_from_is_err_and c.from_residual.result c.from_residual.ensures.1 in
+    rw (p.1, p.2) (known_read c.args.schema.now c.args.text.now c.in_err-judge.field-0.0
+    (reads_fault c.args.schema.now c.args.text.now c.in-Some.found c.in_err-judge.field-0.0 c.in-Some.ensures c.if-not-found.false (c.in_err-judge.ensures c.args.schema.now)))
+
+pub build-requires : goal.build-requires
+build-requires c = sources_fine c.args.schema.now c.args.text.now c.in-Some.found c.in-Some.ensures (c.in_ok-judge.ensures c.args.schema.now)
+
+pub returns-in_err-build-clause-exact : goal.returns-in_err-build-clause-exact
+returns-in_err-build-clause-exact c =
+    let p = err_from_is_err_and c.from_residual-in_err-build.result c.from_residual-in_err-build.ensures.1 in
+    rw (p.1, p.2)
+    (read_short c.args.schema.now c.args.text.now c.in-Some.found c.in_err-build.ensures.few c.in-Some.ensures c.if-not-found.false (c.in_ok-judge.ensures c.args.schema.now))
+
+pub returns-clause-exact : goal.returns-clause-exact
+returns-clause-exact c =
+    (read_ok c.args.schema.now c.args.text.now c.in-Some.found c.in_ok-build.field-0 c.in_ok-build.ensures.few c.in-Some.ensures c.if-not-found.false (c.in_ok-judge.ensures c.args.schema.now) c.in_ok-build.ensures.built).0
+
+pub returns-clause-lies : goal.returns-clause-lies
+returns-clause-lies c =
+    (read_ok c.args.schema.now c.args.text.now c.in-Some.found c.in_ok-build.field-0 c.in_ok-build.ensures.few c.in-Some.ensures c.if-not-found.false (c.in_ok-judge.ensures c.args.schema.now) c.in_ok-build.ensures.built).1

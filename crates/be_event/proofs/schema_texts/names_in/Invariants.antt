@@ -1,7 +1,7 @@
 use Rattle.std.proofs.Common.{◌≡◌, ◌++◌, length, true}
 use Rattle.std.specs.List.{list_all}
 use Rattle.be_base.specs.Text.{name_of}
-use Rattle.be_event.specs.Written.{is_name}
+use Rattle.be_event.specs.Grammar.{is_name}
 use Rattle.be_event.specs.SchemaTexts.{words}
 use Rattle.be_event.proofs.schema_texts.names_in.Given as goal
 

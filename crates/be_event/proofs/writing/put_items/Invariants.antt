@@ -1,6 +1,6 @@
 use Rattle.std.proofs.Common.{◌≡◌, ◌++◌, take, All, codes}
 use Rattle.std.specs.List.{flat_map}
-use Rattle.be_event.specs.Canonical.{item_text, IsSpelled}
+use Rattle.be_event.specs.Writing.{item_text, IsSpelled}
 use Rattle.be_event.proofs.writing.put_items.Given as goal
 
 abbrev pub invariant-loop-item : goal.invariant-loop-item

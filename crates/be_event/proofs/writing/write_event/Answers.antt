@@ -1,7 +1,7 @@
 use Rattle.std.proofs.Common.{◌≡◌, ap, subst, ◌∙◌, All, rules}
 use Rattle.be_model.specs.Matching.{Assignments}
 use Rattle.be_event.specs.Events.{event}
-use Rattle.be_event.specs.Canonical.{event_text, IsSpelled}
+use Rattle.be_event.specs.Writing.{event_text, IsSpelled}
 use Rattle.be_event.proofs.RoundTrip.{spelled_is_read}
 use Rattle.be_event.proofs.writing.write_event.Goals as goal
 

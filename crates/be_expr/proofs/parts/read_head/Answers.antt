@@ -1,6 +1,7 @@
 use Rattle.std.proofs.Common.{sym, ◌∙◌, ap, option_map}
 use Rattle.be_base.specs.Tokens.{tokens}
-use Rattle.be_expr.specs.Parts.{following, plain_opening, plain_head}
+use Rattle.be_base.specs.Readers.{following}
+use Rattle.be_expr.specs.Parts.{plain_opening, plain_head}
 use Rattle.be_expr.specs.Readings.{with_attr}
 use Rattle.be_expr.proofs.InParts.{head_first, no_attr_first, head_of}
 use Rattle.be_expr.proofs.parts.read_head.Goals as goal

@@ -1,7 +1,7 @@
 use Rattle.std.proofs.Common.{sym}
 use Rattle.std.proofs.lemmas.Result.{on_ok_weaker}
 use Rattle.std.proofs.lemmas.List.Elements.{All-same}
-use Rattle.be_expr.specs.Canonical.{IsSpelled}
+use Rattle.be_expr.specs.Writing.{IsSpelled}
 use Rattle.be_expr.proofs.CanonicalMeaning.{spelled_is_read}
 use Rattle.be_expr.proofs.writing.put_expr.Goals as goal
 

@@ -3,10 +3,10 @@ use Rattle.std.proofs.lemmas.List.{take_all}
 use Rattle.std.specs.List.{flat_map}
 use Rattle.std.proofs.lemmas.List.Elements.{All-more}
 use Rattle.std.proofs.lemmas.List.Sums.{AllPass-from_list_all}
-use Rattle.be_model.specs.declared.conditions.Pred.{Pred}
+use Rattle.be_model.specs.declared.preds.Pred.{Pred}
 use Rattle.be_model.specs.Lies.{pred_lies, conj_lies}
 use Rattle.be_model.proofs.Attributes.{and_right}
-use Rattle.be_expr.specs.Canonical.{pred_text, expr_text, IsSpelled}
+use Rattle.be_expr.specs.Writing.{pred_text, expr_text, IsSpelled}
 use Rattle.be_model.proofs.Pieces.{joined_more}
 use Rattle.be_expr.proofs.writing.put_preds.Goals as goal
 

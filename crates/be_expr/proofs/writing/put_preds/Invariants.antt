@@ -1,7 +1,7 @@
 use Rattle.std.proofs.Common.{◌≡◌, ◌++◌, take, All, codes}
 use Rattle.std.specs.List.{flat_map}
-use Rattle.be_model.specs.declared.conditions.Pred.{Pred}
-use Rattle.be_expr.specs.Canonical.{pred_text, IsSpelled}
+use Rattle.be_model.specs.declared.preds.Pred.{Pred}
+use Rattle.be_expr.specs.Writing.{pred_text, IsSpelled}
 use Rattle.be_expr.proofs.writing.put_preds.Given as goal
 
 abbrev pub invariant-loop-pred : goal.invariant-loop-pred

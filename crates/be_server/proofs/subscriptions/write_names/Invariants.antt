@@ -3,7 +3,7 @@ use Rattle.std.proofs.Common.{◌≡◌, ◌+◌, ◌≤◌, ◌++◌, length}
 use Rattle.std.specs.BTreeMap.{btree_map_len}
 use Rattle.be_transcript.specs.Replies.{names_text}
 use Rattle.be_change.specs.Entries.{live_in}
-use Rattle.be_server.specs.Wanting.{names_wanted}
+use Rattle.be_server.specs.Naming.{names_wanted}
 use Rattle.be_server.proofs.subscriptions.write_names.Given as goal
 
 abbrev pub invariant-loop-row : goal.invariant-loop-row

@@ -8,7 +8,8 @@ use Rattle.indexmap.specs.IndexMap.{get}
 use Rattle.be_base.specs.Text.{Text, same_text}
 use Rattle.be_base.specs.declared.names.Id.{Id}
 use Rattle.be_change.specs.History.{Entry, live, has_left, subscribed}
-use Rattle.be_server.specs.Kept.{id_named, row_made}
+use Rattle.be_change.specs.Made.{row_made}
+use Rattle.be_server.specs.Subscriptions.{id_named}
 use Rattle.be_server.proofs.KeptLemmas.{kept_subscribed}
 use Rattle.be_server.proofs.subscriptions.Subscriptions.add.Goals as goal
 

@@ -3,7 +3,7 @@ use Rattle.std.proofs.Common.{rules, ◌≡◌, List, false, ◌++◌, [], ◌�
 use Rattle.indexmap.specs.IndexMap.{get}
 use Rattle.be_base.specs.Text.{same_text}
 use Rattle.be_change.specs.History.{Entry, live, has_left, unsubscribed}
-use Rattle.be_server.specs.Kept.{id_named}
+use Rattle.be_server.specs.Subscriptions.{id_named}
 use Rattle.be_server.proofs.KeptLemmas.{kept_unsubscribed}
 use Rattle.be_server.proofs.subscriptions.Subscriptions.remove.Goals as goal
 

@@ -2,8 +2,7 @@
 use Rattle.std.proofs.Common.{◌+◌, ℕ, refl, sym, ap}
 use Rattle.be_change.specs.History.{live}
 use Rattle.be_change.proofs.Grows.{rising_live}
-use Rattle.be_change.proofs.Names.{found_live}
-use Rattle.be_server.proofs.KeptLemmas.{none_live, some_has}
+use Rattle.be_server.proofs.KeptLemmas.{none_live, live_name}
 use Rattle.be_server.proofs.subscriptions.Subscriptions.unsubscribe.Goals as goal
 
 pub returns-in_default : goal.returns-in_default
@@ -12,4 +11,8 @@ returns-in_default c =
 
 pub returns-in-Ok : goal.returns-in-Ok
 returns-in-Ok c =
-    (found_live (live c.args.self.now) c.in-Some.id.0 c.args.name (some_has c.args.name (live c.args.self.now) c.in-Some.id (rising_live c.args.self.now) (sym c.in-Some.ensures)), (ap (λ (n : ℕ). n + 1) c.len-m.ensures.len, c.in-Ok.ensures.removed))
+    (live_name c.args.name (live c.args.self.now) c.in-Some.id (rising_live c.args.self.now) (sym c.in-Some.ensures), (ap (λ (n : ℕ). n + 1) c.len-m.ensures.len, c.in-Ok.ensures.removed))
+
+pub returns-in-Err : goal.returns-in-Err
+returns-in-Err c =
+    (live_name c.args.name (live c.args.self.now) c.in-Some.id (rising_live c.args.self.now) (sym c.in-Some.ensures), c.in-Err.ensures.refused)

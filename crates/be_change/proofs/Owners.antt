@@ -1,0 +1,57 @@
+-- Whose rows are live: those of sessions that have entries.
+use Rattle.std.proofs.Common.{◌≡◌, ◌⊎◌, inl, inr, ℕ, Bool, true, false, not, ◌&&◌, cond, List, [], ◌∷◌, length, refl, sym, ap, ◌∙◌}
+use Rattle.std.specs.Prelude.{filter}
+use Rattle.std.specs.List.{list_all}
+use Rattle.std.proofs.lemmas.Bool.{and_parts, and_from, or_cases, or_left, or_right}
+use Rattle.std.proofs.lemmas.List.Folds.{list_all-append}
+use Rattle.be_change.specs.History.{Text, Entry, subscribed, unsubscribed, left, session_of, ByIds, live, after_entry, is_of, has_name, is_live_name, is_live_name_of, IsWellFormed, MayFollow}
+use Rattle.be_change.proofs.Grows.{live-append}
+use Rattle.be_change.proofs.Forms.{formed_induction}
+
+-- what holds of all rows holds of those that are left
+pub list_all-filter : {X : Type 0} (p q : X → Bool) (xs : List X) → list_all q xs ≡ true → list_all q (filter p xs) ≡ true
+list_all-filter p q [] e = refl
+list_all-filter {X} p q (x ∷ xs) e =
+    let both = and_parts (q x) (list_all q xs) e in
+    all_if (p x) x (filter p xs) both.0 (list_all-filter p q xs both.1)
+  where
+    all_if : (b : Bool) (r : X) (l : List X) → q r ≡ true → list_all q l ≡ true → list_all q (cond b (r ∷ l) l) ≡ true
+    all_if true r l e f = and_from (q r) (list_all q l) e f
+    all_if false r l e f = f
+
+-- the session of each row passes the test
+abbrev all_of : (ℕ → Bool) → ByIds → Bool
+all_of p m = list_all (λ r. p r.1.session.0) m
+
+-- and that of each entry
+abbrev all_by : (ℕ → Bool) → List Entry → Bool
+all_by p h = list_all (λ e. p (session_of e)) h
+
+owned_after : (p : ℕ → Bool) (h : List Entry) (e : Entry) → MayFollow h e → p (session_of e) ≡ true → all_of p (live h) ≡ true → all_of p (after_entry (live h) (length h) e) ≡ true
+owned_after p h (subscribed k n row) m of all =
+    list_all-append (λ r. p r.1.session.0) (live h) ((length h, row) ∷ [])
+    ∙ and_from (all_of p (live h)) (all_of p ((length h, row) ∷ [])) all (and_from (p row.session.0) true (ap p m.allowed.2 ∙ of) refl)
+owned_after p h (unsubscribed k n name) m of all = list_all-filter (λ r. not (is_of k r && has_name name r)) (λ r. p r.1.session.0) (live h) all
+owned_after p h (left k n) m of all = list_all-filter (λ r. not (is_of k r)) (λ r. p r.1.session.0) (live h) all
+
+abbrev IsOwned : (ℕ → Bool) → List Entry → Type 0
+IsOwned p h = all_by p h ≡ true → all_of p (live h) ≡ true
+
+-- a live row's session has an entry: what holds of the session of each entry holds of that of each live row
+pub live_owned : (p : ℕ → Bool) (h : List Entry) → IsWellFormed h → list_all (λ e. p (session_of e)) h ≡ true → list_all (λ r. p r.1.session.0) (live h) ≡ true
+live_owned p h w =
+    formed_induction (IsOwned p) h w (λ a. refl)
+    (λ g e f m owned a.
+    let both = and_parts (all_by p g) (all_by p (e ∷ [])) (sym (list_all-append (λ x. p (session_of x)) g (e ∷ [])) ∙ a) in
+    ap (all_of p) (live-append g e) ∙ owned_after p g e m (and_parts (p (session_of e)) true both.1).0 (owned both.0))
+
+-- where all rows are the session's, a live name is the session's
+pub owned_name : (k : ℕ) (name : Text) (l : ByIds) → list_all (is_of k) l ≡ true → is_live_name name l ≡ true → is_live_name_of k name l ≡ true
+owned_name k name [] o e = absurd cc
+owned_name k name (x ∷ xs) o e =
+    let both = and_parts (is_of k x) (list_all (is_of k) xs) o in
+    which (λ t. owned_name k name xs both.1 t) both.0 (or_cases (has_name name x) (is_live_name name xs) e)
+  where
+    which : (is_live_name name xs ≡ true → is_live_name_of k name xs ≡ true) → is_of k x ≡ true → (has_name name x ≡ true) ⊎ (is_live_name name xs ≡ true) → is_live_name_of k name (x ∷ xs) ≡ true
+    which more of (inl t) = or_left (is_of k x && has_name name x) (is_live_name_of k name xs) (and_from (is_of k x) (has_name name x) of t)
+    which more of (inr t) = or_right (is_of k x && has_name name x) (is_live_name_of k name xs) (more t)

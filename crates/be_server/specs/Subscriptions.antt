@@ -1,0 +1,48 @@
+-- The list of changes of a run with one session, what is kept beside it, and how it grows by each reply.
+use Rattle.std.specs.Prelude.{◌≡◌, ℕ, ◌+◌, true, false, List, ◌++◌, length, Option, option_map, find}
+use Rattle.std.specs.List.{list_all}
+use Rattle.be_base.specs.Text.{Text}
+use Rattle.be_base.specs.declared.names.Id.{Id}
+use Rattle.be_model.specs.declared.changes.Row.{Row}
+use Rattle.be_change.specs.History.{Entry, ByIds, live, hits, is_live_name, is_of, has_name, entries_of, IsWellFormed}
+use Rattle.be_change.specs.Requests.{Request, refused, subscribe, unsubscribe, publish, listing, quit, Reply, refusal, ok, bye, dup, none, hit, listed, no_memory}
+use Rattle.be_change.specs.Walk.{HasNameAt, names_of_session}
+use Rattle.be_change.specs.Made.{change_named}
+
+abbrev pub id_of_row : ℕ × Row → Id
+id_of_row r = record { 0 = r.0 }
+
+-- the id of the live row of this name
+abbrev pub id_named : Text → ByIds → Option Id
+id_named name l = option_map id_of_row (find (has_name name) l)
+
+-- the list is well formed, each change and each live row is of session 1, the rows are what is live, and the register
+-- has their names
+pub record IsKept (h : List Entry) (rows : ByIds) (register : Text → Option Id) : Type 0 where
+  pub formed : IsWellFormed h
+  pub alone : entries_of 1 h ≡ h
+  pub owned : list_all (is_of 1) (live h) ≡ true
+  pub rows_are : rows ≡ live h
+  pub registered : (name : Text) → register name ≡ id_named name (live h)
+
+-- the change that the request names is put last, and n is the number of changes then
+abbrev pub Grows : List Entry → Request → ℕ → List Entry → Type 0
+Grows h r n after = (n ≡ length h + 1) × (after ≡ h ++ change_named 1 (length h) (length h) r)
+
+-- the reply that a request is given over the list, and the list after it
+abbrev pub Replies : List Entry → Request → Reply → List Entry → Type 0
+Replies h (refused r) (refusal q) after = (q ≡ r) × (after ≡ h)
+Replies h (subscribe name conj) (ok n) after = (is_live_name name (live h) ≡ false) × Grows h (subscribe name conj) n after
+Replies h (subscribe name conj) (dup m id) after = (m ≡ length h) × HasNameAt (live h) id name × (after ≡ h)
+Replies h (subscribe name conj) no_memory after = after ≡ h
+Replies h (unsubscribe name) (ok n) after = (is_live_name name (live h) ≡ true) × Grows h (unsubscribe name) n after
+Replies h (unsubscribe name) (none m) after = (m ≡ length h) × (is_live_name name (live h) ≡ false) × (after ≡ h)
+-- only the removal of a live row takes memory
+Replies h (unsubscribe name) no_memory after = (is_live_name name (live h) ≡ true) × (after ≡ h)
+Replies h (publish e) (hit n names) after = (n ≡ length h) × (names ≡ hits h e) × (after ≡ h)
+Replies h (publish e) no_memory after = after ≡ h
+Replies h listing (listed n names) after = (n ≡ length h) × (names ≡ names_of_session 1 h) × (after ≡ h)
+Replies h listing no_memory after = after ≡ h
+Replies h quit (bye n) after = Grows h quit n after
+Replies h quit no_memory after = after ≡ h
+Replies h _ _ after = ⊥

@@ -1,0 +1,83 @@
+#!/usr/bin/env python3
+"""Drives the program through the client of examples/client over pipes: line by line, in bulk, and to its ends.
+Its one word is the program. Ends with 1 at the first difference."""
+import os
+import sys
+import tempfile
+
+TOP = os.path.dirname(os.path.dirname(os.path.abspath(__file__)))
+sys.dont_write_bytecode = True
+sys.path.insert(0, os.path.join(TOP, "examples", "client"))
+from justmeadow import Ended, Refused, Session  # noqa: E402
+
+PROGRAM = sys.argv[1]
+
+
+def same(what, given, wanted):
+    if given != wanted:
+        sys.exit(f"FAILED: client: {what}: {given!r}, and not {wanted!r}")
+
+
+def refused(call, *words):
+    try:
+        return call(*words)
+    except Refused as reply:
+        return reply.words
+
+
+def interactive(schema):
+    """Each reply is there before the next line is sent."""
+    session = Session([PROGRAM, "run", schema])
+    same("the first change", session.subscribe("cheap", "price <= 250"), 1)
+    same("the second change", session.subscribe("buys", "side = buy"), 2)
+    same("a name that is live", refused(session.subscribe, "cheap", "all"), ["DUP", "2", "0"])
+    same("an unknown attribute", refused(session.publish, "cost=1"), ["ATTR", "cost"])
+    same("hits", session.publish("price=240 side=buy"), ["cheap", "buys"])
+    same("no hit", session.publish("-"), [])
+    same("a removal", session.unsubscribe("cheap"), 3)
+    same("names", session.names(), ["buys"])
+    same("the code", session.close(), 0)
+
+
+def bulk(schema):
+    """More than the pipes hold in both directions: 4 MB of lines, 40 MB of replies, one reply of 900,000 bytes."""
+    names = [f"subscription-number-{number:026d}" for number in range(20000)]
+    with Session([PROGRAM, "run", schema]) as session:
+        wanted = [f"OK {number}" for number in range(1, len(names) + 1)]
+        same("bulk of SUB", list(session.ask_all(f"SUB {name} all" for name in names)), wanted)
+        hit = " ".join(["HIT", "20000", "20000", *names])
+        same("a long reply", session.ask("PUB price=1"), hit)
+        lines = ["PUB price=1", "PUB price=2 side=sell", "x"] * 20 + ["LIST"]
+        wanted = [hit, hit, "BAD"] * 20 + [hit.replace("HIT", "LIST", 1)]
+        same("bulk of PUB", list(session.ask_all(lines)), wanted)
+        wanted = [f"OK {20000 + number}" for number in range(1, len(names) + 1)]
+        same("bulk of UNSUB", list(session.ask_all(f"UNSUB {name}" for name in names)), wanted)
+        same("after the bulk", session.publish("price=1"), [])
+
+
+def ends(schema):
+    """After a QUIT nothing is answered; a program that can't begin gives no reply, and its code says why."""
+    session = Session([PROGRAM, "run", schema])
+    same("the end of a session", list(session.ask_all(["SUB a all", "QUIT"])), ["OK 1", "BYE 2"])
+    try:
+        same("a line after QUIT", session.ask("LIST"), None)
+    except Ended:
+        pass
+    same("the code after QUIT", session.close(), 0)
+    silent = ["sh", "-c", 'exec "$0" "$@" 2>/dev/null', PROGRAM]
+    session = Session([*silent, "run", schema + ".missing"])
+    try:
+        same("a missing schema", session.ask("LIST"), None)
+    except Ended:
+        pass
+    same("the code of a missing schema", session.close(), 4)
+
+
+with tempfile.TemporaryDirectory() as room:
+    SCHEMA = os.path.join(room, "schema.txt")
+    with open(SCHEMA, "w", encoding="ascii") as file:
+        file.write("int price 0 1000\nsym side buy sell\n")
+    interactive(SCHEMA)
+    bulk(SCHEMA)
+    ends(SCHEMA)
+print("the client of examples/client: line by line, in bulk, to its ends")
