@@ -15,16 +15,12 @@ use Rattle.be_model.specs.Matching.{Assignments, values_of, is_assigned}
 use Rattle.be_model.specs.Rows.{has}
 use Rattle.be_model.specs.Bounds.{bits_of, bits_at, ranges_to, shared}
 use Rattle.be_model.proofs.Attributes.{and_left, and_right}
-use Rattle.be_model.proofs.RangeBits.{low_bits, high_bits}
+use Rattle.be_shape.proofs.BitsLeft.{bits_left, whole_bits, low_left, high_left}
 use Rattle.be_model.specs.declared.paths.Hop.{Hop}
 use Rattle.be_model.specs.declared.paths.Hop.TheVariants.{Part, Low, High}
 use Rattle.be_shape.specs.Children.{known_below, is_open, may_pass}
 use Rattle.be_shape.specs.Search.{enters}
 use Rattle.be_shape.specs.Shape.{NodeRange, whole, lower, upper, Known, nothing, in_part, in_low, in_high, is_used, can_split, is_some as some_row}
-
-abbrev bits_left : NodeRange → ℕ
-bits_left None = 0
-bits_left (Some r) = bits (width r.1)
 
 abbrev unused_ranges : Attributes → List AttrNo → Row → AttrNo × List ℤ → ℕ
 unused_ranges s used row item = cond (is_used used item.0) 0 (ranges_to s row item)
@@ -77,25 +73,10 @@ part_takes s (item ∷ e) a used row unused has_it given =
     by_test false same g more =
         omega (arith, sum_by-cons (unused_ranges s (a ∷ used) row) item e, sum_by-cons (unused_ranges s used row) item e, more_used s a used row item, more g)
 
-whole_bits : (s : Attributes) (a : AttrNo) → bits_left (whole s a) ≡ bits_at s a
-whole_bits s a = by_range (range_of s a)
-  where
-    by_range : (o : Option Range) → bits_left (option_map (λ r. (a, r)) o) ≡ bits_of o
-    by_range None = refl
-    by_range (Some r) = refl
-
 -- below a part whose attribute is assigned
 part_share : (s : Attributes) (e : Assignments) (k : Known) (a : AttrNo) (row : Row) → is_used k.used a ≡ false → is_assigned e a ≡ true → has a row ≡ true → share s e (in_part s a k) row + 1 ≤ share s e k row
 part_share s e k a row unused given has_it =
     omega (arith, whole_bits s a, part_takes s e a k.used row unused has_it given)
-
-low_left : (r : NodeRange) → can_split r ≡ true → bits_left (lower r) + 1 ≤ bits_left r
-low_left None h = absurd (cc)
-low_left (Some r) h = let l : r.1.0 <ℤ r.1.1 = omega (arith, ints) in low_bits r.1 l
-
-high_left : (r : NodeRange) → can_split r ≡ true → bits_left (upper r) + 1 ≤ bits_left r
-high_left None h = absurd (cc)
-high_left (Some r) h = let l : r.1.0 <ℤ r.1.1 = omega (arith, ints) in high_bits r.1 l
 
 -- in a half
 low_share : (s : Attributes) (e : Assignments) (k : Known) (row : Row) → can_split k.range ≡ true → share s e (in_low k) row + 1 ≤ share s e k row

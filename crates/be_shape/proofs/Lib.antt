@@ -9,3 +9,4 @@ pub mod Children
 pub mod NodeList
 pub mod Visited
 pub mod Levels
+pub mod BitsLeft

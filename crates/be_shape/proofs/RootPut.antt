@@ -48,7 +48,7 @@ not_true : (b : Bool) → not b ≡ true → b ≡ false
 not_true true h = absurd (cc)
 not_true false h = refl
 
-differ_put : (rows : List Row) (x : Row) → ids_differ rows ≡ true → list_any (λ other. eqb (id_of other) (id_of x)) rows ≡ false → ids_differ (rows ++ x ∷ []) ≡ true
+pub differ_put : (rows : List Row) (x : Row) → ids_differ rows ≡ true → list_any (λ other. eqb (id_of other) (id_of x)) rows ≡ false → ids_differ (rows ++ x ∷ []) ≡ true
 differ_put [] x h k = refl
 differ_put (row ∷ rows) x h k =
     let z = or_false (eqb (id_of row) (id_of x)) (list_any (λ other. eqb (id_of other) (id_of x)) rows) k in

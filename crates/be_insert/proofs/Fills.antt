@@ -1,0 +1,369 @@
+-- A leaf that has a row more, and what may pass from it.
+use Rattle.std.proofs.Common.{◌≡◌, ◌<◌, ◌≤◌, ◌+◌, ◌-◌, suc, Bool, true, false, not, cond, leb, ltb, ◌&&◌, ◌||◌, List, [], ◌∷◌, ◌++◌, length, take, slice_get, None, Some, Option, IfSome, option_map, refl, sym, ap, ◌∙◌, subst, arith, length-append}
+use Rattle.std.specs.Prelude.{IsPermutation}
+use Rattle.std.specs.Option.{is_some}
+use Rattle.std.specs.Int.Signed.{le_z}
+use Rattle.std.specs.List.{list_all, list_any, filter, flat_map, AllByRecursion}
+use Rattle.std.proofs.lemmas.Bool.{and_parts, and_from, not_from_false, not-true, or_parts, or_from, leb-true, le-leb, or_left, or_right, false≢true}
+use Rattle.std.proofs.lemmas.List.{append-nil}
+use Rattle.std.proofs.lemmas.List.Elements.{filter-append}
+use Rattle.std.proofs.lemmas.List.Folds.{list_any-append}
+use Rattle.std.proofs.lemmas.List.Sorted.{IsPermutation-append_left, IsPermutation-trans, IsPermutation-sym, IsPermutation-refl}
+use Rattle.be_base.specs.declared.limits.TheConstants.{LEAF_ROWS, LOG_CHANGES}
+use Rattle.be_base.specs.declared.names.AttrNo.{AttrNo}
+use Rattle.be_model.specs.declared.preds.Pred.{Pred}
+use Rattle.be_model.specs.declared.changes.Row.{Row}
+use Rattle.be_model.specs.declared.paths.Hop.{Hop}
+use Rattle.be_model.specs.declared.paths.Hop.TheVariants.{Part, Low, High}
+use Rattle.be_model.specs.Domains.{Range}
+use Rattle.be_model.specs.Forms.{is_conj}
+use Rattle.be_model.specs.Hulls.{is_on, span_in}
+use Rattle.be_model.specs.Laws.{IsPart}
+use Rattle.be_model.specs.Lies.{row_lies}
+use Rattle.be_model.specs.Rows.{id_of, has}
+use Rattle.be_model.specs.Schemas.{Attributes, IsSchema, range_of}
+use Rattle.be_model.proofs.FormTests.{IsConj-from_is_conj}
+use Rattle.be_model.proofs.InSchema.{same_attribute}
+use Rattle.be_model.proofs.Spans.{spans_lie, spans_are}
+use Rattle.be_shape.specs.Plain.{Plain, node, no_part, no_half, rows_below, leaf_of, with_row}
+use Rattle.be_shape.specs.Shape.{Known, lower, upper, whole, is_drawn_at, is_pruned_at, is_settled_at, is_stuck, is_between, is_used, can_split, is_inside, spans_inside, may_stand}
+use Rattle.be_shape.specs.Children.{children, known_below, is_open, may_pass, with_leaf}
+use Rattle.be_shape.specs.Paths.{child}
+use Rattle.be_shape.proofs.Children.{Each-from_test, test_from_Each, levels, below, rows_of, rows_are}
+use Rattle.be_shape.proofs.Placed.{Placed, is_placed_from, at_child}
+use Rattle.be_shape.proofs.Levels.{passes_one, drawn_is}
+use Rattle.be_shape.proofs.WholeRanges.{le_test}
+use Rattle.be_insert.specs.Right.{is_right_at, IsRight, is_filled, IsFilled}
+use Rattle.be_insert.proofs.Lists.{all_permuted, all_front, all_both, filter_whole, filter_empty, filter_some, lengths, swap_last}
+use Rattle.be_insert.proofs.OneLevel.{right_here, right_from}
+use Rattle.be_insert.proofs.Steps.{Leaves, placed_by, settled_is}
+
+-- a node with another leaf
+pub leaf_rows : (leaf kept extra : List Row) (n : Plain) → IsPermutation leaf (kept ++ extra) → IsPermutation (rows_below (with_leaf leaf n)) (rows_below (with_leaf kept n) ++ extra)
+leaf_rows leaf kept extra (node rows parts low high) h =
+    let r = flat_map rows_of (children (node rows parts low high)) in
+    subst (λ l. IsPermutation l (rows_below (node kept parts low high) ++ extra)) (sym (rows_are (node leaf parts low high)))
+    (subst (λ l. IsPermutation (leaf ++ r) (l ++ extra)) (sym (rows_are (node kept parts low high)))
+    (IsPermutation-trans (leaf ++ r) (kept ++ extra ++ r) (kept ++ r ++ extra) (IsPermutation-append_left r leaf (kept ++ extra) h) (swap_last kept extra r)))
+
+-- the last of a list
+pub record HasLast (rows : List Row) : Type 0 where
+  pub front : List Row
+  pub last : Row
+  pub is : rows ≡ front ++ last ∷ []
+  pub taken : take (length rows - 1) rows ≡ front
+  pub at : slice_get rows (length rows - 1) ≡ Some last
+
+pub has_last : (rows : List Row) → 0 < length rows → HasLast rows
+has_last [] h = absurd (omega arith)
+has_last (x ∷ []) h = record { front = []; last = x; is = refl; taken = refl; at = refl }
+has_last (x ∷ y ∷ rows) h =
+    let r = has_last (y ∷ rows) (omega arith) in
+    let e : length (x ∷ y ∷ rows) - 1 ≡ suc (length (y ∷ rows) - 1) = omega arith in
+    record {
+      front = x ∷ r.front;
+      last = r.last;
+      is = ap (λ l. x ∷ l) r.is;
+      taken = ap (λ i. take i (x ∷ y ∷ rows)) e ∙ ap (λ l. x ∷ l) r.taken;
+      at = ap (λ i. slice_get (x ∷ y ∷ rows) i) e ∙ r.at;
+    }
+
+row_leaf : (x : Row) (n : Plain) → with_row x n ≡ with_leaf (leaf_of n ++ x ∷ []) n
+row_leaf x (node rows parts low high) = refl
+
+own_leaf : (n : Plain) → with_leaf (leaf_of n) n ≡ n
+own_leaf (node rows parts low high) = refl
+
+same_placed : (s : Attributes) (k : Known) (leaf : List Row) (n : Plain) → Placed s k n → list_all (spans_inside s k.range) (rows_below (with_leaf leaf n)) ≡ true → Placed s k (with_leaf leaf n)
+same_placed s k leaf (node rows parts low high) p inside =
+    record { rise = p.rise; inside = inside; open_steps = p.open_steps; pass = p.pass }
+
+same_drawn : (s : Attributes) (k : Known) (leaf : List Row) (n : Plain) → list_all (λ row. not (passes_one s k (children n) row)) leaf ≡ true → is_drawn_at s k (with_leaf leaf n) ≡ true
+same_drawn s k leaf (node rows parts low high) h = drawn_is s k (node leaf parts low high) ∙ h
+
+same_pruned : (k : Known) (leaf : List Row) (n : Plain) → is_pruned_at k (with_leaf leaf n) ≡ is_pruned_at k n
+same_pruned k leaf (node rows parts low high) = refl
+
+same_children : (leaf : List Row) (n : Plain) → children (with_leaf leaf n) ≡ children n
+same_children leaf (node rows parts low high) = refl
+
+same_leaf : (leaf : List Row) (n : Plain) → leaf_of (with_leaf leaf n) ≡ leaf
+same_leaf leaf (node rows parts low high) = refl
+
+-- a leaf that was settled is filled by a row more
+now_filled : (s : Attributes) (k : Known) (leaf : List Row) (x : Row) → (leb (length leaf) LEAF_ROWS || list_all (is_stuck s k) leaf) ≡ true → is_filled s k (leaf ++ x ∷ []) ≡ true
+now_filled s k leaf x h = by_cases (leb (length leaf) LEAF_ROWS) refl h
+  where
+    size : length (leaf ++ x ∷ []) ≡ length leaf + 1
+    size = length-append leaf (x ∷ [])
+
+    front : (rows : List Row) (y : Row) → take (length rows) (rows ++ y ∷ []) ≡ rows
+    front [] y = refl
+    front (z ∷ rows) y = ap (λ l. z ∷ l) (front rows y)
+
+    by_cases : (b : Bool) → leb (length leaf) LEAF_ROWS ≡ b → (b || list_all (is_stuck s k) leaf) ≡ true → is_filled s k (leaf ++ x ∷ []) ≡ true
+    by_cases true e t =
+        let l = leb-true (length leaf) LEAF_ROWS e in
+        or_left (leb (length (leaf ++ x ∷ [])) (LEAF_ROWS + 1)) (list_all (is_stuck s k) (take (length (leaf ++ x ∷ []) - 1) (leaf ++ x ∷ []))) (le-leb (length (leaf ++ x ∷ [])) (LEAF_ROWS + 1) (omega (arith, size)))
+    by_cases false e t =
+        let i : length (leaf ++ x ∷ []) - 1 ≡ length leaf = omega (arith, size) in
+        or_right (leb (length (leaf ++ x ∷ [])) (LEAF_ROWS + 1)) (list_all (is_stuck s k) (take (length (leaf ++ x ∷ []) - 1) (leaf ++ x ∷ []))) (ap (list_all (is_stuck s k)) (ap (λ j. take j (leaf ++ x ∷ [])) i ∙ front leaf x) ∙ t)
+
+-- the rows with a row more in the leaf
+pub row_put : (n : Plain) (x : Row) → IsPermutation (rows_below n ++ x ∷ []) (rows_below (with_row x n))
+row_put n x =
+    let new = leaf_of n ++ x ∷ [] in
+    subst (λ w. IsPermutation (rows_below n ++ x ∷ []) (rows_below w)) (sym (row_leaf x n))
+    (IsPermutation-sym (rows_below (with_leaf new n)) (rows_below n ++ x ∷ []) (subst (λ q. IsPermutation (rows_below (with_leaf new n)) (rows_below q ++ x ∷ [])) (own_leaf n) (leaf_rows new (leaf_of n) (x ∷ []) n (IsPermutation-refl new))))
+
+pub last_put : (n : Plain) (x y : Row) → slice_get (leaf_of (with_row x n)) (length (leaf_of (with_row x n)) - 1) ≡ Some y → y ≡ x
+last_put (node rows parts low high) x y h = let e = sym (at_end rows) ∙ h in cc
+  where
+    at_end : (rows : List Row) → slice_get (rows ++ x ∷ []) (length (rows ++ x ∷ []) - 1) ≡ Some x
+    at_end [] = refl
+    at_end (r ∷ rows) =
+        let i : length (r ∷ rows ++ x ∷ []) - 1 ≡ suc (length (rows ++ x ∷ []) - 1) = omega (arith, length-append rows (x ∷ [])) in
+        ap (slice_get (r ∷ rows ++ x ∷ [])) i ∙ at_end rows
+
+-- a row is put into the leaf
+pub put_filled : (s : Attributes) (k : Known) (n : Plain) (x : Row) → IsRight s k n → passes_one s k (children n) x ≡ false → spans_inside s k.range x ≡ true → may_stand s x ≡ true → IsFilled s k (with_row x n)
+put_filled s k n x r out inside may =
+    let leaf = leaf_of n in
+    let new = leaf ++ x ∷ [] in
+    let w = with_leaf new n in
+    let l = levels (is_right_at s) s k n r.right in
+    let here = right_here s k n l.here in
+    let pl = placed_by s k n here.0 l.children in
+    let moved : IsPermutation (rows_below n ++ x ∷ []) (rows_below w) =
+    IsPermutation-sym (rows_below w) (rows_below n ++ x ∷ []) (subst (λ q. IsPermutation (rows_below w) (rows_below q ++ x ∷ [])) (own_leaf n) (leaf_rows new leaf (x ∷ []) n (IsPermutation-refl new))) in
+    let held = λ (q : Row → Bool) (t : list_all q (rows_below n) ≡ true) (u : q x ≡ true). all_permuted q (rows_below n ++ x ∷ []) (rows_below w) moved (all_both q (rows_below n) (x ∷ []) t (and_from (q x) true u refl)) in
+    subst (IsFilled s k) (sym (row_leaf x n)) (record {
+      placed = is_placed_from s k w (same_placed s k new n pl (held (spans_inside s k.range) pl.inside inside));
+      drawn = same_drawn s k new n (all_both (λ row. not (passes_one s k (children n) row)) leaf (x ∷ []) (sym (drawn_is s k n) ∙ here.1) (and_from (not (passes_one s k (children n) x)) true (not_from_false (passes_one s k (children n) x) out) refl));
+      pruned = same_pruned k new n ∙ here.2;
+      below = ap (list_all (below (is_right_at s) s k)) (same_children new n) ∙ test_from_Each (below (is_right_at s) s k) (children n) l.children;
+      may = held (may_stand s) r.may may;
+      some = omega (arith, ap length (same_leaf new n), length-append leaf (x ∷ []));
+      filled = ap (is_filled s k) (same_leaf new n) ∙ now_filled s k leaf x (sym (settled_is s k n) ∙ here.3);
+    })
+
+-- a node whose leaf is settled after all
+pub stays : (s : Attributes) (k : Known) (n : Plain) → IsFilled s k n → is_settled_at s k n ≡ true → Leaves s k (rows_below n) n []
+stays s k n f h =
+    record {
+      right = record { right = right_from s k n f.placed f.drawn f.pruned h (Each-from_test (below (is_right_at s) s k) (children n) f.below); may = f.may };
+      same = subst (IsPermutation (rows_below n)) (sym (append-nil (rows_below n))) (IsPermutation-refl (rows_below n));
+    }
+
+-- the last row is taken out again
+front_settled : (s : Attributes) (k : Known) (rows : List Row) (l : HasLast rows) → is_filled s k rows ≡ true → (leb (length l.front) LEAF_ROWS || list_all (is_stuck s k) l.front) ≡ true
+front_settled s k rows l h = by_cases (leb (length rows) (LEAF_ROWS + 1)) refl h
+  where
+    by_cases : (b : Bool) → leb (length rows) (LEAF_ROWS + 1) ≡ b → (b || list_all (is_stuck s k) (take (length rows - 1) rows)) ≡ true → (leb (length l.front) LEAF_ROWS || list_all (is_stuck s k) l.front) ≡ true
+    by_cases true e t =
+        let few = leb-true (length rows) (LEAF_ROWS + 1) e in
+        or_left (leb (length l.front) LEAF_ROWS) (list_all (is_stuck s k) l.front) (le-leb (length l.front) LEAF_ROWS (omega (arith, ap length l.is, length-append l.front (l.last ∷ []))))
+    by_cases false e t =
+        or_right (leb (length l.front) LEAF_ROWS) (list_all (is_stuck s k) l.front) (ap (list_all (is_stuck s k)) (sym l.taken) ∙ t)
+
+pub cut : (s : Attributes) (k : Known) (n : Plain) (l : HasLast (leaf_of n)) → IsFilled s k n → Leaves s k (rows_below n) (with_leaf l.front n) (l.last ∷ [])
+cut s k n l f =
+    let w = with_leaf l.front n in
+    let each = Each-from_test (below (is_right_at s) s k) (children n) f.below in
+    let pl = placed_by s k n f.placed each in
+    let moved : IsPermutation (rows_below n) (rows_below w ++ l.last ∷ []) =
+    subst (λ q. IsPermutation (rows_below q) (rows_below w ++ l.last ∷ [])) (own_leaf n) (leaf_rows (leaf_of n) l.front (l.last ∷ []) n (subst (IsPermutation (leaf_of n)) l.is (IsPermutation-refl (leaf_of n)))) in
+    let held = λ (q : Row → Bool) (t : list_all q (rows_below n) ≡ true). all_front q (rows_below w) (l.last ∷ []) (all_permuted q (rows_below n) (rows_below w ++ l.last ∷ []) moved t) in
+    let p = λ (row : Row). not (passes_one s k (children n) row) in
+    record {
+      right = record {
+        right = right_from s k w (is_placed_from s k w (same_placed s k l.front n pl (held (spans_inside s k.range) pl.inside)))
+            (same_drawn s k l.front n (all_front p l.front (l.last ∷ []) (ap (list_all p) (sym l.is) ∙ sym (drawn_is s k n) ∙ f.drawn)))
+            (same_pruned k l.front n ∙ f.pruned)
+            (settled_is s k w ∙ ap (λ q. leb (length q) LEAF_ROWS || list_all (is_stuck s k) q) (same_leaf l.front n) ∙ front_settled s k (leaf_of n) l f.filled)
+            (subst (AllByRecursion (λ (x : Hop × Plain). below (is_right_at s) s k x ≡ true)) (sym (same_children l.front n)) each);
+        may = held (may_stand s) f.may;
+      };
+      same = moved;
+    }
+
+-- a stuck row may pass no step that may be made
+used_all : (used : List AttrNo) (a : AttrNo) (conj : List Pred) → list_all (λ (p : Pred). is_used used p.attr) conj ≡ true → is_used used a ≡ false → list_any (is_on a) conj ≡ false
+used_all used a [] h u = refl
+used_all used a (p ∷ ps) h u =
+    let k = and_parts (is_used used p.attr) (list_all (λ (q : Pred). is_used used q.attr) ps) h in
+    or_from (is_on a p) (list_any (is_on a) ps) (by_test (is_on a p) refl k.0) (used_all used a ps k.1 u)
+  where
+    by_test : (b : Bool) → is_on a p ≡ b → is_used used p.attr ≡ true → b ≡ false
+    by_test true e t = absurd (false≢true (sym u ∙ ap (is_used used) (sym (same_attribute p.attr a e)) ∙ t))
+    by_test false e t = refl
+
+pub stuck_stays : (s : Attributes) (hop : Hop) (k : Known) (row : Row) → is_stuck s k row ≡ true → is_open hop k ≡ true → may_pass s hop k.range row ≡ false
+stuck_stays s hop k row h o =
+    let q = and_parts (list_all (λ (p : Pred). is_used k.used p.attr) row.conj) (is_between s k row) h in by_hop hop q.0 q.1 o
+  where
+    halves : (c l u : Bool) → not (c && (l || u)) ≡ true → c ≡ true → (l ≡ false) × (u ≡ false)
+    halves true true u t e = absurd (cc)
+    halves true false true t e = absurd (cc)
+    halves true false false t e = (refl, refl)
+    halves false l u t e = absurd (cc)
+
+    by_hop : (g : Hop) → list_all (λ (p : Pred). is_used k.used p.attr) row.conj ≡ true → is_between s k row ≡ true → is_open g k ≡ true → may_pass s g k.range row ≡ false
+    by_hop (Part a) u b t = used_all k.used a row.conj u (not-true (is_used k.used a) t)
+    by_hop Low u b t =
+        (halves (can_split k.range) (spans_inside s (lower k.range) row) (spans_inside s (upper k.range) row) b t).0
+    by_hop High u b t =
+        (halves (can_split k.range) (spans_inside s (lower k.range) row) (spans_inside s (upper k.range) row) b t).1
+
+pub stuck_stay : (s : Attributes) (hop : Hop) (k : Known) (rows : List Row) → list_all (is_stuck s k) rows ≡ true → is_open hop k ≡ true → list_all (λ row. not (may_pass s hop k.range row)) rows ≡ true
+stuck_stay s hop k [] h o = refl
+stuck_stay s hop k (row ∷ rows) h o =
+    let q = and_parts (is_stuck s k row) (list_all (is_stuck s k) rows) h in
+    and_from (not (may_pass s hop k.range row)) (list_all (λ r. not (may_pass s hop k.range r)) rows) (not_from_false (may_pass s hop k.range row) (stuck_stays s hop k row q.0 o)) (stuck_stay s hop k rows q.1 o)
+
+-- where a row of the leaf may pass a step, there is no child yet
+drawn_each : (s : Attributes) (k : Known) (xs : List (Hop × Plain)) (rows : List Row) → list_all (λ row. not (passes_one s k xs row)) rows ≡ true → AllByRecursion (λ (x : Hop × Plain). list_any (may_pass s x.0 k.range) rows ≡ false) xs
+drawn_each s k [] rows h = tt
+drawn_each s k (x ∷ xs) rows h = (first rows h, drawn_each s k xs rows (rest rows h))
+  where
+    both : (row : Row) → not (passes_one s k (x ∷ xs) row) ≡ true → (may_pass s x.0 k.range row ≡ false) × (passes_one s k xs row ≡ false)
+    both row t = or_parts (may_pass s x.0 k.range row) (passes_one s k xs row) (not-true (passes_one s k (x ∷ xs) row) t)
+
+    first : (ys : List Row) → list_all (λ row. not (passes_one s k (x ∷ xs) row)) ys ≡ true → list_any (may_pass s x.0 k.range) ys ≡ false
+    first [] t = refl
+    first (y ∷ ys) t =
+        let q = and_parts (not (passes_one s k (x ∷ xs) y)) (list_all (λ row. not (passes_one s k (x ∷ xs) row)) ys) t in or_from (may_pass s x.0 k.range y) (list_any (may_pass s x.0 k.range) ys) (both y q.0).0 (first ys q.1)
+
+    rest : (ys : List Row) → list_all (λ row. not (passes_one s k (x ∷ xs) row)) ys ≡ true → list_all (λ row. not (passes_one s k xs row)) ys ≡ true
+    rest [] t = refl
+    rest (y ∷ ys) t =
+        let q = and_parts (not (passes_one s k (x ∷ xs) y)) (list_all (λ row. not (passes_one s k (x ∷ xs) row)) ys) t in and_from (not (passes_one s k xs y)) (list_all (λ row. not (passes_one s k xs row)) ys) (not_from_false (passes_one s k xs y) (both y q.0).1) (rest ys q.1)
+
+pub not_there : (s : Attributes) (hop : Hop) (k : Known) (n : Plain) → is_drawn_at s k n ≡ true → list_any (may_pass s hop k.range) (leaf_of n) ≡ true → child hop n ≡ None
+not_there s hop k n d h = by_child (child hop n) refl
+  where
+    by_child : (o : Option Plain) → child hop n ≡ o → child hop n ≡ None
+    by_child None e = e
+    by_child (Some m) e =
+        absurd (false≢true (sym (at_child (λ (x : Hop × Plain). list_any (may_pass s x.0 k.range) (leaf_of n) ≡ false) hop n m e (drawn_each s k (children n) (leaf_of n) (sym (drawn_is s k n) ∙ d))) ∙ h))
+
+-- what passes from a filled leaf, and what is left
+pub record Passing (s : Attributes) (hop : Hop) (k : Known) (leaf : List Row) : Type 0 where
+  pub few : length (filter (may_pass s hop k.range) leaf) ≤ LEAF_ROWS + 1
+  pub some : 0 < length (filter (may_pass s hop k.range) leaf)
+  pub settled : (leb (length (filter (λ row. not (may_pass s hop k.range row)) leaf)) LEAF_ROWS || list_all (is_stuck s k) (filter (λ row. not (may_pass s hop k.range row)) leaf)) ≡ true
+  pub whole : LEAF_ROWS < length (filter (may_pass s hop k.range) leaf) → filter (may_pass s hop k.range) leaf ≡ leaf
+
+none_left : (q : Row → Bool) (rows : List Row) → length (filter (λ row. not (q row)) rows) ≡ 0 → list_all q rows ≡ true
+none_left q [] h = refl
+none_left q (row ∷ rows) h = by_test (q row) refl h (none_left q rows)
+  where
+    by_test : (b : Bool) → q row ≡ b → length (cond (not b) (row ∷ filter (λ r. not (q r)) rows) (filter (λ r. not (q r)) rows)) ≡ 0 → (length (filter (λ r. not (q r)) rows) ≡ 0 → list_all q rows ≡ true) → (b && list_all q rows) ≡ true
+    by_test true e z f = f z
+    by_test false e z f = absurd (omega arith)
+
+none_any : (q : Row → Bool) (rows : List Row) → list_all (λ row. not (q row)) rows ≡ true → list_any q rows ≡ false
+none_any q [] h = refl
+none_any q (row ∷ rows) h =
+    let k = and_parts (not (q row)) (list_all (λ r. not (q r)) rows) h in or_from (q row) (list_any q rows) (not-true (q row) k.0) (none_any q rows k.1)
+
+-- where none passes but the last
+last_passes : (q : Row → Bool) (front : List Row) (x : Row) → list_all (λ row. not (q row)) front ≡ true → list_any q (front ++ x ∷ []) ≡ true → q x ≡ true
+last_passes q front x h k = by_test (q x) refl
+  where
+    by_test : (b : Bool) → q x ≡ b → b ≡ true
+    by_test true e = refl
+    by_test false e =
+        sym (list_any-append q front (x ∷ []) ∙ or_from (list_any q front) (q x || false) (none_any q front h) (ap (λ b. b || false) e)) ∙ k
+
+short : (q : Row → Bool) (x : Row) → length (filter q (x ∷ [])) ≤ 1
+short q x = by_test (q x)
+  where
+    by_test : (b : Bool) → length (cond b (x ∷ []) []) ≤ 1
+    by_test true = omega arith
+    by_test false = omega arith
+
+pub passing : (s : Attributes) (hop : Hop) (k : Known) (leaf : List Row) → is_filled s k leaf ≡ true → is_open hop k ≡ true → list_any (may_pass s hop k.range) leaf ≡ true → 0 < length leaf → Passing s hop k leaf
+passing s hop k leaf f o h l =
+    by_cases (leb (length leaf) (LEAF_ROWS + 1)) refl f (has_last leaf l)
+  where
+    by_cases : (b : Bool) → leb (length leaf) (LEAF_ROWS + 1) ≡ b → (b || list_all (is_stuck s k) (take (length leaf - 1) leaf)) ≡ true → HasLast leaf → Passing s hop k leaf
+    by_cases true e t z =
+        let p = may_pass s hop k.range in
+        let n = λ (row : Row). not (p row) in
+        let all = lengths p leaf in
+        let sum = length-append (filter p leaf) (filter n leaf) in
+        let top = leb-true (length leaf) (LEAF_ROWS + 1) e in
+        let some = filter_some p leaf h in
+        record {
+          few = omega (arith, all, sum, top);
+          some = some;
+          settled = or_left (leb (length (filter n leaf)) LEAF_ROWS) (list_all (is_stuck s k) (filter n leaf)) (le-leb (length (filter n leaf)) LEAF_ROWS (omega (arith, all, sum, top, some)));
+          whole = λ w. filter_whole p leaf (none_left p leaf (omega (arith, all, sum, top, w)));
+        }
+    by_cases false e t z =
+        let p = may_pass s hop k.range in
+        let n = λ (row : Row). not (p row) in
+        let stuck : list_all (is_stuck s k) z.front ≡ true = ap (list_all (is_stuck s k)) (sym z.taken) ∙ t in
+        let none = stuck_stay s hop k z.front stuck o in
+        let moved : filter p leaf ≡ filter p (z.last ∷ []) =
+        ap (filter p) z.is ∙ filter-append p z.front (z.last ∷ []) ∙ ap (λ q. q ++ filter p (z.last ∷ [])) (filter_empty p z.front none) in
+        let one = short p z.last in
+        let passes = last_passes p z.front z.last none (ap (list_any p) (sym z.is) ∙ h) in
+        let kept : filter n leaf ≡ z.front =
+        ap (filter n) z.is ∙ filter-append n z.front (z.last ∷ []) ∙ ap (λ q. q ++ filter n (z.last ∷ [])) (filter_whole n z.front none) ∙ ap (λ b. z.front ++ cond (not b) (z.last ∷ []) []) passes ∙ append-nil z.front in
+        record {
+          few = omega (arith, ap length moved, one);
+          some = filter_some p leaf h;
+          settled = or_right (leb (length (filter n leaf)) LEAF_ROWS) (list_all (is_stuck s k) (filter n leaf)) (ap (list_all (is_stuck s k)) kept ∙ stuck);
+          whole = λ w. absurd (omega (arith, ap length moved, one, w));
+        }
+
+-- a node of rows alone
+pub alone : (rows : List Row) → rows_below (node rows no_part no_half no_half) ≡ rows
+alone rows = rows_are (node rows no_part no_half no_half) ∙ append-nil rows
+
+all_true : {X : Type 0} (xs : List X) → list_all (λ _. true) xs ≡ true
+all_true [] = refl
+all_true (x ∷ xs) = all_true xs
+
+pub leaf_filled : (s : Attributes) (k : Known) (rows : List Row) → list_all (spans_inside s k.range) rows ≡ true → list_all (may_stand s) rows ≡ true → 0 < length rows → length rows ≤ LEAF_ROWS + 1 → IsFilled s k (node rows no_part no_half no_half)
+leaf_filled s k rows inside may some few =
+    record {
+      placed = is_placed_from s k (node rows no_part no_half no_half) (record { rise = refl; inside = ap (list_all (spans_inside s k.range)) (alone rows) ∙ inside; open_steps = tt; pass = tt });
+      drawn = all_true rows;
+      pruned = refl;
+      below = refl;
+      may = ap (list_all (may_stand s)) (alone rows) ∙ may;
+      some = some;
+      filled = or_left (leb (length rows) (LEAF_ROWS + 1)) (list_all (is_stuck s k) (take (length rows - 1) rows)) (le-leb (length rows) (LEAF_ROWS + 1) few);
+    }
+
+-- a row that has an attribute has its span inside the attribute's domain
+span_is_inside : (d : Range) (o : Option Range) → IfSome o (IsPart d) → (o ≡ None → ⊥) → is_inside d o ≡ true
+span_is_inside d None h k = absurd (k refl)
+span_is_inside d (Some r) h k = and_from (le_z d.0 r.0) (le_z r.1 d.1) (le_test d.0 r.0 h.low) (le_test r.1 d.1 h.high)
+
+pub inside_whole : (s : Attributes) (a : AttrNo) (row : Row) → IsSchema s → may_stand s row ≡ true → has a row ≡ true → spans_inside s (whole s a) row ≡ true
+inside_whole s a row f may h = by_range (range_of s a) refl
+  where
+    lies : row_lies s row ≡ true
+    lies = (and_parts (row_lies s row) (ltb (id_of row) LOG_CHANGES) (and_parts (is_conj row.conj) (row_lies s row && ltb (id_of row) LOG_CHANGES) may).1).0
+
+    there : span_in s a row.conj ≡ None → ⊥
+    there e = false≢true (sym ((spans_are s a row.conj lies).0 (ap is_some e)) ∙ h)
+
+    by_range : (o : Option Range) → range_of s a ≡ o → spans_inside s (option_map (λ r. (a, r)) o) row ≡ true
+    by_range None e = refl
+    by_range (Some d) e =
+        span_is_inside d (span_in s a row.conj) (spans_lie s a row.conj d f (IsConj-from_is_conj row.conj (and_parts (is_conj row.conj) (row_lies s row && ltb (id_of row) LOG_CHANGES) may).0) lies e) there
+
+-- the rows that may pass a step are inside the range below it
+pub inside_below : (s : Attributes) (hop : Hop) (k : Known) (rows : List Row) → IsSchema s → list_all (may_stand s) rows ≡ true → list_all (may_pass s hop k.range) rows ≡ true → list_all (spans_inside s (known_below s hop k).range) rows ≡ true
+inside_below s (Part a) k [] f may pass = refl
+inside_below s (Part a) k (row ∷ rows) f may pass =
+    let m = and_parts (may_stand s row) (list_all (may_stand s) rows) may in
+    let p = and_parts (has a row) (list_all (has a) rows) pass in
+    and_from (spans_inside s (whole s a) row) (list_all (spans_inside s (whole s a)) rows) (inside_whole s a row f m.0 p.0) (inside_below s (Part a) k rows f m.1 p.1)
+inside_below s Low k rows f may pass = pass
+inside_below s High k rows f may pass = pass

@@ -1,0 +1,13 @@
+pub mod Lists
+pub mod OneLevel
+pub mod Steps
+pub mod Fills
+pub mod AtPlaces
+pub mod Choices
+pub mod PartPlaces
+pub mod LevelsLeft
+pub mod Settled
+pub mod Ways
+pub mod Downwards
+pub mod Contents
+pub mod Roots

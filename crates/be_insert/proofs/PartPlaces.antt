@@ -1,0 +1,38 @@
+-- A part put among parts that rise.
+use Rattle.std.proofs.Common.{◌≡◌, ◌+◌, ◌<◌, ℕ, zero, suc, Bool, true, false, cond, ltb, List, [], ◌∷◌, length, slice_get, get_or, Some, refl, sym, ap, ◌∙◌, arith}
+use Rattle.std.specs.List.{insert}
+use Rattle.be_base.specs.declared.names.AttrNo.{AttrNo}
+use Rattle.be_shape.specs.declared.nodes.Part.{Part}
+use Rattle.be_shape.specs.Plain.{Plain, part, part_as, parts_of, parts_as}
+use Rattle.be_shape.specs.Shape.{attrs_of}
+use Rattle.be_shape.specs.Children.{with_part}
+use Rattle.be_insert.specs.Rooms.{part_place}
+
+pub parts_put : (ps : List Part) (p : Part) (a : AttrNo) (m : Plain) → part_as p ≡ (a, m) → parts_as (insert ps (part_place a (parts_as ps)) p) ≡ with_part a m (parts_as ps)
+parts_put [] p a m h = ap (λ q. part q.0 q.1 (parts_of [])) h
+parts_put (q ∷ ps) p a m h = by_test (ltb a.0 (part_as q).0.0) refl (parts_put ps p a m h)
+  where
+    by_test : (b : Bool) → ltb a.0 (part_as q).0.0 ≡ b → parts_as (insert ps (part_place a (parts_as ps)) p) ≡ with_part a m (parts_as ps)
+        → parts_as (insert (q ∷ ps) (cond b 0 (part_place a (parts_as ps) + 1)) p) ≡ cond b (part a m (parts_as (q ∷ ps))) (part (part_as q).0 (part_as q).1 (with_part a m (parts_as ps)))
+    by_test true e r = ap (λ z. part z.0 z.1 (parts_as (q ∷ ps))) h
+    by_test false e r =
+        let j : part_place a (parts_as ps) + 1 ≡ suc (part_place a (parts_as ps)) = omega arith in
+        ap (λ i. parts_as (insert (q ∷ ps) i p)) j ∙ ap (λ z. part (part_as q).0 (part_as q).1 z) r
+
+-- the attribute of a part at its place
+pub attrs_length : (ps : List Part) → length (attrs_of (parts_as ps)) ≡ length ps
+attrs_length [] = refl
+attrs_length (p ∷ ps) = ap (λ n. suc n) (attrs_length ps)
+
+pub attr_there : (ps : List Part) (i : ℕ) (p : Part) → i < length ps → p ≡ get_or ps i p → slice_get (attrs_of (parts_as ps)) i ≡ Some (part_as p).0
+attr_there [] i p l e = absurd (omega arith)
+attr_there (q ∷ ps) zero p l e = ap (λ z. Some (part_as z).0) (sym e)
+attr_there (q ∷ ps) (suc i) p l e = attr_there ps i p (omega arith) e
+
+within : (xs : List AttrNo) (i : ℕ) (x : AttrNo) → slice_get xs i ≡ Some x → i < length xs
+within [] i x h = absurd (cc)
+within (y ∷ xs) zero x h = omega arith
+within (y ∷ xs) (suc i) x h = let l = within xs i x h in omega arith
+
+pub part_within : (ps : List Part) (i : ℕ) (a : AttrNo) → slice_get (attrs_of (parts_as ps)) i ≡ Some a → i < length ps
+part_within ps i a h = omega (arith, within (attrs_of (parts_as ps)) i a h, attrs_length ps)

@@ -1,0 +1,90 @@
+//! What a row may do at a node.
+
+ghost use Rattle.std.specs.Prelude.{◌≡◌, ◌<◌, ◌&&◌, ◌||◌, true};
+ghost use Rattle.be_model.specs.declared.paths.Hop.TheVariants.{Low, High};
+ghost use Rattle.std.specs.List.{count_by, list_all};
+ghost use Rattle.be_model.specs.Lies.{row_lies};
+ghost use Rattle.be_model.specs.Rows.{has};
+ghost use Rattle.be_shape.specs.Shape.{spans_inside, can_split, is_used, is_stuck};
+ghost use Rattle.be_shape.specs.Ranges.{is_bounded, is_rising};
+ghost use Rattle.be_shape.specs.Children.{may_pass};
+ghost use Rattle.be_insert.specs.Spots.{known_of};
+
+use crate::spots::Spot;
+use be_base::AttrNo;
+use be_model::{Hop, Row, Schema};
+use be_shape::{Leaf, NodeRange, lower_range, upper_range};
+
+/// Whether the row has its span inside the range. Without a range this says nothing.
+pub(crate) fn is_inside(row: &Row, s: &Schema, range: NodeRange) -> bool
+    requires { row_lies s.now row.now ≡ true }
+    ensures { result ≡ spans_inside s.now range row.now }
+{
+    match range {
+        None => true,
+        Some((a, ends)) => match row.conj.span(s, a) {
+            Some(span) => ends.0 <= span.0 && span.1 <= ends.1,
+            None => false,
+        },
+    }
+}
+
+/// Whether the row has a predicate on the attribute.
+pub(crate) fn has_attr(row: &Row, a: AttrNo) -> bool
+    ensures { result ≡ has a row.now }
+{
+    row.conj.preds().iter().any(|pred| pred.attr.0 == a.0)
+}
+
+/// Whether the row may stand below the step.
+pub(crate) fn may_pass(row: &Row, s: &Schema, hop: Hop, range: NodeRange) -> bool
+    requires lies { row_lies s.now row.now ≡ true }
+    requires bounded { is_bounded range ≡ true }
+    requires rising { is_rising range ≡ true }
+    ensures { result ≡ may_pass s.now hop range row.now }
+{
+    match hop {
+        Hop::Part(a) => has_attr(row, a),
+        Hop::Low => is_inside(row, s, lower_range(range)),
+        Hop::High => is_inside(row, s, upper_range(range)),
+    }
+}
+
+/// Whether the range has more than one value.
+pub(crate) fn can_split(range: NodeRange) -> bool
+    ensures { result ≡ can_split range }
+{
+    match range {
+        None => false,
+        Some((_, (lo, hi))) => lo < hi,
+    }
+}
+
+fn is_used(used: &[AttrNo], a: AttrNo) -> bool
+    ensures { result ≡ is_used used.now a }
+{
+    used.iter().any(|u| u.0 == a.0)
+}
+
+fn are_all_used(row: &Row, used: &[AttrNo]) -> bool
+    ensures { result ≡ list_all (λ p. is_used used.now p.attr) row.now.conj }
+{
+    row.conj.preds().iter().all(|pred| is_used(used, pred.attr))
+}
+
+/// Whether neither a part nor a half could take the row.
+pub(crate) fn is_stuck(row: &Row, s: &Schema, k: &Spot) -> bool
+    requires { row_lies s.now row.now ≡ true }
+    ensures { result ≡ is_stuck s.now (known_of k.now) row.now }
+{
+    are_all_used(row, k.used.as_slice()) && !fits_a_half(row, s, k.range)
+}
+
+fn fits_a_half(row: &Row, s: &Schema, range: NodeRange) -> bool
+    requires lies { row_lies s.now row.now ≡ true }
+    requires bounded { is_bounded range ≡ true }
+    requires rising { is_rising range ≡ true }
+    ensures { result ≡ (can_split range && (may_pass s.now Low range row.now || may_pass s.now High range row.now)) }
+{
+    can_split(range) && (may_pass(row, s, Hop::Low, range) || may_pass(row, s, Hop::High, range))
+}
