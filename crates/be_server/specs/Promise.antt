@@ -122,8 +122,8 @@ pub record CommandState : Type 0 where
   pub shelf : ℕ
   pub link : LinkState
 
-abbrev pub command_state : ℕ → LinkState → CommandState
-command_state shelf link = record { shelf = shelf; link = link }
+abbrev pub command_state : ℕ → SourceState → SinkState → CommandState
+command_state shelf source sink = record { shelf = shelf; link = link source sink }
 
 -- a session was served with the file's schema, and ended so
 pub record ServedWith (Untouched : Type 0) (file : ToldFile) (before after : LinkState) (end : SessionEnd) : Type 0 where

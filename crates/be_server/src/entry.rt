@@ -5,7 +5,7 @@ ghost use Rattle.be_server.specs.Exact.{EndsExactly};
 ghost use Rattle.be_server.specs.Files.{AsksFor};
 ghost use Rattle.be_io.specs.Counts.{HasRisen};
 ghost use Rattle.be_io.specs.Outside.{source_state, sink_state};
-ghost use Rattle.be_server.specs.Promise.{link, command_state, Ends, TakesWithin};
+ghost use Rattle.be_server.specs.Promise.{command_state, Ends, TakesWithin};
 ghost use Rattle.be_server.specs.Words.{command_of, words_of, files};
 
 use crate::run::run;
@@ -40,18 +40,14 @@ where
     G: Gate + Sync,
     // How the command ends: each status with its cause, and with what was read and written.
     ensures ends { Ends (command_of (words_of words.now)) ((input.new ≡ input.old) × (out.new ≡ out.old)) (F.content shelf.old)
-        (command_state (F.read_faults shelf.old)
-        (link (source_state S.Source input.old) (sink_state K.Sink out.old)))
-        (command_state (F.read_faults shelf.new)
-        (link (source_state S.Source input.new) (sink_state K.Sink out.new)))
+        (command_state (F.read_faults shelf.old) (source_state S.Source input.old) (sink_state K.Sink out.old))
+        (command_state (F.read_faults shelf.new) (source_state S.Source input.new) (sink_state K.Sink out.new))
         result }
 
     // A faulty schema and a file over the limit are named. Where nothing is wrong, all is done.
     ensures exact { EndsExactly (command_of (words_of words.now)) (F.content shelf.old)
-        (command_state (F.read_faults shelf.old)
-        (link (source_state S.Source input.old) (sink_state K.Sink out.old)))
-        (command_state (F.read_faults shelf.new)
-        (link (source_state S.Source input.new) (sink_state K.Sink out.new)))
+        (command_state (F.read_faults shelf.old) (source_state S.Source input.old) (sink_state K.Sink out.old))
+        (command_state (F.read_faults shelf.new) (source_state S.Source input.new) (sink_state K.Sink out.new))
         result }
 
     // The words are refused exactly where they have no reading.

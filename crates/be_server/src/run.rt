@@ -3,7 +3,7 @@
 ghost use Rattle.std.specs.Prelude.{◌≡◌, ◌∷◌, []};
 ghost use Rattle.be_server.specs.Files.{Loads, AsksFor};
 ghost use Rattle.be_io.specs.Outside.{source_state, sink_state};
-ghost use Rattle.be_server.specs.Promise.{link, command_state, RunEnds, TakesWithin};
+ghost use Rattle.be_server.specs.Promise.{command_state, RunEnds, TakesWithin};
 ghost use Rattle.be_server.specs.Status.{status_of};
 
 use crate::session::{Session, SessionEnd};
@@ -46,10 +46,8 @@ pub fn run<F: Shelf, S: Source, K: Sink>(
     out: &mut K,
 ) -> Status
     ensures ends { RunEnds ((input.new ≡ input.old) × (out.new ≡ out.old)) (F.content shelf.old schema.now)
-        (command_state (F.read_faults shelf.old)
-        (link (source_state S.Source input.old) (sink_state K.Sink out.old)))
-        (command_state (F.read_faults shelf.new)
-        (link (source_state S.Source input.new) (sink_state K.Sink out.new)))
+        (command_state (F.read_faults shelf.old) (source_state S.Source input.old) (sink_state K.Sink out.old))
+        (command_state (F.read_faults shelf.new) (source_state S.Source input.new) (sink_state K.Sink out.new))
         result }
     ensures within { TakesWithin (S.taken input.old) (S.taken input.new) }
     ensures asked { AsksFor (schema.now ∷ []) (F.asked shelf.old) (F.asked shelf.new) }
