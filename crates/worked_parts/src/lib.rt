@@ -8,9 +8,13 @@ mod change;
 #[cfg(test)]
 mod core_;
 #[cfg(test)]
+mod dice;
+#[cfg(test)]
 mod event;
 #[cfg(test)]
 mod expr;
+#[cfg(test)]
+mod insert;
 mod io;
 #[cfg(test)]
 mod mail;
@@ -18,6 +22,8 @@ mod mail;
 mod match_;
 #[cfg(test)]
 mod model;
+#[cfg(test)]
+mod plain_walk;
 #[cfg(test)]
 mod score;
 #[cfg(test)]
