@@ -4,6 +4,8 @@
 #[cfg(test)]
 mod base;
 #[cfg(test)]
+mod event;
+#[cfg(test)]
 mod io;
 #[cfg(test)]
 mod model;
