@@ -313,22 +313,33 @@ fn repeated(alloc: Global, word: &str, times: u32) -> Result<String, Fail> {
 fn written_values_are_counted(rt: HostRuntime) -> Result<(), Fail> {
     let alloc = rt.alloc();
     let schema = order_schema(&rt, alloc);
-    let most = repeated(alloc, "1", 64)?;
-    let more = repeated(alloc, "1", 65)?;
-    let many = repeated(alloc, "buy", 70)?;
-    for (text, want) in [
-        (format!(in alloc; "price={most}")?, "price=1"),
-        (format!(in alloc; "price={more}")?, "MANY 65"),
-        (format!(in alloc; "side={many} price={more}")?, "MANY 70"),
-        (format!(in alloc; "side={most} price={more}")?, "DOM 2"),
-        (format!(in alloc; "price={more} price=1")?, "TWICE 0"),
-        (format!(in alloc; "price={more} qty=6")?, "DOM 1"),
-        (format!(in alloc; "price={more} volume=6")?, "ATTR volume"),
-        (format!(in alloc; "price={more} qty")?, "BAD"),
+    for (front, times, back, want) in [
+        ("price=", 64, "", "price=1"),
+        ("price=", 65, "", "MANY 65"),
+        ("qty={1,2} price=", 70, " side={buy}", "MANY 70"),
+        ("price=", 65, " price=1", "TWICE 0"),
+        ("price=", 65, " qty=6", "DOM 1"),
+        ("side=", 65, " price={1,2}", "DOM 2"),
+        ("price=", 65, " volume=6", "ATTR volume"),
+        ("price=", 65, " qty", "BAD"),
     ] {
+        let set = repeated(alloc, "1", times)?;
+        let text = format!(in alloc; "{front}{set}{back}")?;
         let found = read_back(alloc, &schema, text.as_str().as_bytes())?;
         assert_eq!(rt; found.as_str(), want, "{text}");
     }
+    Ok(())
+}
+
+#[test]
+fn the_first_of_two_large_sets_is_told(rt: HostRuntime) -> Result<(), Fail> {
+    let alloc = rt.alloc();
+    let schema = order_schema(&rt, alloc);
+    let first = repeated(alloc, "buy", 66)?;
+    let second = repeated(alloc, "1", 67)?;
+    let text = format!(in alloc; "side={first} price={second}")?;
+    let found = read_back(alloc, &schema, text.as_str().as_bytes())?;
+    assert_eq!(rt; found.as_str(), "MANY 66");
     Ok(())
 }
 
