@@ -14,6 +14,8 @@ mod event;
 #[cfg(test)]
 mod expr;
 #[cfg(test)]
+mod expr_written;
+#[cfg(test)]
 mod insert;
 mod io;
 #[cfg(test)]
