@@ -1,0 +1,21 @@
+#!/usr/bin/env bash
+# Prints how long a tree takes to get 50,000 and 100,000 rows of one to four random predicates over ten attributes, and
+# 10,000 and 20,000 rows that are all stuck at one node, with the ratio for twice the rows. The rows are made in that
+# time too. It builds, and so proves, a program of its own. No part of the gate.
+# shellcheck source=common.sh
+. "$(dirname "${BASH_SOURCE[0]}")/common.sh"
+own_crate insertbench be_base be_model be_shape be_score be_insert
+build_own insertbench rows 1
+
+# measure KIND ROWS: the least seconds of processor time of five runs
+measure() {
+    least 5 /dev/null "$own" "$1" "$2"
+    [ "$(cat "$room/out.txt")" = "$2" ] || { echo "other rows were placed" >&2; exit 1; }
+}
+
+half="$(measure rows 50000)" && all="$(measure rows 100000)" || exit 1
+stuck_half="$(measure stuck 10000)" && stuck_all="$(measure stuck 20000)" || exit 1
+awk -v half="$half" -v all="$all" -v stuck_half="$stuck_half" -v stuck_all="$stuck_all" 'BEGIN {
+    printf "placing 50,000 random rows: %.3f s; 100,000: %.3f s, %.2f times\n", half, all, all / half
+    printf "placing 10,000 stuck rows: %.3f s; 20,000: %.3f s, %.2f times\n", stuck_half, stuck_all, stuck_all / stuck_half
+}'
