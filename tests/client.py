@@ -36,6 +36,12 @@ def interactive(schema):
     same("no hit", session.publish("-"), [])
     same("a removal", session.unsubscribe("cheap"), 3)
     same("names", session.names(), ["buys"])
+    try:
+        sys.exit(f"FAILED: client: a LF within a line: {session.ask('LIST' + chr(10) + 'LIST')!r}")
+    except ValueError:
+        pass
+    next(session.ask_all(["PUB -", "LIST"]))
+    same("after a reply that was left unread", session.publish("side=buy"), ["buys"])
     same("the code", session.close(), 0)
 
 

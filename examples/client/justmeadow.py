@@ -4,9 +4,9 @@
         session.subscribe("cheap", "price <= 250")
         print(session.publish("price=240"))          # ['cheap']
 
-Each line has one reply, which is written before the next line is read. So `ask` sends a line and waits for its
-reply. `ask_all` sends many lines from a thread of its own while the caller reads: whoever sends first and reads
-later waits for ever, once both pipes are full."""
+Each line has one reply, written before the next line is read: `ask` sends a line and waits for its reply. `ask_all`
+sends many from a thread while the caller reads; who sends first and reads later waits for ever, once both pipes are full."""
+import contextlib
 import subprocess
 import threading
 
@@ -23,6 +23,12 @@ class Ended(Exception):
     """The program has ended, or has closed its output, before a whole reply."""
 
 
+def one_line(line):
+    if "\n" in line:
+        raise ValueError(f"a LF within {line!r} would be a second line")
+    return line.encode() + b"\n"
+
+
 class Session:
     def __init__(self, command):
         self.process = subprocess.Popen(command, stdin=subprocess.PIPE, stdout=subprocess.PIPE)
@@ -35,10 +41,8 @@ class Session:
 
     def close(self):
         """Ends the input, at which the session leaves, and returns the program's exit code."""
-        try:
+        with contextlib.suppress(BrokenPipeError):
             self.process.stdin.close()
-        except BrokenPipeError:
-            pass
         self.process.stdout.read()
         self.process.stdout.close()
         return self.process.wait()
@@ -53,7 +57,7 @@ class Session:
     def ask(self, line):
         """Sends one line, and returns its reply."""
         try:
-            self.process.stdin.write(line.encode() + b"\n")
+            self.process.stdin.write(one_line(line))
             self.process.stdin.flush()
         except BrokenPipeError as error:
             raise Ended("the program reads no more") from error
@@ -61,20 +65,20 @@ class Session:
 
     def ask_all(self, lines):
         """Sends these lines, and gives their replies in order. It reads all of them before the next `ask`."""
-        lines = list(lines)
-        sender = threading.Thread(target=self._send, args=(lines,), daemon=True)
-        sender.start()
-        for _ in lines:
-            yield self.reply()
-        sender.join()
+        lines = [one_line(line) for line in lines]
+        threading.Thread(target=self._send, args=(lines,), daemon=True).start()
+        left = iter(lines)
+        try:
+            for _ in left:
+                yield self.reply()
+        finally:
+            for _ in left:  # a caller that stops early leaves no reply behind
+                self.reply()
 
     def _send(self, lines):
-        try:
-            for line in lines:
-                self.process.stdin.write(line.encode() + b"\n")
+        with contextlib.suppress(BrokenPipeError, ValueError):  # the reader meets the end, and says so
+            self.process.stdin.write(b"".join(lines))
             self.process.stdin.flush()
-        except (BrokenPipeError, ValueError):
-            pass  # the reader meets the end, and says so
 
     def _words(self, line, wanted):
         words = self.ask(line).split(" ")
@@ -83,7 +87,6 @@ class Session:
         return words
 
     def subscribe(self, name, condition):
-        """Keeps the condition under the name, and returns the number of the change."""
         return int(self._words(f"SUB {name} {condition}", "OK")[1])
 
     def unsubscribe(self, name):
