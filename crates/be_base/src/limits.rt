@@ -48,6 +48,15 @@ pub const INT_SIZE: u64 = 1099511627776;
 /// The rows of a leaf that may still be split.
 pub const LEAF_ROWS: usize = 16;
 
+/// The rows of a node, and of all below it, that may be merged into the node above.
+pub const MERGE_ROWS: usize = 4;
+
+/// The rows of a leaf that are worth a node of their own before the leaf is full.
+pub const EARLY_ROWS: usize = 8;
+
+/// The weight that a row has to gain by a move to another part.
+pub const SHIFT_GAIN: usize = 500;
+
 /// Seats of a desk, and scripts of one run.
 pub const SEATS: u32 = 64;
 

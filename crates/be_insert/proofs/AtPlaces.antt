@@ -9,8 +9,8 @@ use Rattle.be_base.specs.declared.limits.TheConstants.{LEAF_ROWS}
 use Rattle.be_model.specs.declared.changes.Row.{Row}
 use Rattle.be_model.specs.Schemas.{Attributes}
 use Rattle.be_shape.specs.Shape.{Known, is_stuck}
-use Rattle.be_insert.specs.Right.{is_filled, settles}
-use Rattle.be_insert.proofs.Lists.{filter_whole, filter_empty}
+use Rattle.be_insert.specs.Filled.{is_filled, settles}
+use Rattle.be_shape.proofs.Lists.{filter_whole, filter_empty}
 
 -- a test of the first rows, and of the next
 pub all_next : (p : Row → Bool) (xs : List Row) (i : ℕ) (x : Row) → list_all p (take i xs) ≡ true → slice_get xs i ≡ Some x → p x ≡ true → list_all p (take (i + 1) xs) ≡ true

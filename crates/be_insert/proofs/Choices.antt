@@ -14,7 +14,7 @@ use Rattle.be_model.specs.Schemas.{Attributes}
 use Rattle.be_shape.specs.Shape.{NodeRange, Known, can_split, is_used, is_stuck, is_between, spans_inside, lower, upper}
 use Rattle.be_shape.specs.Children.{may_pass}
 use Rattle.be_score.specs.Scores.{IsCandidate}
-use Rattle.be_insert.specs.Right.{better_half, half_for}
+use Rattle.be_insert.specs.Filled.{better_half, half_for}
 
 -- what is counted is there, and where nothing is counted, there is nothing
 counted : (p : Row → Bool) (rows : List Row) → 0 < count_by p rows → list_any p rows ≡ true

@@ -1,5 +1,3 @@
-pub mod Lists
-pub mod OneLevel
 pub mod Steps
 pub mod Fills
 pub mod AtPlaces
@@ -9,5 +7,4 @@ pub mod LevelsLeft
 pub mod Settled
 pub mod Ways
 pub mod Downwards
-pub mod Contents
 pub mod Roots

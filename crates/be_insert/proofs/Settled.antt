@@ -20,10 +20,13 @@ use Rattle.be_shape.specs.Shape.{Known, is_stuck, may_stand}
 use Rattle.be_shape.specs.Paths.{child}
 use Rattle.be_shape.specs.Children.{known_below, is_open, may_pass, with_child, with_leaf}
 use Rattle.be_shape.proofs.Children.{rows_are}
-use Rattle.be_insert.specs.Right.{IsRight, settles, is_filled, IsFilled}
-use Rattle.be_insert.proofs.Lists.{all_front, filter_passes, filter_keeps}
-use Rattle.be_insert.proofs.Steps.{Leaves, split, settled_is}
-use Rattle.be_insert.proofs.Fills.{has_last, cut, stays, not_there, Passing, passing, alone, leaf_filled, inside_below, stuck_stay, last_put}
+use Rattle.be_shape.specs.Right.{IsRight}
+use Rattle.be_insert.specs.Filled.{settles, is_filled, IsFilled}
+use Rattle.be_shape.proofs.Lists.{all_front, filter_passes, filter_keeps}
+use Rattle.be_insert.proofs.Steps.{Leaves, split}
+use Rattle.be_shape.proofs.NodeSteps.{settled_is}
+use Rattle.be_insert.proofs.Fills.{has_last, cut, stays, not_there, Passing, passing, leaf_filled, last_put}
+use Rattle.be_shape.proofs.LeafSteps.{alone, inside_below, stuck_stay}
 use Rattle.be_insert.proofs.AtPlaces.{front_stuck}
 use Rattle.be_insert.proofs.LevelsLeft.{levels_left, falls}
 

@@ -1,5 +1,4 @@
-pub mod Right
-pub mod Spots
+pub mod Filled
 pub mod Refusals
 pub mod Rooms
 pub mod Ways

@@ -7,15 +7,13 @@ ghost use Rattle.be_model.specs.Lies.{row_lies};
 ghost use Rattle.be_shape.specs.Shape.{is_stuck};
 ghost use Rattle.be_shape.specs.Ranges.{is_bounded, is_rising};
 ghost use Rattle.be_shape.specs.Children.{may_pass, is_open};
-ghost use Rattle.be_insert.specs.Spots.{known_of};
-ghost use Rattle.be_insert.specs.Right.{is_filled, settles, better_half, half_for};
+ghost use Rattle.be_shape.specs.Spots.{known_of};
+ghost use Rattle.be_insert.specs.Filled.{is_filled, settles, better_half, half_for};
 
-use crate::looks::{can_split, is_stuck, may_pass};
-use crate::spots::Spot;
 use be_base::LEAF_ROWS;
 use be_model::{Hop, Schema};
 use be_score::pick_attr;
-use be_shape::{Leaf, NodeRange};
+use be_shape::{Leaf, NodeRange, Spot, can_split, is_stuck, may_pass};
 
 /// The first place whose row may be not stuck: where a leaf had more than 16 rows, all but the last are stuck.
 pub(crate) fn first_loose(leaf: &Leaf) -> usize

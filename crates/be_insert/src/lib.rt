@@ -6,9 +6,7 @@
 #![tactic(auto)]
 
 mod leaves;
-mod looks;
 mod places;
 mod splits;
-mod spots;
 
 pub use places::place;

@@ -9,18 +9,16 @@ ghost use Rattle.be_base.specs.declared.limits.TheConstants.{LOG_CHANGES};
 ghost use Rattle.be_shape.specs.Plain.{plain, with_row, half_as, parts_as, part_as, rows_below, contents};
 ghost use Rattle.be_shape.specs.Shape.{known, fits_half, attrs_of, spans_inside, may_stand};
 ghost use Rattle.be_shape.specs.Ranges.{is_bounded, is_rising};
-ghost use Rattle.be_insert.specs.Spots.{known_of};
+ghost use Rattle.be_shape.specs.Spots.{known_of};
 ghost use Rattle.be_insert.specs.Refusals.{back};
-ghost use Rattle.be_insert.specs.Right.{IsRight};
+ghost use Rattle.be_shape.specs.Right.{IsRight};
 ghost use Rattle.be_insert.specs.Ways.{heavier, better_part, best_from, IsWay, NoWay};
 
-use crate::looks::{has_attr, is_inside};
 use crate::splits::settle;
-use crate::spots::Spot;
 use be_base::NoMemory;
 use be_model::{Hop, Row, Schema};
 use be_score::weight;
-use be_shape::{Node, NodeRange, Part, Tree, lower_range, upper_range};
+use be_shape::{Node, NodeRange, Part, Spot, Tree, has_attr, is_inside, lower_range, upper_range};
 use std::sync::Arc;
 
 // Whether the half is there and encloses the row's span.

@@ -9,16 +9,16 @@ ghost use Rattle.be_shape.specs.Plain.{plain, parts_as, node, no_part, no_half, 
 ghost use Rattle.be_shape.specs.Paths.{child};
 ghost use Rattle.be_shape.specs.Ranges.{is_bounded, is_rising};
 ghost use Rattle.be_shape.specs.Children.{is_open, known_below, may_pass, with_part, with_child, with_leaf};
-ghost use Rattle.be_insert.specs.Spots.{known_of};
+ghost use Rattle.be_shape.specs.Spots.{known_of};
 ghost use Rattle.be_insert.specs.Refusals.{back};
-ghost use Rattle.be_insert.specs.Right.{IsRight, IsFilled};
+ghost use Rattle.be_shape.specs.Right.{IsRight};
+ghost use Rattle.be_insert.specs.Filled.{IsFilled};
 ghost use Rattle.be_insert.specs.Rooms.{HasRoom, part_place};
 
 use crate::leaves::{choose, first_loose, is_overfull, move_rows};
-use crate::spots::Spot;
 use be_base::{AttrNo, NoMemory};
 use be_model::{Hop, Row, Schema};
-use be_shape::{Node, NodeRange, Part};
+use be_shape::{Node, NodeRange, Part, Spot};
 use std::sync::Arc;
 
 /// Takes the last row of the leaf out. It takes no memory.

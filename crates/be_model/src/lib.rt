@@ -34,7 +34,7 @@ pub use laws::{
 pub use letters::{EventText, Letter};
 pub use name_lists::Names;
 pub use ops::Op;
-pub use paths::{Hop, Path};
+pub use paths::{Hop, Path, Step, StepDone};
 pub use preds::Pred;
 pub use row_lists::RowList;
 pub use schemas::{Attribute, Domain, Schema, is_reserved};

@@ -1,8 +1,8 @@
-//! Ways from the root of a tree to a node.
+//! Ways from the root of a tree to a node, and steps that reshape a tree.
 
 ghost use Rattle.std.specs.Prelude.{◌≡◌, [], ◌∷◌, ◌++◌, OnOk, OnErr};
 
-use be_base::{AttrNo, NoMemory};
+use be_base::{AttrNo, Id, NoMemory};
 use std::alloc::Global;
 use std::marker::Model;
 
@@ -53,4 +53,32 @@ impl Path {
     {
         self.hops.as_slice()
     }
+}
+
+/// A change of a tree's shape, which leaves what the tree contains. A path leads to a node from the root.
+#[derive(Drop)]
+pub enum Step {
+    /// Rows of the node's leaf that have the attribute move to a new part of it.
+    SplitPart { path: Path, attr: AttrNo },
+    /// Rows of the node's leaf that a half of its range encloses move to a new node for it; `half` is `Low` or `High`.
+    SplitHalf { path: Path, half: Hop },
+    /// The rows of the node and of all below it move to the leaf above, and the node is dropped.
+    Merge { path: Path },
+    /// A row moves from one part of the node to another.
+    Shift {
+        path: Path,
+        from: AttrNo,
+        to: AttrNo,
+        id: Id,
+    },
+}
+
+/// What came of a step.
+#[derive(Clone, Copy, Debug, PartialEq, Eq)]
+pub enum StepDone {
+    Done,
+    /// The step doesn't stand in the tree.
+    NotHere,
+    /// Memory was wanting.
+    Skipped,
 }

@@ -10,3 +10,11 @@ pub mod NodeList
 pub mod Visited
 pub mod Levels
 pub mod BitsLeft
+pub mod Lists
+pub mod OneLevel
+pub mod Contents
+pub mod NodeSteps
+pub mod LeafSteps
+pub mod Among
+pub mod PartPlaces
+pub mod Roots

@@ -7,3 +7,6 @@ pub mod Paths
 pub mod Contents
 pub mod Children
 pub mod NodeList
+pub mod Steps
+pub mod Right
+pub mod Spots

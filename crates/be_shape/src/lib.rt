@@ -4,8 +4,10 @@
 mod counts;
 mod laws;
 mod leaves;
+mod looks;
 mod nodes;
 mod ranges;
+mod spots;
 mod trees;
 mod walks;
 
@@ -14,6 +16,8 @@ pub use laws::{
     rows_are_of_leaves,
 };
 pub use leaves::Leaf;
+pub use looks::{can_split, fits_a_half, has_attr, is_inside, is_stuck, is_used, may_pass};
 pub use nodes::{Node, Part};
 pub use ranges::{NodeRange, holds_value, lower_range, upper_range, whole_range};
+pub use spots::Spot;
 pub use trees::Tree;

@@ -1,7 +1,7 @@
 use Rattle.std.proofs.Common.{◌≡◌, true, false, refl, sym, ◌∙◌, subst}
 use Rattle.std.proofs.lemmas.Bool.{false≢true, not_from_false}
 use Rattle.be_shape.specs.Shape.{is_used}
-use Rattle.be_insert.specs.Spots.{known_of}
+use Rattle.be_shape.specs.Spots.{known_of}
 use Rattle.be_insert.proofs.Choices.{chosen, no_half, all_stuck, used_of}
 use Rattle.be_insert.proofs.leaves.choose.Goals as goal
 

@@ -3,7 +3,7 @@ use Rattle.std.specs.Arc.{arc_value}
 use Rattle.be_model.specs.Lies.{row_lies}
 use Rattle.be_model.proofs.Attributes.{all_at}
 use Rattle.be_shape.specs.Shape.{is_stuck}
-use Rattle.be_insert.specs.Spots.{known_of}
+use Rattle.be_shape.specs.Spots.{known_of}
 use Rattle.be_insert.proofs.AtPlaces.{all_next, all_fails, all_taken, front_stuck, settled_stuck, overfull}
 use Rattle.be_insert.proofs.leaves.is_overfull.Goals as goal
 

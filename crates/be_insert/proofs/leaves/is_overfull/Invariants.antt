@@ -1,7 +1,7 @@
 use Rattle.std.proofs.Common.{◌≡◌, true, take}
 use Rattle.std.specs.List.{list_all}
 use Rattle.be_shape.specs.Shape.{is_stuck}
-use Rattle.be_insert.specs.Spots.{known_of}
+use Rattle.be_shape.specs.Spots.{known_of}
 use Rattle.be_insert.proofs.leaves.is_overfull.Given as goal
 
 -- the rows so far are stuck

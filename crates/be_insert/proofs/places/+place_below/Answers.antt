@@ -12,12 +12,13 @@ use Rattle.be_shape.specs.Plain.{Plain, plain, plain_node, plain_part, node, hal
 use Rattle.be_shape.specs.Shape.{attrs_of, spans_inside}
 use Rattle.be_shape.specs.Children.{children, roots_of, root_of, known_below, may_pass}
 use Rattle.be_shape.proofs.Plains.{plain_out, part_out, plain_roll}
-use Rattle.be_insert.specs.Right.{IsRight}
+use Rattle.be_shape.specs.Right.{IsRight}
 use Rattle.be_insert.specs.Refusals.{back}
-use Rattle.be_insert.specs.Spots.{known_of}
+use Rattle.be_shape.specs.Spots.{known_of}
 use Rattle.be_insert.specs.Ways.{IsWay, IsThere}
-use Rattle.be_insert.proofs.PartPlaces.{part_within, attr_there}
-use Rattle.be_insert.proofs.Downwards.{Among, child_right, row_inside, low_among, high_among, part_set, behind_parts, way_open, gone_below}
+use Rattle.be_shape.proofs.PartPlaces.{part_within, attr_there}
+use Rattle.be_shape.proofs.Among.{Among, child_right, row_inside, low_among, high_among, part_set, behind_parts}
+use Rattle.be_insert.proofs.Downwards.{way_open, gone_below}
 use Rattle.be_insert.proofs.places.+place_below.Goals as goal
 
 pub enter-requires : goal.enter-requires

@@ -6,10 +6,11 @@ use Rattle.be_shape.specs.Plain.{plain, rows_below}
 use Rattle.be_shape.specs.Shape.{nothing, may_stand}
 use Rattle.be_shape.proofs.Plains.{plain_out, plain_roll}
 use Rattle.be_shape.proofs.RootPut.{may_stand_from}
-use Rattle.be_insert.specs.Right.{IsRight}
+use Rattle.be_shape.specs.Right.{IsRight}
 use Rattle.be_insert.specs.Refusals.{back}
-use Rattle.be_insert.specs.Spots.{known_of}
-use Rattle.be_insert.proofs.Roots.{root_right, root_of, placement}
+use Rattle.be_shape.specs.Spots.{known_of}
+use Rattle.be_shape.proofs.Roots.{root_right, root_of}
+use Rattle.be_insert.proofs.Roots.{placement}
 use Rattle.be_insert.proofs.places.place.Goals as goal
 
 pub place_below-requires-clause-right : goal.place_below-requires-clause-right

@@ -3,10 +3,11 @@ use Rattle.std.specs.Prelude.{IsPermutation}
 use Rattle.std.specs.Arc.{arc_value}
 use Rattle.std.proofs.lemmas.List.Sorted.{IsPermutation-trans}
 use Rattle.be_shape.specs.Plain.{plain, rows_below, with_row}
-use Rattle.be_insert.specs.Right.{IsFilled}
+use Rattle.be_insert.specs.Filled.{IsFilled}
 use Rattle.be_insert.specs.Refusals.{back}
-use Rattle.be_insert.specs.Spots.{known_of}
-use Rattle.be_insert.proofs.Fills.{put_filled, row_put}
+use Rattle.be_shape.specs.Spots.{known_of}
+use Rattle.be_insert.proofs.Fills.{put_filled}
+use Rattle.be_shape.proofs.LeafSteps.{row_put}
 use Rattle.be_insert.proofs.Settled.{handed_back}
 use Rattle.be_insert.proofs.places.place_here.Goals as goal
 

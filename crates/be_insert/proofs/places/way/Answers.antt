@@ -6,7 +6,7 @@ use Rattle.be_shape.specs.Plain.{parts_as, half_as}
 use Rattle.be_shape.specs.Shape.{known, fits_half, attrs_of}
 use Rattle.be_shape.proofs.Plains.{plain_out, part_out}
 use Rattle.be_insert.specs.Ways.{IsWay, NoWay, best_from}
-use Rattle.be_insert.proofs.PartPlaces.{attr_there, part_within}
+use Rattle.be_shape.proofs.PartPlaces.{attr_there, part_within}
 use Rattle.be_insert.proofs.Ways.{low_way, high_way, part_way, no_way}
 use Rattle.be_insert.proofs.places.way.Goals as goal
 

@@ -7,8 +7,8 @@ use Rattle.be_model.specs.Lies.{row_lies}
 use Rattle.be_shape.specs.Plain.{plain, node, no_part, no_half, leaf_of}
 use Rattle.be_shape.specs.Children.{known_below, may_pass, with_leaf}
 use Rattle.be_shape.proofs.Plains.{plain_out}
-use Rattle.be_insert.specs.Right.{IsFilled, settles}
-use Rattle.be_insert.specs.Spots.{known_of}
+use Rattle.be_insert.specs.Filled.{IsFilled, settles}
+use Rattle.be_shape.specs.Spots.{known_of}
 use Rattle.be_insert.proofs.LevelsLeft.{levels_left}
 use Rattle.be_insert.proofs.Settled.{row_lie, leaf_may, ready, finish, last_of, front_stays, without_last, stays_settled}
 use Rattle.be_insert.proofs.splits.+settle.Goals as goal

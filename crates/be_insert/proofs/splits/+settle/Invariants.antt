@@ -1,4 +1,4 @@
-use Rattle.be_insert.specs.Spots.{known_of}
+use Rattle.be_shape.specs.Spots.{known_of}
 use Rattle.be_insert.proofs.LevelsLeft.{levels_left}
 use Rattle.be_insert.proofs.splits.+settle.Given as goal
 

@@ -16,8 +16,8 @@ use Rattle.be_shape.specs.Shape.{Known, everywhere, is_placed_at, is_drawn_at, i
 use Rattle.be_shape.specs.Children.{roots_of, root_of, children, with_part, with_child}
 use Rattle.be_shape.specs.Paths.{part_on, child}
 use Rattle.be_shape.proofs.Children.{Each-append, Each-parts, from_levels, below, rows_of, rows_are}
-use Rattle.be_insert.specs.Right.{is_right_at}
-use Rattle.be_insert.proofs.Lists.{swap_last}
+use Rattle.be_shape.specs.Right.{is_right_at}
+use Rattle.be_shape.proofs.Lists.{swap_last}
 
 -- a child more, somewhere among the others
 pub record HasMore (n m : Plain) (x : Hop × Plain) : Type 0 where
@@ -26,13 +26,13 @@ pub record HasMore (n m : Plain) (x : Hop × Plain) : Type 0 where
   pub was : children n ≡ before ++ after
   pub is : children m ≡ before ++ x ∷ after
 
-record PartMore (parts : Parts) (a : AttrNo) (n : Plain) : Type 0 where
+pub record PartMore (parts : Parts) (a : AttrNo) (n : Plain) : Type 0 where
   before : List (Hop × Plain)
   after : List (Hop × Plain)
   was : roots_of parts ≡ before ++ after
   is : roots_of (with_part a n parts) ≡ before ++ (Part a, n) ∷ after
 
-part_more : (parts : Parts) (a : AttrNo) (n : Plain) → PartMore parts a n
+pub part_more : (parts : Parts) (a : AttrNo) (n : Plain) → PartMore parts a n
 part_more no_part a n = record { before = []; after = []; was = refl; is = refl }
 part_more (part b root more) a n = by_test (ltb a.0 b.0) refl (part_more more a n)
   where
@@ -59,7 +59,7 @@ child_more High m (node rows parts low no_half) h =
     record { before = roots_of parts ++ root_of Low low; after = []; was = refl; is = refl }
 
 -- the parts still rise
-rise_under : (b a : AttrNo) (m : Plain) (parts : Parts) → attrs_rise (b ∷ attrs_of parts) ≡ true → b.0 < a.0 → part_on a parts ≡ None → attrs_rise (b ∷ attrs_of (with_part a m parts)) ≡ true
+pub rise_under : (b a : AttrNo) (m : Plain) (parts : Parts) → attrs_rise (b ∷ attrs_of parts) ≡ true → b.0 < a.0 → part_on a parts ≡ None → attrs_rise (b ∷ attrs_of (with_part a m parts)) ≡ true
 rise_under b a m no_part h l gone = and_from (ltb b.0 a.0) true (lt-ltb b.0 a.0 l) refl
 rise_under b a m (part c root more) h l gone =
     let k = and_parts (ltb b.0 c.0) (attrs_rise (c ∷ attrs_of more)) h in
@@ -80,7 +80,7 @@ rise_under b a m (part c root more) h l gone =
         let below_a : c.0 < a.0 = omega arith in
         and_from (ltb b.0 c.0) (attrs_rise (c ∷ attrs_of (with_part a m more))) h' (f below_a z.1)
 
-part_rise : (a : AttrNo) (m : Plain) (parts : Parts) → attrs_rise (attrs_of parts) ≡ true → part_on a parts ≡ None → attrs_rise (attrs_of (with_part a m parts)) ≡ true
+pub part_rise : (a : AttrNo) (m : Plain) (parts : Parts) → attrs_rise (attrs_of parts) ≡ true → part_on a parts ≡ None → attrs_rise (attrs_of (with_part a m parts)) ≡ true
 part_rise a m no_part h gone = refl
 part_rise a m (part c root more) h gone = by_test (ltb a.0 c.0) refl
   where

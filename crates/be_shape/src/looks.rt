@@ -8,15 +8,15 @@ ghost use Rattle.be_model.specs.Rows.{has};
 ghost use Rattle.be_shape.specs.Shape.{spans_inside, can_split, is_used, is_stuck};
 ghost use Rattle.be_shape.specs.Ranges.{is_bounded, is_rising};
 ghost use Rattle.be_shape.specs.Children.{may_pass};
-ghost use Rattle.be_insert.specs.Spots.{known_of};
+ghost use Rattle.be_shape.specs.Spots.{known_of};
 
+use crate::ranges::{NodeRange, lower_range, upper_range};
 use crate::spots::Spot;
 use be_base::AttrNo;
 use be_model::{Hop, Row, Schema};
-use be_shape::{Leaf, NodeRange, lower_range, upper_range};
 
 /// Whether the row has its span inside the range. Without a range this says nothing.
-pub(crate) fn is_inside(row: &Row, s: &Schema, range: NodeRange) -> bool
+pub fn is_inside(row: &Row, s: &Schema, range: NodeRange) -> bool
     requires { row_lies s.now row.now ≡ true }
     ensures { result ≡ spans_inside s.now range row.now }
 {
@@ -30,14 +30,14 @@ pub(crate) fn is_inside(row: &Row, s: &Schema, range: NodeRange) -> bool
 }
 
 /// Whether the row has a predicate on the attribute.
-pub(crate) fn has_attr(row: &Row, a: AttrNo) -> bool
+pub fn has_attr(row: &Row, a: AttrNo) -> bool
     ensures { result ≡ has a row.now }
 {
     row.conj.preds().iter().any(|pred| pred.attr.0 == a.0)
 }
 
 /// Whether the row may stand below the step.
-pub(crate) fn may_pass(row: &Row, s: &Schema, hop: Hop, range: NodeRange) -> bool
+pub fn may_pass(row: &Row, s: &Schema, hop: Hop, range: NodeRange) -> bool
     requires lies { row_lies s.now row.now ≡ true }
     requires bounded { is_bounded range ≡ true }
     requires rising { is_rising range ≡ true }
@@ -51,7 +51,7 @@ pub(crate) fn may_pass(row: &Row, s: &Schema, hop: Hop, range: NodeRange) -> boo
 }
 
 /// Whether the range has more than one value.
-pub(crate) fn can_split(range: NodeRange) -> bool
+pub fn can_split(range: NodeRange) -> bool
     ensures { result ≡ can_split range }
 {
     match range {
@@ -60,7 +60,8 @@ pub(crate) fn can_split(range: NodeRange) -> bool
     }
 }
 
-fn is_used(used: &[AttrNo], a: AttrNo) -> bool
+/// Whether the attribute is among those used on a path.
+pub fn is_used(used: &[AttrNo], a: AttrNo) -> bool
     ensures { result ≡ is_used used.now a }
 {
     used.iter().any(|u| u.0 == a.0)
@@ -73,14 +74,15 @@ fn are_all_used(row: &Row, used: &[AttrNo]) -> bool
 }
 
 /// Whether neither a part nor a half could take the row.
-pub(crate) fn is_stuck(row: &Row, s: &Schema, k: &Spot) -> bool
+pub fn is_stuck(row: &Row, s: &Schema, k: &Spot) -> bool
     requires { row_lies s.now row.now ≡ true }
     ensures { result ≡ is_stuck s.now (known_of k.now) row.now }
 {
     are_all_used(row, k.used.as_slice()) && !fits_a_half(row, s, k.range)
 }
 
-fn fits_a_half(row: &Row, s: &Schema, range: NodeRange) -> bool
+/// Whether a half of the range, there or not, encloses the row's span.
+pub fn fits_a_half(row: &Row, s: &Schema, range: NodeRange) -> bool
     requires lies { row_lies s.now row.now ≡ true }
     requires bounded { is_bounded range ≡ true }
     requires rising { is_rising range ≡ true }

@@ -5,25 +5,25 @@ ghost use Rattle.be_shape.specs.Shape.{nothing};
 ghost use Rattle.be_shape.specs.Ranges.{is_bounded, is_rising};
 ghost use Rattle.be_shape.specs.Children.{is_open, known_below};
 
+use crate::ranges::{NodeRange, lower_range, upper_range, whole_range};
 use be_base::{AttrNo, NoMemory};
 use be_model::{Hop, Schema};
-use be_shape::{NodeRange, lower_range, upper_range, whole_range};
 use std::alloc::Global;
 
 /// What the path to a node says of it: its range, and the attributes used on the path, the nearest first.
 #[derive(Drop)]
-pub(crate) struct Spot {
-    pub(crate) range: NodeRange,
-    pub(crate) used: Vec<AttrNo>,
+pub struct Spot {
+    pub range: NodeRange,
+    pub used: Vec<AttrNo>,
     ghost bounded: { is_bounded range ≡ true },
     ghost rising: { is_rising range ≡ true },
 }
 
 impl Spot {
-    ghost use Rattle.be_insert.specs.Spots.{known_of};
+    ghost use Rattle.be_shape.specs.Spots.{known_of};
 
     /// Of the root nothing is known. It takes no memory.
-    pub(crate) fn root(alloc: Global) -> Spot
+    pub fn root(alloc: Global) -> Spot
         ensures { known_of result ≡ nothing }
     {
         Spot {
@@ -33,7 +33,7 @@ impl Spot {
     }
 
     /// Goes down a step.
-    pub(crate) fn enter(&mut self, s: &Schema, hop: Hop) -> Result<(), NoMemory>
+    pub fn enter(&mut self, s: &Schema, hop: Hop) -> Result<(), NoMemory>
         requires { is_open hop (known_of self.old) ≡ true }
         ensures entered { OnOk result (known_of self.new ≡ known_below s.now hop (known_of self.old)) }
         ensures refused { OnErr result (known_of self.new ≡ known_of self.old) }

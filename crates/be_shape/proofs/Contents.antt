@@ -1,4 +1,4 @@
--- Rows in another order have the same contents.
+-- Rows in another order are the same contents.
 use Rattle.std.proofs.Common.{◌≡◌, ◌<◌, ◌≤◌, ℕ, Bool, true, false, not, cond, eqb, ◌||◌, List, [], ◌∷◌, ◌++◌, get_or, None, Some, Option, ◌⊎◌, inl, inr, refl, sym, ap, ◌∙◌, subst, arith}
 use Rattle.std.specs.Prelude.{IsPermutation}
 use Rattle.std.specs.List.{list_any, count_by, Contains}
@@ -13,14 +13,14 @@ use Rattle.be_model.specs.ByIds.{ByIds, row_at, by_ids, Rising, AllAbove, ids_di
 use Rattle.be_model.proofs.RowsByIds.{row_found, found_row, ids_rise}
 
 -- how many rows have an id
-abbrev with_id : ℕ → Row → Bool
+abbrev pub with_id : ℕ → Row → Bool
 with_id i row = eqb (id_of row) i
 
-one_or_none : (b : Bool) → cond {A = ℕ} b 1 0 ≤ 1
+pub one_or_none : (b : Bool) → cond {A = ℕ} b 1 0 ≤ 1
 one_or_none true = omega arith
 one_or_none false = omega arith
 
-absent : (i : ℕ) (rows : List Row) → list_any (with_id i) rows ≡ false → count_by (with_id i) rows ≡ 0
+pub absent : (i : ℕ) (rows : List Row) → list_any (with_id i) rows ≡ false → count_by (with_id i) rows ≡ 0
 absent i [] h = refl
 absent i (row ∷ rows) h = by_test (with_id i row) refl h (absent i rows)
   where
@@ -28,7 +28,7 @@ absent i (row ∷ rows) h = by_test (with_id i row) refl h (absent i rows)
     by_test true e t more = absurd (cc)
     by_test false e t more = omega (arith, sum_by-cons (λ (r : Row). cond (with_id i r) 1 0) row rows, ap {B = ℕ} (λ b. cond b 1 0) e, more t)
 
-present : (i : ℕ) (rows : List Row) → list_any (with_id i) rows ≡ true → 0 < count_by (with_id i) rows
+pub present : (i : ℕ) (rows : List Row) → list_any (with_id i) rows ≡ true → 0 < count_by (with_id i) rows
 present i [] h = absurd (cc)
 present i (row ∷ rows) h = by_test (with_id i row) refl h (present i rows)
   where
@@ -36,7 +36,7 @@ present i (row ∷ rows) h = by_test (with_id i row) refl h (present i rows)
     by_test true e t more = omega (arith, sum_by-cons (λ (r : Row). cond (with_id i r) 1 0) row rows, ap {B = ℕ} (λ b. cond b 1 0) e)
     by_test false e t more = omega (arith, sum_by-cons (λ (r : Row). cond (with_id i r) 1 0) row rows, more t)
 
-once : (rows : List Row) → ids_differ rows ≡ true → (i : ℕ) → count_by (with_id i) rows ≤ 1
+pub once : (rows : List Row) → ids_differ rows ≡ true → (i : ℕ) → count_by (with_id i) rows ≤ 1
 once [] h i = omega arith
 once (row ∷ rows) h i =
     let k = and_parts (not (list_any (with_id (id_of row)) rows)) (ids_differ rows) h in by_test (with_id i row) refl (not-true (list_any (with_id (id_of row)) rows) k.0) (once rows k.1 i)
@@ -47,7 +47,7 @@ once (row ∷ rows) h i =
         omega (arith, sum_by-cons (λ (r : Row). cond (with_id i r) 1 0) row rows, one_or_none (with_id i row), absent i rows (ap (λ j. list_any (with_id j) rows) (sym same) ∙ none))
     by_test false e none few = omega (arith, sum_by-cons (λ (r : Row). cond (with_id i r) 1 0) row rows, ap {B = ℕ} (λ b. cond b 1 0) e, few)
 
-from_once : (rows : List Row) → ((i : ℕ) → count_by (with_id i) rows ≤ 1) → ids_differ rows ≡ true
+pub from_once : (rows : List Row) → ((i : ℕ) → count_by (with_id i) rows ≤ 1) → ids_differ rows ≡ true
 from_once [] f = refl
 from_once (row ∷ rows) f =
     and_from (not (list_any (with_id (id_of row)) rows)) (ids_differ rows) (not_from_false (list_any (with_id (id_of row)) rows) (by_test (list_any (with_id (id_of row)) rows) refl))
@@ -64,15 +64,15 @@ still_differ xs ys h d =
     from_once ys (λ i. let f = once xs d i in omega (arith, f, sum_by-IsPermutation (λ (r : Row). cond (with_id i r) 1 0) xs ys h))
 
 -- two maps whose ids rise, and that have the same rows, are one
-not_above : (id n : ℕ) (m : ByIds) → id ≤ n → AllAbove n m → row_at id m ≡ None
+pub not_above : (id n : ℕ) (m : ByIds) → id ≤ n → AllAbove n m → row_at id m ≡ None
 not_above id n [] l h = refl
 not_above id n (r ∷ m) l h =
     let lt = h.0 in ap (λ b. cond b (Some r.1) (row_at id m)) (ne_eqb r.0 id (λ e. omega arith)) ∙ not_above id n m l h.1
 
-first_row : (r : ℕ × Row) (m : ByIds) → row_at r.0 (r ∷ m) ≡ Some r.1
+pub first_row : (r : ℕ × Row) (m : ByIds) → row_at r.0 (r ∷ m) ≡ Some r.1
 first_row r m = ap (λ b. cond b (Some r.1) (row_at r.0 m)) (eq-eqb r.0 r.0 refl)
 
-same_maps : (m w : ByIds) → Rising m → Rising w → ((id : ℕ) → row_at id m ≡ row_at id w) → m ≡ w
+pub same_maps : (m w : ByIds) → Rising m → Rising w → ((id : ℕ) → row_at id m ≡ row_at id w) → m ≡ w
 same_maps [] [] a b f = refl
 same_maps [] (q ∷ w) a b f = let e = f q.0 ∙ first_row q w in absurd (cc)
 same_maps (r ∷ m) [] a b f = let e = sym (f r.0) ∙ first_row r m in absurd (cc)
@@ -100,7 +100,7 @@ same_maps (r ∷ m) (q ∷ w) a b f = by_order (cases_order r.0 q.0) (λ g. same
     by_order (inr (inl l)) more = let e = sym (first_row r m) ∙ f r.0 ∙ none_at r q w l b.0 in absurd (cc)
     by_order (inr (inr l)) more = let e = sym (first_row q w) ∙ sym (f q.0) ∙ none_at q r m l a.0 in absurd (cc)
 
-same_rows : (xs ys : List Row) → IsPermutation xs ys → ids_differ xs ≡ true → ids_differ ys ≡ true → (id : ℕ) → row_at id (by_ids xs) ≡ row_at id (by_ids ys)
+pub same_rows : (xs ys : List Row) → IsPermutation xs ys → ids_differ xs ≡ true → ids_differ ys ≡ true → (id : ℕ) → row_at id (by_ids xs) ≡ row_at id (by_ids ys)
 same_rows xs ys h d e id = by_row (row_at id (by_ids xs)) refl
   where
     moved : (us vs : List Row) → IsPermutation us vs → ids_differ vs ≡ true → (x : Row) → row_at id (by_ids us) ≡ Some x → row_at id (by_ids vs) ≡ Some x
@@ -124,13 +124,13 @@ pub front_differ : (rows : List Row) (x : Row) → ids_differ (rows ++ x ∷ [])
 front_differ rows x h =
     from_once rows (λ i. let f = once (rows ++ x ∷ []) h i in omega (arith, f, sum_by-append (λ (r : Row). cond (with_id i r) 1 0) rows (x ∷ [])))
 
-last_new : (rows : List Row) (x : Row) → ids_differ (rows ++ x ∷ []) ≡ true → list_any (with_id (id_of x)) rows ≡ true → ⊥
+pub last_new : (rows : List Row) (x : Row) → ids_differ (rows ++ x ∷ []) ≡ true → list_any (with_id (id_of x)) rows ≡ true → ⊥
 last_new rows x h k =
     let f = once (rows ++ x ∷ []) h (id_of x) in
     let g : ℕ → ℕ = λ n. n in
     omega (arith, f, present (id_of x) rows k, sum_by-append (λ (r : Row). cond (with_id (id_of x) r) 1 0) rows (x ∷ []), sum_by-cons (λ (r : Row). cond (with_id (id_of x) r) 1 0) x [], ap {B = ℕ} (λ b. cond b 1 0) (eq-eqb (id_of x) (id_of x) refl))
 
-still_there : (us vs : List Row) (x : Row) → IsPermutation (us ++ x ∷ []) (vs ++ x ∷ []) → ids_differ (us ++ x ∷ []) ≡ true → ids_differ (vs ++ x ∷ []) ≡ true → (id : ℕ) (y : Row) → row_at id (by_ids us) ≡ Some y → row_at id (by_ids vs) ≡ Some y
+pub still_there : (us vs : List Row) (x : Row) → IsPermutation (us ++ x ∷ []) (vs ++ x ∷ []) → ids_differ (us ++ x ∷ []) ≡ true → ids_differ (vs ++ x ∷ []) ≡ true → (id : ℕ) (y : Row) → row_at id (by_ids us) ≡ Some y → row_at id (by_ids vs) ≡ Some y
 still_there us vs x h d e id y k =
     let c = found_row us id y k in
     by_place c.0 c.1 (Contains-push_cases vs x y (Contains-permutation (us ++ x ∷ []) (vs ++ x ∷ []) y h (Contains-append_left us (x ∷ []) y c.0)))

@@ -9,15 +9,7 @@ use Rattle.be_model.specs.Schemas.{Attributes}
 use Rattle.be_shape.specs.Plain.{Plain, leaf_of, rows_below}
 use Rattle.be_shape.specs.Shape.{NodeRange, can_split, Known, everywhere, is_placed_at, is_drawn_at, is_pruned_at, is_settled_at, is_stuck, may_stand}
 use Rattle.be_shape.specs.Children.{children, known_below, may_pass}
-
--- a node is placed, drawn, pruned and settled
-abbrev pub is_right_at : Attributes → Known → Plain → Bool
-is_right_at s k n = (is_placed_at s k n && is_drawn_at s k n) && (is_pruned_at k n && is_settled_at s k n)
-
--- the nodes are all placed, drawn, pruned and settled, and the rows may stand in a tree of the schema
-pub record IsRight (s : Attributes) (k : Known) (n : Plain) : Type 0 where
-  pub right : everywhere (is_right_at s) s k n ≡ true
-  pub may : list_all (may_stand s) (rows_below n) ≡ true
+use Rattle.be_shape.specs.Right.{is_right_at}
 
 -- the leaf of a settled node
 abbrev pub settles : Attributes → Known → List Row → Bool
