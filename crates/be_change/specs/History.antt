@@ -5,7 +5,7 @@ use Rattle.be_base.specs.declared.limits.TheConstants.{COUNT_END}
 pub use Rattle.be_base.specs.Text.{Text, same_text}
 pub use Rattle.be_model.specs.Entries.{Entry, subscribed, unsubscribed, left}
 use Rattle.be_model.specs.declared.changes.Row.{Row}
-pub use Rattle.be_model.specs.ByIds.{ByIds, row_at}
+pub use Rattle.be_model.specs.ByIds.{ByIds, row_at, is_of}
 use Rattle.be_model.specs.Matching.{Assignments, satisfies}
 
 abbrev pub session_of : Entry → ℕ
@@ -54,9 +54,6 @@ placed_of k h = placed_from k 0 h
 
 abbrev pub has_name : Text → ℕ × Row → Bool
 has_name name r = same_text r.1.name name
-
-abbrev pub is_of : ℕ → ℕ × Row → Bool
-is_of k r = r.1.session.0 == k
 
 -- the live rows after one more entry, which stands at place `id`
 abbrev pub after_entry : ByIds → ℕ → Entry → ByIds

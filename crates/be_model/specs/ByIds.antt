@@ -1,5 +1,5 @@
 -- Rows by their ids: a finite map, as a list whose ids rise.
-use Rattle.std.specs.Prelude.{◌≡◌, ◌++◌, IsPermutation, ℕ, ◌==◌, ◌<◌, ◌&&◌, Bool, true, not, List, [], ◌∷◌, map, nat_lt, Option, Some, None, if◌then◌else◌}
+use Rattle.std.specs.Prelude.{◌≡◌, ◌++◌, IsPermutation, ℕ, ◌==◌, ◌<◌, ◌&&◌, Bool, true, not, List, [], ◌∷◌, filter, map, nat_lt, Option, Some, None, if◌then◌else◌}
 use Rattle.std.specs.List.{list_any}
 use Rattle.be_model.specs.declared.changes.Row.{Row}
 use Rattle.be_model.specs.Matching.{Assignments, satisfied}
@@ -30,6 +30,14 @@ row_at id (r ∷ rs) = if r.0 == id then Some r.1 else row_at id rs
 
 abbrev pub has_id : ℕ → ByIds → Bool
 has_id id m = list_any (λ (r : ℕ × Row). r.0 == id) m
+
+-- the rows but that of an id
+abbrev pub without_id : ℕ → ByIds → ByIds
+without_id id m = filter (λ (r : ℕ × Row). not (r.0 == id)) m
+
+-- the row is a session's
+abbrev pub is_of : ℕ → ℕ × Row → Bool
+is_of k r = r.1.session.0 == k
 
 abbrev pub AllBelow : ℕ → ByIds → Type 0
 AllBelow n [] = Unit {0}
