@@ -30,3 +30,7 @@ mod plain_walk;
 mod score;
 #[cfg(test)]
 mod shape;
+#[cfg(test)]
+mod words;
+#[cfg(test)]
+mod workload;
