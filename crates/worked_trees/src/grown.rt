@@ -1,6 +1,6 @@
 //! A tree that grows by rows with the ids 0, 1, 2 and so on.
 
-ghost use Rattle.std.specs.Prelude.{◌≡◌, ◌<◌, ◌+◌, true, nat_lt};
+ghost use Rattle.std.specs.Prelude.{◌≡◌, ◌<◌, ◌+◌, true, nat_lt, IfSome};
 ghost use Rattle.std.specs.List.{list_all};
 ghost use Rattle.std.specs.Arc.{arc_value};
 ghost use Rattle.be_base.specs.declared.limits.TheConstants.{LOG_CHANGES};
@@ -53,7 +53,9 @@ impl Grown {
     }
 }
 
-pub fn row_of(alloc: Global, schema: &Schema, id: u64, condition: &[u8]) -> Option<Arc<Row>> {
+pub fn row_of(alloc: Global, schema: &Schema, id: u64, condition: &[u8]) -> Option<Arc<Row>>
+    ensures { IfSome result (λ r. id_of (arc_value r) ≡ id) }
+{
     let name = Name::read(b"a").ok()?;
     let conj = read_expr(alloc, schema, condition).ok()?;
     let row = Row {

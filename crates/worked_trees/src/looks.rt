@@ -1,12 +1,14 @@
 //! What is asked of a tree. `None` is an answer that no row wants.
 
+use crate::grown::row_of;
 use crate::plain_walk::{Seen, look};
 use be_base::AttrNo;
 use be_event::read_event;
 use be_match::{cost_of, find_in};
-use be_model::{Cost, Found, Hop, Path};
+use be_model::{Cost, Found, Hop, Path, Schema};
 use be_shape::Tree;
 use std::alloc::Global;
+use std::sync::Arc;
 
 // A number that tells lists of rising ids apart.
 fn digest(ids: &[u64]) -> u64 {
@@ -41,6 +43,27 @@ pub fn find(alloc: Global, tree: &Tree, text: &[u8]) -> Option<(usize, u64)> {
 pub fn cost(alloc: Global, tree: &Tree, text: &[u8]) -> Option<Cost> {
     let event = read_event(alloc, &tree.schema, text).ok()?;
     Some(cost_of(tree, &event))
+}
+
+// Rows 1, 2 and 3 that are put into the root's leaf.
+fn three_rows(alloc: Global, schema: Arc<Schema>) -> Option<Tree> {
+    let mut tree = Tree::make(alloc, schema, 50);
+    let first = row_of(alloc, &tree.schema, 1, b"price >= 3")?;
+    let second = row_of(alloc, &tree.schema, 2, b"price >= 10")?;
+    let third = row_of(alloc, &tree.schema, 3, b"price >= 5")?;
+    if first.lies(&tree.schema) && second.lies(&tree.schema) && third.lies(&tree.schema) {
+        tree.put_root(first);
+        tree.put_root(second);
+        tree.put_root(third);
+    }
+    Some(tree)
+}
+
+/// What an event finds among three rows in the root, and what that costs.
+pub fn at_root(alloc: Global, tree: &Tree, text: &[u8]) -> Option<((usize, u64), Cost)> {
+    let tree = three_rows(alloc, Arc::try_clone(&tree.schema).ok()?)?;
+    let found = find(alloc, &tree, text)?;
+    Some((found, cost(alloc, &tree, text)?))
 }
 
 // A digit is the part of that attribute, `L` and `H` are the halves, and a dash is no step.

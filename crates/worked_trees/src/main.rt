@@ -41,6 +41,7 @@ fn asked(alloc: Global, grown: &mut Grown, command: &str, text: &str) -> Result<
         "tree" => renew(alloc, grown),
         "find" => told(alloc, looks::find(alloc, &grown.tree, bytes)),
         "cost" => told(alloc, looks::cost(alloc, &grown.tree, bytes)),
+        "root" => told(alloc, looks::at_root(alloc, &grown.tree, bytes)),
         "at" => told(alloc, looks::at(alloc, &grown.tree, bytes)),
         "look" => told(alloc, looks::looked(alloc, &grown.tree)),
         "pick" => told(alloc, scores::pick(alloc, &grown.tree.schema, text)),
