@@ -238,7 +238,7 @@ impl Session {
         }
     }
 
-    // The session leaves without a reply. Its Bye is missing only where memory was wanting.
+    // The session leaves without a reply: its Bye is put last, or the list is as before. The clause doesn't say why.
     fn leave(&mut self, alloc: Global)
         requires { has_left 1 self.old.subscriptions ≡ false }
         ensures { Leaves false self.old.subscriptions self.new.subscriptions }
