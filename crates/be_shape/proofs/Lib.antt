@@ -19,3 +19,4 @@ pub mod Among
 pub mod PartPlaces
 pub mod Roots
 pub mod OneLess
+pub mod LeafLess
