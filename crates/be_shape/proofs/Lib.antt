@@ -18,3 +18,6 @@ pub mod LeafSteps
 pub mod Among
 pub mod PartPlaces
 pub mod Roots
+pub mod Exchanges
+pub mod Replacements
+pub mod Reshaping

@@ -8,6 +8,7 @@ mod looks;
 mod nodes;
 mod ranges;
 mod spots;
+mod swaps;
 mod trees;
 mod walks;
 
@@ -20,4 +21,6 @@ pub use looks::{can_split, fits_a_half, has_attr, is_inside, is_stuck, is_used, 
 pub use nodes::{Node, Part};
 pub use ranges::{NodeRange, holds_value, lower_range, upper_range, whole_range};
 pub use spots::Spot;
+pub use swaps::{place_on, swap_at};
 pub use trees::Tree;
+pub use walks::{child, walk, walk_range};
