@@ -14,9 +14,9 @@ use Rattle.be_model.specs.declared.paths.Hop.TheVariants.{Part, Low, High}
 use Rattle.be_model.specs.Forms.{attrs_rise}
 use Rattle.be_model.specs.Schemas.{Attributes, numbered}
 use Rattle.be_shape.specs.Plain.{Plain, node, Parts, no_part, part, Half, no_half, half, rows_below, leaf_of, parts_under}
-use Rattle.be_shape.specs.Shape.{Known, is_stuck, spans_inside, may_stand, attrs_of}
+use Rattle.be_shape.specs.Shape.{Known, is_used, is_stuck, spans_inside, may_stand, attrs_of}
 use Rattle.be_shape.specs.Children.{roots_of, root_of, children, known_below, is_open, may_pass}
-use Rattle.be_shape.specs.Paths.{part_on, child, walk}
+use Rattle.be_shape.specs.Paths.{part_on, child, walk, range_below, range_along, is_used_on}
 use Rattle.be_shape.specs.Right.{is_right_at, IsRight}
 use Rattle.be_shape.specs.NodeList.{known_along}
 use Rattle.be_shape.specs.Steps.{is_node, other_part, other_child, change_child, replaced}
@@ -258,3 +258,28 @@ swapped (hop ∷ hops) n m b h =
       again = λ o. ap (λ c. change_child hop (replaced hops o) c (replaced (hop ∷ hops) b n)) set ∙ ap (λ v. other_child hop v (replaced (hop ∷ hops) b n)) (w.again o) ∙ ap (other_child hop (replaced hops o x)) (put b) ∙ child_again hop n y (replaced hops o x) ∙ sym (put o);
       own = put m ∙ ap (λ v. other_child hop v n) w.own ∙ child_own hop n x z.1;
     }
+
+-- what is known at the end of a path
+pub range_known : (s : Attributes) (hops : List Hop) (k : Known) → (known_along s hops k).range ≡ range_along s hops k.range
+range_known s [] k = refl
+range_known s (hop ∷ hops) k = range_known s hops (known_below s hop k) ∙ ap (range_along s hops) (one hop)
+  where
+    one : (h : Hop) → (known_below s h k).range ≡ range_below s h k.range
+    one (Part a) = refl
+    one Low = refl
+    one High = refl
+
+pub used_known : (s : Attributes) (hops : List Hop) (k : Known) (a : AttrNo) → is_used (known_along s hops k).used a ≡ (is_used_on hops a || is_used k.used a)
+used_known s [] k a = refl
+used_known s (hop ∷ hops) k a = used_known s hops (known_below s hop k) a ∙ one hop
+  where
+    last : (x y z : Bool) → (x || (y || z)) ≡ ((y || x) || z)
+    last true true z = refl
+    last true false z = refl
+    last false true z = refl
+    last false false z = refl
+
+    one : (h : Hop) → (is_used_on hops a || is_used (known_below s h k).used a) ≡ (is_used_on (h ∷ hops) a || is_used k.used a)
+    one (Part b) = last (is_used_on hops a) (eqb b.0 a.0) (is_used k.used a)
+    one Low = refl
+    one High = refl

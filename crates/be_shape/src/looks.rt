@@ -6,6 +6,7 @@ ghost use Rattle.std.specs.List.{count_by, list_all};
 ghost use Rattle.be_model.specs.Lies.{row_lies};
 ghost use Rattle.be_model.specs.Rows.{has};
 ghost use Rattle.be_shape.specs.Shape.{spans_inside, can_split, is_used, is_stuck};
+ghost use Rattle.be_shape.specs.Paths.{is_part_of, is_used_on};
 ghost use Rattle.be_shape.specs.Ranges.{is_bounded, is_rising};
 ghost use Rattle.be_shape.specs.Children.{may_pass};
 ghost use Rattle.be_shape.specs.Spots.{known_of};
@@ -65,6 +66,22 @@ pub fn is_used(used: &[AttrNo], a: AttrNo) -> bool
     ensures { result ≡ is_used used.now a }
 {
     used.iter().any(|u| u.0 == a.0)
+}
+
+/// Whether the attribute is used on the path from the root.
+pub fn is_used_on(hops: &[Hop], a: AttrNo) -> bool
+    ensures { result ≡ is_used_on hops.now a }
+{
+    hops.iter().any(|hop| is_part_of(*hop, a))
+}
+
+fn is_part_of(hop: Hop, a: AttrNo) -> bool
+    ensures { result ≡ is_part_of a hop }
+{
+    match hop {
+        Hop::Part(b) => b.0 == a.0,
+        Hop::Low | Hop::High => false,
+    }
 }
 
 fn are_all_used(row: &Row, used: &[AttrNo]) -> bool
