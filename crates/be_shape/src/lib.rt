@@ -18,7 +18,7 @@ pub use laws::{
 };
 pub use leaves::Leaf;
 pub use looks::{
-    can_split, fits_a_half, has_attr, is_inside, is_stuck, is_used, is_used_on, may_pass,
+    can_split, fits_a_half, has_attr, is_inside, is_stuck, is_used, is_used_on, may_pass, takes,
 };
 pub use nodes::{Node, Part};
 pub use ranges::{NodeRange, holds_value, lower_range, upper_range, whole_range};
