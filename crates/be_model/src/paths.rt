@@ -1,6 +1,7 @@
 //! Ways from the root of a tree to a node, and steps that reshape a tree.
 
-ghost use Rattle.std.specs.Prelude.{◌≡◌, [], ◌∷◌, ◌++◌, OnOk, OnErr};
+ghost use Rattle.std.specs.Prelude.{◌≡◌, ◌-◌, [], ◌∷◌, ◌++◌, length, take, OnOk, OnErr, IfOk};
+ghost use Rattle.std.specs.Option.{option_to_list};
 
 use be_base::{AttrNo, Id, NoMemory};
 use std::alloc::Global;
@@ -48,6 +49,23 @@ impl Path {
         Ok(())
     }
 
+    /// Takes the last step out, if there is one.
+    pub fn pop(&mut self) -> Option<Hop>
+        ensures rest { self.new ≡ take (length self.old - 1) self.old }
+        ensures last { self.old ≡ self.new ++ option_to_list result }
+    {
+        self.hops.pop()
+    }
+
+    /// The same path once more.
+    pub fn copy(&self) -> Result<Path, NoMemory>
+        ensures { IfOk result (λ path. path ≡ self.now) }
+    {
+        let mut hops = Vec::new(*self.hops.allocator());
+        hops.extend_from_slice(self.hops.as_slice())?;
+        Ok(Path { hops })
+    }
+
     pub fn hops(&self) -> &[Hop]
         ensures { result.now ≡ self.now }
     {
@@ -59,11 +77,19 @@ impl Path {
 #[derive(Drop)]
 pub enum Step {
     /// Rows of the node's leaf that have the attribute move to a new part of it.
-    SplitPart { path: Path, attr: AttrNo },
+    SplitPart {
+        path: Path,
+        attr: AttrNo,
+    },
     /// Rows of the node's leaf that a half of its range encloses move to a new node for it; `half` is `Low` or `High`.
-    SplitHalf { path: Path, half: Hop },
+    SplitHalf {
+        path: Path,
+        half: Hop,
+    },
     /// The rows of the node and of all below it move to the leaf above, and the node is dropped.
-    Merge { path: Path },
+    Merge {
+        path: Path,
+    },
     /// A row moves from one part of the node to another.
     Shift {
         path: Path,
