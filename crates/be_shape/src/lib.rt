@@ -17,8 +17,8 @@ mod trees;
 mod walks;
 
 pub use laws::{
-    ids_rise, new_ids_are_nowhere, nodes_are_everywhere, paths_lead, rows_are_found,
-    rows_are_of_leaves,
+    ids_rise, new_ids_are_nowhere, nodes_are_everywhere, nodes_are_listed, paths_lead,
+    rows_are_found, rows_are_of_leaves,
 };
 pub use leaves::Leaf;
 pub use looks::{
