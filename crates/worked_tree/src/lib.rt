@@ -2,11 +2,9 @@
 #![tactic(auto)]
 
 #[cfg(test)]
-mod dice;
-#[cfg(test)]
 mod grown;
 #[cfg(test)]
-mod insert;
+mod looks;
 #[cfg(test)]
 mod plain_walk;
 #[cfg(test)]

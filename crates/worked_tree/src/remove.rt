@@ -2,7 +2,7 @@
 //! list.
 
 use crate::grown::{Grown, row_of, schema_of_four};
-use crate::insert::{finds_as_list, has_ids};
+use crate::looks::{finds_as_list, has_ids};
 use be_base::{AttrNo, Id, Name, SessionNo};
 use be_expr::read_expr;
 use be_model::{Conj, Event, Hop, Path, Row, Values};
