@@ -4,7 +4,7 @@ use Rattle.std.proofs.lemmas.Bool.{eqb-true, ltb-true, ltb-false}
 use Rattle.be_base.specs.declared.limits.TheConstants.{LOG_CHANGES}
 use Rattle.be_model.specs.declared.changes.Row.{Row}
 use Rattle.be_model.specs.Rows.{id_of}
-use Rattle.be_model.specs.ByIds.{ByIds, without_id, row_at, AllAbove, Rising}
+use Rattle.be_model.specs.ByIds.{ByIds, without_id, row_at, Rising}
 use Rattle.be_model.proofs.RowsByIds.{found_says}
 use Rattle.be_model.proofs.RisingIds.{row_at-above, row_at-later, row_at-first, row_at-below}
 use Rattle.be_change.specs.History.{Entry}

@@ -1,5 +1,5 @@
 -- What an edit does to a list of changes beside an index, and what it is answered.
-use Rattle.std.specs.Prelude.{◌≡◌, ◌≢◌, ◌↔◌, ℕ, ◌==◌, ◌&&◌, Bool, true, false, List, [], ◌∷◌, ◌++◌, length, if◌then◌else◌}
+use Rattle.std.specs.Prelude.{◌≡◌, ◌≢◌, ◌↔◌, ◌==◌, ◌&&◌, Bool, true, false, List, [], ◌∷◌, ◌++◌, length, if◌then◌else◌}
 use Rattle.std.specs.Arc.{arc_value}
 use Rattle.be_model.specs.declared.paths.Step.{Step}
 use Rattle.be_model.specs.declared.paths.StepDone.{StepDone}

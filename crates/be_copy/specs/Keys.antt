@@ -1,5 +1,5 @@
 -- The number that stands for a name in a register.
-use Rattle.std.specs.Prelude.{ℕ, ◌*◌, ◌%◌, ◌^◌, List, fold, bit_xor}
+use Rattle.std.specs.Prelude.{ℕ, ◌*◌, ◌%◌, ◌^◌, fold, bit_xor}
 use Rattle.be_base.specs.Text.{Text}
 use Rattle.be_copy.specs.declared.keys.TheConstants.{KEY_START, KEY_FACTOR}
 

@@ -1,7 +1,7 @@
 //! Places of rows, each under a number.
 
-ghost use Rattle.std.specs.Prelude.{◌≡◌, ℕ, ◌<◌, ◌≤◌, ◌^◌, true, false, [], cond, MatchOption, OnOk, OnErr};
-ghost use Rattle.be_copy.specs.Places.{is_listed, is_pair};
+ghost use Rattle.std.specs.Prelude.{◌≡◌, ℕ, true, false, [], cond, OnOk, OnErr};
+ghost use Rattle.be_copy.specs.Places.{is_listed, is_pair, IsLeast};
 
 use be_base::NoMemory;
 use std::alloc::Global;
@@ -42,7 +42,7 @@ impl Places {
 
     /// The first place under the key that is not below `from`.
     pub fn next(&self, key: u64, from: u64) -> Option<u64>
-        ensures { MatchOption result ((i : ℕ) → from ≤ i → i < 2 ^ 64 → is_listed self.now.pairs.keys key i ≡ false) (λ place. (from ≤ place) × (is_listed self.now.pairs.keys key place ≡ true) × ((i : ℕ) → from ≤ i → i < place → is_listed self.now.pairs.keys key i ≡ false)) }
+        ensures { IsLeast (is_listed self.now.pairs.keys key) from result }
     {
         match self.pairs.range((key, from)..=(key, u64::MAX)).next() {
             Some(pair) => Some(pair.1),

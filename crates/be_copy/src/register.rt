@@ -1,8 +1,9 @@
 //! A register of rows: their ids by session, and by name.
 
-ghost use Rattle.std.specs.Prelude.{◌≡◌, ℕ, ◌<◌, ◌≤◌, ◌^◌, true, false, [], Some, MatchOption, OnOk, OnErr};
+ghost use Rattle.std.specs.Prelude.{◌≡◌, false, [], Some, OnOk, OnErr};
 ghost use Rattle.be_model.specs.ByIds.{ByIds, put_by_id, without_id, has_id, row_at};
 ghost use Rattle.be_model.specs.Rows.{id_of};
+ghost use Rattle.be_copy.specs.Places.{IsLeast};
 ghost use Rattle.be_copy.specs.Registers.{IsRegister, is_found};
 
 use crate::keys::name_key;
@@ -57,7 +58,7 @@ impl Register {
 
     /// The next id, not below `from`, that stands under the session, or the name, of the wanted rows.
     pub fn next(&self, wanted: Wanted<'_>, from: u64) -> Option<u64>
-        ensures { MatchOption result ((i : ℕ) → from ≤ i → i < 2 ^ 64 → is_found self.now wanted.entry i ≡ false) (λ place. (from ≤ place) × (is_found self.now wanted.entry place ≡ true) × ((i : ℕ) → from ≤ i → i < place → is_found self.now wanted.entry i ≡ false)) }
+        ensures { IsLeast (is_found self.now wanted.entry) from result }
     {
         match wanted {
             Wanted::Named(name) => self.names.next(name_key(name), from),

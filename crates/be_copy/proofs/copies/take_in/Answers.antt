@@ -1,5 +1,5 @@
 -- The copy is right after one more change.
-use Rattle.std.proofs.Common.{◌≡◌, ◌++◌, ◌∷◌, [], true, length, ap, sym, ◌∙◌, rules}
+use Rattle.std.proofs.Common.{◌≡◌, ◌++◌, ◌∷◌, [], true, length, rules}
 use Rattle.std.specs.Arc.{arc_value}
 use Rattle.be_change.specs.History.{after_entry}
 use Rattle.be_change.specs.Entries.{entry_of}

@@ -1,11 +1,11 @@
 -- The next id is that of a row, which is the first that is wanted, or is passed.
-use Rattle.std.proofs.Common.{◌≡◌, ℕ, ◌+◌, true, false, Option, Some, None, option_map, find, slice_get, sym, ap, ◌∙◌, arith}
+use Rattle.std.proofs.Common.{◌≡◌, ℕ, true, false, option_map, slice_get, sym, ap, ◌∙◌, arith}
 use Rattle.std.specs.Arc.{arc_value}
 use Rattle.be_model.specs.declared.changes.Row.{Row}
 use Rattle.be_model.specs.Rows.{id_of}
 use Rattle.be_change.specs.Entries.{row_in}
 use Rattle.be_copy.specs.Wanted.{wants}
-use Rattle.be_copy.proofs.Firsts.{IsLookedUp, looked_up, lent_is, taken_row, passed_row, none_at_all}
+use Rattle.be_copy.proofs.Firsts.{looked_up, lent_is, taken_row, passed_row, none_at_all}
 use Rattle.be_copy.proofs.live.first.Goals as goal
 
 pub returns-then-takes-clause-first : goal.returns-then-takes-clause-first

@@ -1,4 +1,4 @@
-use Rattle.std.proofs.Common.{ℕ, ◌-◌, ◌^◌, arith}
+use Rattle.std.proofs.Common.{◌-◌, ◌^◌, arith}
 use Rattle.std.specs.Range.{range_inclusive_start, range_inclusive_end}
 use Rattle.be_copy.proofs.Pairs.{next_between, none_between}
 use Rattle.be_copy.proofs.places.Places.next.Goals as goal

@@ -1,6 +1,5 @@
 -- The row is filed, or taken out again.
-use Rattle.std.proofs.Common.{subst, sym, refl}
-use Rattle.be_model.specs.ByIds.{put_by_id}
+use Rattle.std.proofs.Common.{subst, sym}
 use Rattle.be_copy.specs.Registers.{session_of_row, key_of_row, AreFiled}
 use Rattle.be_copy.proofs.Filed.{filed_put, filed_undone}
 use Rattle.be_copy.proofs.register.Register.put.Goals as goal
