@@ -220,7 +220,7 @@ put_says row (r ∷ rs) s =
     (λ k. subst SayIds (sym (put_before row r rs k)) (refl, s))
     (λ k. subst SayIds (sym (put_after row r rs k)) (s.0, put_says row rs s.1))
 
-all_say : (rows : List Row) → SayIds (by_ids rows)
+pub all_say : (rows : List Row) → SayIds (by_ids rows)
 all_say [] = tt
 all_say (row ∷ rows) = put_says row (by_ids rows) (all_say rows)
 
