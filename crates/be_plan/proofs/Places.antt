@@ -1,14 +1,13 @@
 -- Where a node stands in its tree: at the root, and one step further.
-use Rattle.std.proofs.Common.{◌≡◌, ℕ, zero, suc, ◌+◌, ◌<◌, Bool, true, false, not, eqb, ltb, leb, length, get_or, ◌&&◌, ◌||◌, List, [], ◌∷◌, ◌++◌, Option, Some, None, option_and_then, refl, sym, ap, ◌∙◌, subst, arith}
+use Rattle.std.proofs.Common.{◌≡◌, ℕ, zero, suc, ◌+◌, ◌-◌, ◌<◌, Bool, true, false, not, eqb, ltb, leb, length, get_or, take, length-append, ◌&&◌, ◌||◌, List, [], ◌∷◌, ◌++◌, Option, Some, None, option_and_then, refl, sym, ap, ◌∙◌, subst, arith}
 use Rattle.std.specs.List.{list_all, list_any, flat_map, AllByRecursion}
+use Rattle.std.proofs.Math.Seq.{take-append_seam}
 use Rattle.std.proofs.lemmas.Bool.{and_parts, and_from}
 use Rattle.be_model.specs.declared.changes.Row.{Row}
 use Rattle.be_base.specs.declared.names.AttrNo.{AttrNo}
 use Rattle.be_model.specs.declared.paths.Hop.{Hop}
-use Rattle.be_model.specs.declared.paths.Hop.TheVariants.{Part}
+use Rattle.be_model.specs.declared.paths.Hop.TheVariants.{Part, Low, High}
 use Rattle.be_shape.specs.declared.nodes.Part.{Part as PartOf}
-use Rattle.be_shape.specs.declared.nodes.Node.TheViews.{out-Part}
-use Rattle.be_shape.proofs.Plains.{part_out}
 use Rattle.be_model.specs.Schemas.{Attributes}
 use Rattle.be_model.specs.Rows.{id_of}
 use Rattle.be_model.specs.ByIds.{ids_differ}
@@ -17,7 +16,8 @@ use Rattle.be_shape.specs.Plain.{Plain, node, plain, rows_below, leaf_of, parts_
 use Rattle.be_base.specs.declared.limits.TheConstants.{LEAF_ROWS, LOG_CHANGES}
 use Rattle.be_model.specs.Lies.{row_lies}
 use Rattle.be_model.specs.Forms.{is_conj}
-use Rattle.be_shape.specs.Shape.{Known, nothing, everywhere, is_placed_at, may_stand, attrs_of, is_used, parts_fit, spans_inside, can_split, is_here, is_stuck}
+use Rattle.be_shape.specs.Spots.{CanLeave, used_above}
+use Rattle.be_shape.specs.Shape.{Known, known, nothing, everywhere, is_placed_at, may_stand, attrs_of, is_used, parts_fit, spans_inside, can_split, is_here, is_stuck}
 use Rattle.be_model.specs.Forms.{attrs_rise}
 use Rattle.be_shape.specs.Paths.{child, walk}
 use Rattle.be_shape.specs.Children.{roots_of, children, known_below, is_open}
@@ -151,9 +151,23 @@ settles_here s k n r = sym (settled_is s k n) ∙ (right_here s k n (levels (is_
 pub at_moved : (s : Attributes) (root : Plain) (p q : List Hop) (j k : Known) (n : Plain) → IsAt s root p j n → q ≡ p → k ≡ j → IsAt s root q k n
 at_moved s root p q j k n a e f = subst (λ x. IsAt s root x k n) (sym e) (subst (λ x. IsAt s root p x n) (sym f) a)
 
-pub part_there : (n : Plain) (ps : List PartOf) (i : ℕ) (p : PartOf) → i < length ps → p ≡ get_or ps i p → AllByRecursion (λ (x : Hop × Plain). child x.0 n ≡ Some x.1) (roots_of (parts_as ps)) → child (Part (out-Part p).attr) n ≡ Some (plain (out-Part p).root.value)
+pub part_there : (n : Plain) (ps : List PartOf) (i : ℕ) (p : PartOf) → i < length ps → p ≡ get_or ps i p → AllByRecursion (λ (x : Hop × Plain). child x.0 n ≡ Some x.1) (roots_of (parts_as ps)) → child (Part (part_as p).0) n ≡ Some (part_as p).1
 part_there n [] i p l is h = absurd (omega arith)
-part_there n (r ∷ ps) zero p l is h =
-    let e : part_as r ≡ ((out-Part p).attr, plain (out-Part p).root.value) = ap part_as (sym is) ∙ part_out p in
-    subst (λ (z : AttrNo × Plain). child (Part z.0) n ≡ Some z.1) e h.0
+part_there n (r ∷ ps) zero p l is h = subst (λ (q : PartOf). child (Part (part_as q).0) n ≡ Some (part_as q).1) (sym is) h.0
 part_there n (r ∷ ps) (suc i) p l is h = part_there n ps i p (omega arith) is h.1
+
+-- back up, what was known
+pub back_up : (s : Attributes) (hop : Hop) (k : Known) → known k.range (used_above hop (known_below s hop k).used) ≡ k
+back_up s (Part a) k = refl
+back_up s Low k = refl
+back_up s High k = refl
+
+pub can_leave : (s : Attributes) (hop : Hop) (k : Known) → CanLeave hop (known_below s hop k).used
+can_leave s (Part a) k = omega arith
+can_leave s Low k = tt
+can_leave s High k = tt
+
+pub path_back : (path : List Hop) (hop : Hop) → take (length (path ++ hop ∷ []) - 1) (path ++ hop ∷ []) ≡ path
+path_back path hop =
+    let n : length (path ++ hop ∷ []) - 1 ≡ length path = omega (arith, length-append path (hop ∷ [])) in
+    ap (λ m. take m (path ++ hop ∷ [])) n ∙ take-append_seam path (hop ∷ [])

@@ -9,12 +9,11 @@ use Rattle.be_model.specs.declared.changes.Row.{Row}
 use Rattle.be_model.specs.declared.paths.Hop.{Hop}
 use Rattle.be_model.specs.declared.paths.Hop.TheVariants.{Part as PartHop, Low, High}
 use Rattle.be_model.specs.declared.paths.Step.{Step}
+use Rattle.be_model.specs.declared.paths.Step.TheVariants.{Merge}
 use Rattle.be_model.specs.Schemas.{Attributes}
 use Rattle.be_shape.specs.declared.nodes.Part.{Part}
-use Rattle.be_shape.specs.declared.nodes.Node.TheViews.{out-Part}
-use Rattle.be_shape.specs.Plain.{Plain, node, Parts, Half, plain, parts_as}
+use Rattle.be_shape.specs.Plain.{Plain, node, Parts, Half, part_as, parts_as}
 use Rattle.be_shape.specs.Shape.{Known, known, nothing, in_part, in_low, in_high}
-use Rattle.be_shape.proofs.Plains.{part_out}
 use Rattle.be_shape.specs.Paths.{child}
 use Rattle.be_shape.specs.NodeList.{NodeAt, node_at, nodes_from, nodes_in_parts, nodes_in_half, nodes}
 use Rattle.be_shape.specs.Steps.{stands, may_merge, can_merge}
@@ -44,12 +43,11 @@ module _ (s : Attributes) (alpha : ℕ) (root : Plain) where
   -- a part more
   pub part_step : (path : List Hop) (k : Known) (ps : List Part) (i : ℕ) (p : Part) (b : Best) → i < length ps → p ≡ get_or ps i p
       → best_after s alpha root (nodes_in_parts s path k (parts_as (drop i ps))) b
-      ≡ best_after s alpha root (nodes_in_parts s path k (parts_as (drop (i + 1) ps))) (best_after s alpha root (nodes_from s (path ++ PartHop (out-Part p).attr ∷ []) (in_part s (out-Part p).attr k) (plain (out-Part p).root.value)) b)
+      ≡ best_after s alpha root (nodes_in_parts s path k (parts_as (drop (i + 1) ps))) (best_after s alpha root (nodes_from s (path ++ PartHop (part_as p).0 ∷ []) (in_part s (part_as p).0 k) (part_as p).1) b)
   part_step path k ps i p b l is =
       let rest = nodes_in_parts s path k (parts_as (drop (i + 1) ps)) in
       ap (λ q. after (nodes_in_parts s path k q) b) (parts_left ps i p l is)
-      ∙ ap (λ (z : AttrNo × Plain). after (nodes_from s (path ++ PartHop z.0 ∷ []) (in_part s z.0 k) z.1 ++ rest) b) (part_out p)
-      ∙ best_append (nodes_from s (path ++ PartHop (out-Part p).attr ∷ []) (in_part s (out-Part p).attr k) (plain (out-Part p).root.value)) rest b
+      ∙ best_append (nodes_from s (path ++ PartHop (part_as p).0 ∷ []) (in_part s (part_as p).0 k) (part_as p).1) rest b
 
   -- a node whole, but for its merge
   pub node_step : (path : List Hop) (k : Known) (leaf : List Row) (parts : Parts) (low high : Half) (b b1 b2 b3 b4 : Best)
@@ -62,9 +60,9 @@ module _ (s : Attributes) (alpha : ℕ) (root : Plain) where
       let u = nodes_in_half s (path ++ High ∷ []) (in_high k) high in
       h ∙ ap (after u) (g ∙ ap (after l) f ∙ sym (best_append p l b1)) ∙ sym (best_append (p ++ l) u b1) ∙ ap (after (p ++ l ++ u)) e
 
-  -- a child whole
-  pub child_step : (x : NodeAt) (xs : List NodeAt) (b : Best) → below_after s alpha root (x ∷ xs) (after_merges s root x b) ≡ best_after s alpha root (x ∷ xs) b
-  child_step x xs b = refl
+  -- a child, after the look at it as one to be merged
+  pub child_step : (path : List Hop) (k : Known) (n : Plain) (b c : Best) → c ≡ better 0 (first s root (Merge path ∷ [])) b → below_after s alpha root (nodes_from s path k n) c ≡ best_after s alpha root (nodes_from s path k n) b
+  child_step path k (node rows parts low high) b c e = ap (below_after s alpha root (nodes_from s path k (node rows parts low high))) e
 
   abbrev at : ℕ → Option Step → Best
   at sought step = record { sought = sought; step = step }

@@ -6,7 +6,7 @@ ghost use Rattle.be_shape.specs.Plain.{plain};
 ghost use Rattle.be_plan.specs.Plan.{plan};
 
 use crate::bests::Best;
-use crate::seeks::seek_node;
+use crate::seeks::seek;
 use be_base::NoMemory;
 use be_model::{Path, Step};
 use be_shape::{Spot, Tree};
@@ -18,6 +18,6 @@ pub fn plan(t: &Tree) -> Result<Option<Step>, NoMemory>
 {
     let alloc = *t.root.parts.allocator();
     let mut best = Best::none();
-    seek_node(t, &t.root, &mut Spot::root(alloc), &mut Path::make(alloc), &mut best)?;
+    seek(t, &t.root, &mut Spot::root(alloc), &mut Path::make(alloc), &mut best)?;
     Ok(best.step)
 }

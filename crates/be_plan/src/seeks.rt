@@ -1,13 +1,15 @@
 //! The way through the nodes of a tree.
 
-ghost use Rattle.std.specs.Prelude.{◌≡◌, ◌∷◌, [], ◌++◌, Some, OnOk};
+ghost use Rattle.std.specs.Prelude.{◌≡◌, ◌-◌, ◌∷◌, [], ◌++◌, true, length, take, Some, OnOk};
 ghost use Rattle.std.specs.Arc.{arc_value};
 ghost use Rattle.be_model.specs.declared.paths.Step.TheVariants.{Merge};
-ghost use Rattle.be_shape.specs.Plain.{plain, half_as};
+ghost use Rattle.be_shape.specs.Plain.{plain, half_as, part_as};
+ghost use Rattle.be_shape.specs.Shape.{known, in_part};
+ghost use Rattle.be_shape.specs.Ranges.{is_bounded, is_rising};
 ghost use Rattle.be_shape.specs.Paths.{child, in_half};
 ghost use Rattle.be_shape.specs.Children.{known_below};
 ghost use Rattle.be_shape.specs.NodeList.{node_at, nodes_from, nodes_in_half};
-ghost use Rattle.be_shape.specs.Spots.{known_of};
+ghost use Rattle.be_shape.specs.Spots.{known_of, CanLeave, used_above};
 ghost use Rattle.be_plan.specs.Plan.{merges, shifts, part_splits, half_splits};
 ghost use Rattle.be_plan.specs.Best.{IsAt, first, better, after_others, best_after, below_after};
 
@@ -17,7 +19,7 @@ use crate::shifts::shift_at;
 use crate::splits::{half_split_at, part_split_at};
 use be_base::NoMemory;
 use be_model::{Hop, Path, Step};
-use be_shape::{Node, Spot, Tree};
+use be_shape::{Node, NodeRange, Part, Spot, Tree};
 
 // Looks at the child that a step leads to, as one to be merged.
 fn look_at_merge(
@@ -123,9 +125,8 @@ fn look(t: &Tree, n: &Node, k: &Spot, path: &Path, best: &mut Best) -> Result<()
     look_at_half_split(t, n, k, path, best)
 }
 
-// Looks at a child and at all nodes below it.
-#[cycle(seeks)]
-fn seek_child(
+// Looks at a child as one to be merged, and goes down to it.
+fn go_down(
     t: &Tree,
     n: &Node,
     hop: Hop,
@@ -136,23 +137,31 @@ fn seek_child(
 ) -> Result<(), NoMemory>
     requires at { IsAt (arc_value t.now.schema) (plain t.now.root) path.old (known_of k.old) (plain n.now) }
     requires there { child hop (plain n.now) ≡ Some (plain m.now) }
-    ensures best { OnOk result (best.new ≡ best_after (arc_value t.now.schema) t.now.alpha (plain t.now.root) (nodes_from (arc_value t.now.schema) (path.old ++ hop ∷ []) (known_below (arc_value t.now.schema) hop (known_of k.old)) (plain m.now)) best.old) }
-    ensures path { OnOk result (path.new ≡ path.old) }
-    ensures known { OnOk result (known_of k.new ≡ known_of k.old) }
+    ensures best { OnOk result (best.new ≡ better MERGES (first (arc_value t.now.schema) (plain t.now.root) (Merge (path.old ++ hop ∷ []) ∷ [])) best.old) }
+    ensures path { OnOk result (path.new ≡ path.old ++ hop ∷ []) }
+    ensures known { OnOk result (known_of k.new ≡ known_below (arc_value t.now.schema) hop (known_of k.old)) }
 {
     look_at_merge(t, n, hop, m, k, path, best)?;
-    let range = k.range;
     path.push(hop)?;
     k.enter(&t.schema, hop)?;
-    seek_node(t, m, k, path, best)?;
+    Ok(())
+}
+
+// Goes back up the step, to a node of this range.
+fn go_up(hop: Hop, range: NodeRange, k: &mut Spot, path: &mut Path)
+    requires bounded { is_bounded range ≡ true }
+    requires rising { is_rising range ≡ true }
+    requires used { CanLeave hop (known_of k.old).used }
+    ensures path { path.new ≡ take (length path.old - 1) path.old }
+    ensures known { known_of k.new ≡ known range (used_above hop (known_of k.old).used) }
+{
     k.leave(hop, range);
     let _ = path.pop();
-    Ok(())
 }
 
 // Looks at a node, but as one to be merged, and at all nodes below it. Path and spot come back as they were.
 #[cycle(seeks)]
-pub(crate) fn seek_node(
+pub(crate) fn seek(
     t: &Tree,
     n: &Node,
     k: &mut Spot,
@@ -166,19 +175,44 @@ pub(crate) fn seek_node(
 {
     look(t, n, k, path, best)?;
     for part in n.parts.as_slice() {
-        seek_child(t, n, Hop::Part(part.attr), &part.root, k, path, best)?;
+        seek_part(t, part, n, k, path, best)?;
     }
-    seek_half(t, n, Hop::Low, &n.low, k, path, best)?;
-    seek_half(t, n, Hop::High, &n.high, k, path, best)?;
+    seek_half(t, &n.low, Hop::Low, n, k, path, best)?;
+    seek_half(t, &n.high, Hop::High, n, k, path, best)?;
     Ok(())
 }
 
+// Looks at the root of a part and at all nodes below it.
+#[cycle(seeks)]
+fn seek_part(
+    t: &Tree,
+    part: &Part,
+    n: &Node,
+    k: &mut Spot,
+    path: &mut Path,
+    best: &mut Best,
+) -> Result<(), NoMemory>
+    requires at { IsAt (arc_value t.now.schema) (plain t.now.root) path.old (known_of k.old) (plain n.now) }
+    requires there { child (Hop.Part (part_as part.now).0) (plain n.now) ≡ Some (part_as part.now).1 }
+    ensures best { OnOk result (best.new ≡ best_after (arc_value t.now.schema) t.now.alpha (plain t.now.root) (nodes_from (arc_value t.now.schema) (path.old ++ Hop.Part (part_as part.now).0 ∷ []) (in_part (arc_value t.now.schema) (part_as part.now).0 (known_of k.old)) (part_as part.now).1) best.old) }
+    ensures path { OnOk result (path.new ≡ path.old) }
+    ensures known { OnOk result (known_of k.new ≡ known_of k.old) }
+{
+    let hop = Hop::Part(part.attr);
+    let range = k.range;
+    go_down(t, n, hop, &part.root, k, path, best)?;
+    seek(t, &part.root, k, path, best)?;
+    go_up(hop, range, k, path);
+    Ok(())
+}
+
+// Looks at a half that is there and at all nodes below it.
 #[cycle(seeks)]
 fn seek_half(
     t: &Tree,
-    n: &Node,
-    hop: Hop,
     half: &Option<Box<Node>>,
+    hop: Hop,
+    n: &Node,
     k: &mut Spot,
     path: &mut Path,
     best: &mut Best,
@@ -189,8 +223,12 @@ fn seek_half(
     ensures path { OnOk result (path.new ≡ path.old) }
     ensures known { OnOk result (known_of k.new ≡ known_of k.old) }
 {
-    match half {
-        Some(m) => seek_child(t, n, hop, m, k, path, best),
-        None => Ok(()),
-    }
+    let Some(m) = half else {
+        return Ok(());
+    };
+    let range = k.range;
+    go_down(t, n, hop, m, k, path, best)?;
+    seek(t, m, k, path, best)?;
+    go_up(hop, range, k, path);
+    Ok(())
 }
