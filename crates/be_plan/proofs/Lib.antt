@@ -9,3 +9,4 @@ pub mod Stuck
 pub mod Places
 pub mod Firsts
 pub mod Seeking
+pub mod Law
