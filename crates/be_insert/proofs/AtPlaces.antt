@@ -110,11 +110,5 @@ got [] i x h = absurd (cc)
 got (y ∷ ys) zero x h = cc
 got (y ∷ ys) (suc i) x h = got ys i x h
 
--- one more row is counted
-pub count_next : (p : Row → Bool) (xs : List Row) (i n : ℕ) (x : Row) → n ≡ count_by p (take i xs) → slice_get xs i ≡ Some x → n + cond (p x) 1 0 ≡ count_by p (take (i + 1) xs)
-count_next p xs i n x h e =
-    let f : Row → ℕ = λ y. cond (p y) 1 0 in
-    omega (arith, h, sum_by_more f xs i x (slice_get_within xs i x e), ap f (got xs i x e))
-
 pub some_same : {x y : Row} → Some x ≡ Some y → x ≡ y
 some_same h = cc

@@ -1,7 +1,7 @@
 //! A leaf that has a row too much.
 
 ghost use Rattle.std.specs.Prelude.{◌≡◌, ◌<◌, ◌≤◌, ◌+◌, ◌-◌, ◌||◌, true, false, not, [], length, take, filter, nat_le, if◌then◌else◌};
-ghost use Rattle.std.specs.List.{count_by, list_all, list_any};
+ghost use Rattle.std.specs.List.{list_all, list_any};
 ghost use Rattle.be_base.specs.declared.limits.TheConstants.{LEAF_ROWS};
 ghost use Rattle.be_model.specs.Lies.{row_lies};
 ghost use Rattle.be_shape.specs.Shape.{is_stuck};
@@ -13,7 +13,7 @@ ghost use Rattle.be_insert.specs.Filled.{is_filled, settles, better_half, half_f
 use be_base::LEAF_ROWS;
 use be_model::{Hop, Schema};
 use be_score::pick_attr;
-use be_shape::{Leaf, NodeRange, Spot, can_split, is_stuck, may_pass};
+use be_shape::{Leaf, NodeRange, Spot, can_split, count_passing, is_stuck, may_pass};
 
 /// The first place whose row may be not stuck: where a leaf had more than 16 rows, all but the last are stuck.
 pub(crate) fn first_loose(leaf: &Leaf) -> usize
@@ -86,8 +86,8 @@ pub(crate) fn half_for(leaf: &Leaf, s: &Schema, range: NodeRange) -> Option<Hop>
         return None;
     }
     better_half(
-        count(leaf, s, Hop::Low, range),
-        count(leaf, s, Hop::High, range),
+        count_passing(leaf, s, Hop::Low, range),
+        count_passing(leaf, s, Hop::High, range),
     )
 }
 

@@ -56,3 +56,8 @@ pick_is s rows used alpha o lies is none =
     same (Some a) None is none b = absurd ((chosen_none s rows used alpha (length s) None lies (omega arith) b).0 refl a is.candidate)
     same (Some a) (Some best) is none b =
         ap (λ x. Some x) (one_pick s rows used alpha a best.0 is (chosen_pick s rows used alpha (length s) (Some best) lies (omega arith) b))
+
+-- what is chosen is a candidate
+pub picked : (s : Attributes) (rows : List Row) (used : List AttrNo) (alpha : ℕ) (a : AttrNo) → list_all (row_lies s) rows ≡ true → pick s rows used alpha ≡ Some a → IsCandidate rows used a
+picked s rows used alpha a lies e =
+    let p = subst (λ o. IfSome o (IsPick s rows used alpha)) e (chosen_pick s rows used alpha (length s) (best_of_first s rows used alpha (length s)) lies (omega arith) (best_is_best s rows used alpha (length s))) in p.candidate

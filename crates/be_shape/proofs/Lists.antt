@@ -1,11 +1,13 @@
 -- Lists: tests of parts and of the same in another order, and what a filter keeps and leaves.
-use Rattle.std.proofs.Common.{◌≡◌, ◌<◌, Bool, true, false, not, cond, ◌||◌, List, [], ◌∷◌, ◌++◌, length, refl, sym, ap, ◌∙◌, subst, arith}
+use Rattle.std.proofs.Common.{◌≡◌, ℕ, ◌+◌, ◌<◌, Bool, true, false, not, cond, ◌||◌, List, [], ◌∷◌, ◌++◌, length, take, slice_get, Some, refl, sym, ap, ◌∙◌, subst, arith}
 use Rattle.std.specs.Prelude.{IsPermutation}
-use Rattle.std.specs.List.{list_all, list_any, filter}
+use Rattle.std.specs.List.{list_all, list_any, filter, count_by}
 use Rattle.std.proofs.lemmas.Bool.{and_parts, and_from}
 use Rattle.std.proofs.lemmas.List.{append_assoc}
 use Rattle.std.proofs.lemmas.List.Folds.{list_all-append}
 use Rattle.std.proofs.lemmas.List.Sorted.{list_any-IsPermutation, IsPermutation-append_comm, IsPermutation-append_right, IsPermutation-filter_both, length_permutation}
+use Rattle.std.proofs.lemmas.List.Sums.{sum_by_more}
+use Rattle.std.proofs.lemmas.Option.{slice_get_within, get_or_from_slice_get}
 use Rattle.be_model.proofs.Lists.{list_all-not_any}
 
 pub all_permuted : {X : Type 0} (p : X → Bool) (xs ys : List X) → IsPermutation xs ys → list_all p xs ≡ true → list_all p ys ≡ true
@@ -75,3 +77,9 @@ filter_some q (x ∷ xs) h = by_test (q x) h (filter_some q xs)
     by_test : (b : Bool) → (b || list_any q xs) ≡ true → (list_any q xs ≡ true → 0 < length (filter q xs)) → 0 < length (cond b (x ∷ filter q xs) (filter q xs))
     by_test true h k = omega arith
     by_test false h k = k h
+
+-- one more is counted
+pub count_next : {X : Type 0} (p : X → Bool) (xs : List X) (i n : ℕ) (x : X) → n ≡ count_by p (take i xs) → slice_get xs i ≡ Some x → n + cond (p x) 1 0 ≡ count_by p (take (i + 1) xs)
+count_next {X} p xs i n x h e =
+    let f : X → ℕ = λ y. cond (p y) 1 0 in
+    omega (arith, h, sum_by_more f xs i x (slice_get_within xs i x e), ap f (get_or_from_slice_get xs i x x e))

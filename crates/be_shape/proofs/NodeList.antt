@@ -70,17 +70,17 @@ pub at_nodes : (s : Attributes) (n : Plain) → HoldsAtNodes s n
 at_nodes s n c = holds_at_nodes c s n [] nothing
 
 -- attributes that rise from a number on
-abbrev RisesFrom : ℕ → List AttrNo → Type 0
+abbrev pub RisesFrom : ℕ → List AttrNo → Type 0
 RisesFrom n [] = Unit {0}
 RisesFrom n (a ∷ as') = (n ≤ a.0) × RisesFrom (a.0 + 1) as'
 
-rises_after : (a : AttrNo) (more : List AttrNo) → attrs_rise (a ∷ more) ≡ true → RisesFrom (a.0 + 1) more
+pub rises_after : (a : AttrNo) (more : List AttrNo) → attrs_rise (a ∷ more) ≡ true → RisesFrom (a.0 + 1) more
 rises_after a [] h = tt
 rises_after a (b ∷ more) h =
     let k = and_parts (ltb a.0 b.0) (attrs_rise (b ∷ more)) h in
     let l : a.0 < b.0 = ltb-true a.0 b.0 k.0 in (omega arith, rises_after b more k.1)
 
-rises_from : (attrs : List AttrNo) → attrs_rise attrs ≡ true → RisesFrom 0 attrs
+pub rises_from : (attrs : List AttrNo) → attrs_rise attrs ≡ true → RisesFrom 0 attrs
 rises_from [] h = tt
 rises_from (a ∷ more) h = (omega arith, rises_after a more h)
 

@@ -13,6 +13,7 @@ ghost use Rattle.be_shape.specs.Children.{may_pass};
 ghost use Rattle.be_shape.specs.Spots.{known_of};
 
 use crate::nodes::Node;
+use crate::leaves::Leaf;
 use crate::ranges::{NodeRange, lower_range, upper_range};
 use crate::spots::Spot;
 use be_base::AttrNo;
@@ -119,4 +120,20 @@ pub fn fits_a_half(row: &Row, s: &Schema, range: NodeRange) -> bool
     ensures { result ≡ (can_split range && (may_pass s.now Low range row.now || may_pass s.now High range row.now)) }
 {
     can_split(range) && (may_pass(row, s, Hop::Low, range) || may_pass(row, s, Hop::High, range))
+}
+
+/// How many rows of the leaf may pass the step.
+pub fn count_passing(leaf: &Leaf, s: &Schema, hop: Hop, range: NodeRange) -> usize
+    requires lie { list_all (row_lies s.now) leaf.now ≡ true }
+    requires bounded { is_bounded range ≡ true }
+    requires rising { is_rising range ≡ true }
+    ensures { result ≡ count_by (may_pass s.now hop range) leaf.now }
+{
+    let mut count = 0;
+    for place in 0..leaf.len() {
+        if may_pass(leaf.row(place), s, hop, range) {
+            count += 1;
+        }
+    }
+    count
 }

@@ -9,3 +9,5 @@ mod looks;
 mod plain_walk;
 #[cfg(test)]
 mod remove;
+//! Tests of what stands on the whole tree.
+mod plan;

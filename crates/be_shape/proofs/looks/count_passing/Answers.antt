@@ -3,9 +3,9 @@ use Rattle.std.specs.Arc.{arc_value}
 use Rattle.be_model.specs.Lies.{row_lies}
 use Rattle.be_model.proofs.Attributes.{all_at}
 use Rattle.be_shape.specs.Children.{may_pass}
-use Rattle.be_insert.proofs.AtPlaces.{count_next}
-use Rattle.be_insert.proofs.leaves.count.Goals as goal
-use Rattle.be_insert.proofs.leaves.count.Goals.{then-may_pass, else-may_pass}
+use Rattle.be_shape.proofs.Lists.{count_next}
+use Rattle.be_shape.proofs.looks.count_passing.Goals as goal
+use Rattle.be_shape.proofs.looks.count_passing.Goals.{then-may_pass, else-may_pass}
 
 pub may_pass-requires-clause-lies : goal.may_pass-requires-clause-lies
 may_pass-requires-clause-lies c =

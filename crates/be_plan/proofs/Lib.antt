@@ -1,0 +1,12 @@
+pub mod Rooms
+pub mod Rows
+pub mod Stays
+pub mod Ids
+pub mod Gains
+pub mod Moves
+pub mod Counts
+pub mod Stuck
+pub mod Places
+pub mod Firsts
+pub mod Seeking
+pub mod Law

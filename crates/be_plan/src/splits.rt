@@ -1,0 +1,68 @@
+//! The first splits at a node.
+
+ghost use Rattle.std.specs.Prelude.{◌≡◌, ◌||◌, true, not, length, nat_le};
+ghost use Rattle.std.specs.List.{list_all};
+ghost use Rattle.be_base.specs.declared.limits.TheConstants.{EARLY_ROWS, LEAF_ROWS};
+ghost use Rattle.be_model.specs.Lies.{row_lies};
+ghost use Rattle.be_shape.specs.Shape.{is_stuck};
+ghost use Rattle.be_shape.specs.Ranges.{is_bounded, is_rising};
+ghost use Rattle.be_shape.specs.Spots.{known_of};
+ghost use Rattle.be_plan.specs.Splits.{enough_pass, early_part, early_half};
+
+use be_base::{AttrNo, EARLY_ROWS, LEAF_ROWS};
+use be_model::{Hop, Schema};
+use be_score::pick_attr;
+use be_shape::{Leaf, NodeRange, Spot, can_split, count_passing};
+
+// Whether at least 8 rows of the leaf may pass the step.
+fn enough_pass(leaf: &Leaf, s: &Schema, hop: Hop, range: NodeRange) -> bool
+    requires lie { list_all (row_lies s.now) leaf.now ≡ true }
+    requires bounded { is_bounded range ≡ true }
+    requires rising { is_rising range ≡ true }
+    ensures { result ≡ enough_pass s.now hop range leaf.now }
+{
+    EARLY_ROWS <= count_passing(leaf, s, hop, range)
+}
+
+// Whether a leaf has too few rows for a split, or more than 16, of which none can move.
+fn is_still(leaf: &Leaf) -> bool
+    ensures { result ≡ (not (nat_le EARLY_ROWS (length leaf.now)) || not (nat_le (length leaf.now) LEAF_ROWS)) }
+{
+    leaf.len() < EARLY_ROWS || LEAF_ROWS < leaf.len()
+}
+
+/// The attribute that divides the leaf best, where at least 8 of its rows have it.
+pub(crate) fn part_split_at(leaf: &Leaf, s: &Schema, k: &Spot, alpha: u8) -> Option<AttrNo>
+    requires lie { list_all (row_lies s.now) leaf.now ≡ true }
+    requires settled { (nat_le (length leaf.now) LEAF_ROWS || list_all (is_stuck s.now (known_of k.now)) leaf.now) ≡ true }
+    ensures { result ≡ early_part s.now alpha (known_of k.now) leaf.now }
+{
+    if is_still(leaf) {
+        return None;
+    }
+    match pick_attr(s, leaf, k.used.as_slice(), alpha) {
+        Some(a) if enough_pass(leaf, s, Hop::Part(a), k.range) => Some(a),
+        _ => None,
+    }
+}
+
+/// The first half that encloses at least 8 rows of the leaf.
+pub(crate) fn half_split_at(leaf: &Leaf, s: &Schema, k: &Spot) -> Option<Hop>
+    requires lie { list_all (row_lies s.now) leaf.now ≡ true }
+    requires settled { (nat_le (length leaf.now) LEAF_ROWS || list_all (is_stuck s.now (known_of k.now)) leaf.now) ≡ true }
+    ensures { result ≡ early_half s.now k.now.range leaf.now }
+{
+    if is_still(leaf) {
+        return None;
+    }
+    if !can_split(k.range) {
+        return None;
+    }
+    if enough_pass(leaf, s, Hop::Low, k.range) {
+        return Some(Hop::Low);
+    }
+    if enough_pass(leaf, s, Hop::High, k.range) {
+        return Some(Hop::High);
+    }
+    None
+}
