@@ -58,6 +58,9 @@ call run schema.txt schema.txt; same 'three words' 2 '' 'words refused\n'
 call fly schema.txt; same 'an unknown command' 2 '' 'words refused\n'
 call RUN schema.txt; same 'a command in capitals' 2 '' 'words refused\n'
 call --help; same 'a flag' 2 '' 'words refused\n'
+call run -x; same 'a word that begins with a hyphen' 2 '' 'words refused\n'
+call run -- -x; same 'a separator, and a missing file' 4 '' 'read fault\n'
+call run schema.txt --load schema.txt; same 'a load file, which is not served yet' 2 '' 'words refused\n'
 call run $'\xff'; same 'a word that is no text' 2 '' 'words refused\n'
 
 # schemas

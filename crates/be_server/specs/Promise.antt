@@ -151,5 +151,6 @@ RunEnds Untouched file before after (Shut shade) = ⊥
 
 -- how the program ends, by its words, over files of this content. Words without a reading touch nothing
 abbrev pub Ends : Option Command → Type 0 → (Text → ToldFile) → CommandState → CommandState → Status → Type 0
-Ends None Untouched content before after status = (status ≡ Words) × (after.shelf ≡ before.shelf) × Untouched
+Ends None Untouched content before after status =
+    ((status ≡ Words) ⊎ (status ≡ NoMemory)) × (after.shelf ≡ before.shelf) × Untouched
 Ends (Some (run schema)) Untouched content before after status = RunEnds Untouched (content schema) before after status

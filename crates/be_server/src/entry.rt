@@ -1,17 +1,18 @@
 //! The one call that the program makes.
 
-ghost use Rattle.std.specs.Prelude.{◌≡◌, ◌↔◌, None};
+ghost use Rattle.std.specs.Prelude.{◌≡◌, ◌⊎◌, None};
 ghost use Rattle.be_server.specs.Exact.{EndsExactly};
 ghost use Rattle.be_server.specs.Files.{AsksFor};
 ghost use Rattle.be_io.specs.Counts.{HasRisen};
 ghost use Rattle.be_io.specs.Outside.{source_state, sink_state};
 ghost use Rattle.be_server.specs.Promise.{command_state, Ends, TakesWithin};
-ghost use Rattle.be_server.specs.Words.{command_of, words_of, files};
+ghost use Rattle.be_server.specs.Words.{command_of, files};
+ghost use Rattle.be_words.specs.Words.{words_of};
 
 use crate::run::run;
 use crate::status::Status;
-use crate::words::{Command, read_words};
 use be_io::{Door, Gate, Link, Shelf, Sink, Source};
+use be_words::{Request, WordsFault, read_words};
 use std::alloc::Global;
 use std::sync::Wait;
 use std::thread::Threads;
@@ -50,8 +51,9 @@ where
         (command_state (F.read_faults shelf.new) (source_state S.Source input.new) (sink_state K.Sink out.new))
         result }
 
-    // The words are refused exactly where they have no reading.
-    ensures words { (result ≡ Status.Words) ↔ (command_of (words_of words.now) ≡ None) }
+    // The words are refused exactly where they have no reading, want of memory aside.
+    ensures words { (result ≡ Status.Words → command_of (words_of words.now) ≡ None)
+        × (command_of (words_of words.now) ≡ None → (result ≡ Status.Words) ⊎ (result ≡ Status.NoMemory)) }
 
     // Where memory was wanting, the session hadn't begun, or the output refused a write for want of it.
     ensures memory { result ≡ Status.NoMemory → (HasRisen (K.refusals out.old) (K.refusals out.new) → ⊥)
@@ -65,8 +67,11 @@ where
     ensures door { door.new ≡ door.old }
 {
     let _ = door;
-    match read_words(words) {
-        Some(Command::Run { schema }) => run(alloc, schema, shelf, input, out),
-        None => Status::Words,
+    match read_words(alloc, words) {
+        Ok(Request::Run { schema, load: None }) => run(alloc, schema, shelf, input, out),
+        // These aren't served yet.
+        Ok(Request::Run { load: Some(_), .. } | Request::Gen { .. }) => Status::Words,
+        Err(WordsFault::Refused) => Status::Words,
+        Err(WordsFault::NoMemory) => Status::NoMemory,
     }
 }

@@ -9,7 +9,6 @@ mod session;
 mod short;
 mod status;
 mod subscriptions;
-mod words;
 
 pub use entry::be_main;
 pub use session::{Session, SessionEnd};

@@ -47,12 +47,35 @@ const WITHOUT_READING: &[&[&str]] = &[
     &["", "S"],
     &["S", "run"],
     &["--help"],
+    &["--", "run", "S"],
+    &["run", "-x"],
+    &["run", "S", "-x"],
+    &["run", "--help"],
+    &["run", "-h"],
+    &["run", "--"],
+    &["run", "S", "T"],
+    &["run", "-", "-"],
+    &["run", "--", "S", "--"],
+    &["run", "--load", "S"],
+    &["run", "S", "--load"],
+    &["run", "S", "--load", "-x"],
+    &["run", "S", "--load", "--"],
+    &["run", "S", "--load=S", "--load=S"],
+    &["run", "S", "--loads=S"],
+    &["run", "S", "---"],
+];
+
+// Words with a reading that isn't served yet.
+const NOT_SERVED: &[&[&str]] = &[
+    &["run", "S", "--load", "S"],
+    &["run", "--load=-x", "S"],
+    &["gen", "7", "0", "0"],
 ];
 
 #[test]
 fn words_without_a_reading(rt: HostRuntime) -> Result<(), Fail> {
     let alloc = rt.alloc();
-    for words in WITHOUT_READING {
+    for words in WITHOUT_READING.iter().chain(NOT_SERVED) {
         let ran = run(&rt, alloc, &refused(words, SCHEMA, 1))?;
         assert!(rt; ran.status == Status::Words, "{words:?}");
         assert!(rt;
@@ -101,7 +124,18 @@ const FAULTY: &[(&str, u64, SchemaKind)] = &[
 ];
 
 // Words that name a file that isn't there.
-const MISSING: &[&[&str]] = &[&["run", "missing"], &["run", "s"], &["run", ""]];
+const MISSING: &[&[&str]] = &[
+    &["run", "missing"],
+    &["run", "s"],
+    &["run", ""],
+    &["run", "-"],
+    &["run", "--", "-x"],
+    &["run", "--", "--"],
+    &["run", "-", "--"],
+];
+
+// Words that name the file that is there, with a separator.
+const SERVED: &[&[&str]] = &[&["run", "S", "--"], &["run", "--", "S"]];
 
 #[test]
 fn files_without_a_schema(rt: HostRuntime) -> Result<(), Fail> {
@@ -113,6 +147,10 @@ fn files_without_a_schema(rt: HostRuntime) -> Result<(), Fail> {
             is_untouched(&ran) && ran.is_next_ask_refused,
             "one file was asked for"
         );
+    }
+    for words in SERVED {
+        let ran = run(&rt, alloc, &refused(words, b"", 2))?;
+        assert!(rt; ran.status == Status::Done, "{words:?}");
     }
     for words in MISSING {
         let ran = run(&rt, alloc, &refused(words, SCHEMA, 2))?;

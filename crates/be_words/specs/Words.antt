@@ -1,0 +1,74 @@
+-- The words after the program's name: what each command takes.
+use Rattle.std.specs.Prelude.{◌≡◌, ℕ, List, [], ◌∷◌, map, Option, Some, None, option_map, option_and_then, codes, string_bytes, nat_le, find, Result, Ok, Err, if◌then◌else◌}
+use Rattle.std.specs.declared.alloc.Global.{Global}
+use Rattle.std.specs.declared.string.String.{String}
+use Rattle.be_base.specs.Numbers.{count_of}
+use Rattle.be_base.specs.Readers.{now_of}
+use Rattle.be_base.specs.Text.{Text, same_text}
+use Rattle.be_base.specs.declared.limits.TheConstants.{GENERATED_SUBSCRIPTIONS, GENERATED_EVENTS}
+use Rattle.be_words.specs.Arguments.{Arguments, arguments}
+use Rattle.be_words.specs.declared.words.Request.{Request as WordsRequest}
+use Rattle.be_words.specs.declared.words.Request.TheVariants.{Run, Gen}
+use Rattle.be_words.specs.declared.words.WordsFault.{WordsFault}
+use Rattle.be_words.specs.declared.words.WordsFault.TheVariants.{Refused, NoMemory}
+
+pub data Request : Type 0 where
+  -- one session over the input and the output, with the schema in this file and the opening table in that one
+  run : Text → Option Text → Request
+  -- a generated workload of this number, with so many subscriptions and events
+  gen : ℕ → ℕ → ℕ → Request
+
+-- FILE of `--load` stands once or not at all
+abbrev pub load_once : (Option Text → Request) → List Text → Option Request
+load_once request [] = Some (request None)
+load_once request (file ∷ []) = Some (request (Some file))
+load_once request _ = None
+
+abbrev pub run_of : List Text → List Text → Option Request
+run_of (schema ∷ []) loads = load_once (run schema) loads
+run_of _ loads = None
+
+-- a count of this number at most
+abbrev pub count_within : ℕ → Text → Option ℕ
+count_within most text = option_and_then (λ count. if nat_le count most then Some count else None) (count_of text)
+
+abbrev pub gen_of_counts : Option ℕ → Option ℕ → Option ℕ → Option Request
+gen_of_counts (Some number) (Some subs) (Some events) = Some (gen number subs events)
+gen_of_counts _ _ _ = None
+
+abbrev pub gen_of : List Text → List Text → Option Request
+gen_of (number ∷ subs ∷ events ∷ []) [] =
+    gen_of_counts (count_of number) (count_within GENERATED_SUBSCRIPTIONS subs) (count_within GENERATED_EVENTS events)
+gen_of _ _ = None
+
+-- a command's word, and what it makes of the words by their places and of the FILEs of `--load`
+pub record Row : Type 0 where
+  pub word : Text
+  pub request : List Text → List Text → Option Request
+
+abbrev pub commands : List Row
+commands = record { word = codes "run"; request = run_of } ∷ record { word = codes "gen"; request = gen_of } ∷ []
+
+abbrev pub row_of : Text → Option Row
+row_of command = find (λ row. same_text row.word command) commands
+
+abbrev pub request_of : Text → Arguments → Option Request
+request_of command a = option_and_then (λ row. row.request a.words a.loads) (row_of command)
+
+-- what the words ask for: the first one is the command
+abbrev pub reading : List Text → Option Request
+reading [] = None
+reading (command ∷ words) = option_and_then (request_of command) (arguments words)
+
+abbrev pub words_of : List (String Global) → List Text
+words_of words = map (λ word. string_bytes word) words
+
+abbrev pub plain_request : WordsRequest → Request
+plain_request (Run schema load) = run schema.now (option_map now_of load)
+plain_request (Gen number subs events) = gen number subs events
+
+-- the request exactly where the words have a reading, and the refusal exactly where they have none, want of memory aside
+abbrev pub IsAnswerTo : List Text → Result WordsRequest WordsFault → Type 0
+IsAnswerTo words (Ok request) = reading words ≡ Some (plain_request request)
+IsAnswerTo words (Err Refused) = reading words ≡ None
+IsAnswerTo words (Err NoMemory) = Unit {0}

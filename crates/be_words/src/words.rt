@@ -1,0 +1,114 @@
+//! What the words after the program's name ask for.
+
+ghost use Rattle.std.specs.Prelude.{◌≡◌, map, option_map};
+ghost use Rattle.be_base.specs.Readers.{now_of};
+ghost use Rattle.be_words.specs.Words.{IsAnswerTo, words_of, plain_request, request_of, run_of, gen_of, count_within};
+
+use crate::arguments::{Arguments, read_arguments};
+use be_base::{GENERATED_EVENTS, GENERATED_SUBSCRIPTIONS, NoMemory, read_count};
+use std::alloc::{AllocFailed, Global};
+
+/// What the words ask for.
+#[derive(Clone, Copy, Debug, PartialEq, Eq)]
+pub enum Request<'a> {
+    /// One session over the input and the output, with the files of the schema and of the opening table.
+    Run {
+        schema: &'a str,
+        load: Option<&'a str>,
+    },
+    /// A generated workload.
+    Gen {
+        number: u64,
+        subs: u64,
+        events: u64,
+    },
+}
+
+/// Why there is no request.
+#[derive(Clone, Copy, Debug, PartialEq, Eq)]
+pub enum WordsFault {
+    /// The words have no reading.
+    Refused,
+    NoMemory,
+}
+
+impl From<NoMemory> for WordsFault {
+    ghost use Rattle.be_words.specs.declared.words.WordsFault.TheVariants.{NoMemory};
+
+    ghost from_gives = { λ fault words. words ≡ NoMemory };
+
+    fn from(_: NoMemory) -> WordsFault {
+        WordsFault::NoMemory
+    }
+}
+
+impl<T: Drop> From<AllocFailed<T>> for WordsFault {
+    ghost use Rattle.be_words.specs.declared.words.WordsFault.TheVariants.{NoMemory};
+
+    ghost from_gives = { λ failed words. words ≡ NoMemory };
+
+    fn from(_: AllocFailed<T>) -> WordsFault {
+        WordsFault::NoMemory
+    }
+}
+
+// `run SCHEMA`, with one `--load FILE` or none.
+fn run_of<'a>(words: &[&'a str], loads: &[&'a str]) -> Option<Request<'a>>
+    ensures { option_map plain_request result ≡ run_of (map now_of words.now) (map now_of loads.now) }
+{
+    match (words, loads) {
+        ([schema], []) => Some(Request::Run { schema, load: None }),
+        ([schema], [load]) => Some(Request::Run {
+            schema,
+            load: Some(load),
+        }),
+        _ => None,
+    }
+}
+
+// `gen NUMBER SUBS EVENTS`.
+fn gen_of<'a>(words: &[&'a str], loads: &[&'a str]) -> Option<Request<'a>>
+    ensures { option_map plain_request result ≡ gen_of (map now_of words.now) (map now_of loads.now) }
+{
+    let ([number, subs, events], []) = (words, loads) else {
+        return None;
+    };
+    Some(Request::Gen {
+        number: read_count(number.as_bytes())?,
+        subs: count_within(GENERATED_SUBSCRIPTIONS, subs)?,
+        events: count_within(GENERATED_EVENTS, events)?,
+    })
+}
+
+// A count of this number at most.
+fn count_within(most: u64, word: &str) -> Option<u64>
+    ensures { result ≡ count_within most word.now }
+{
+    let count = read_count(word.as_bytes())?;
+    if count <= most { Some(count) } else { None }
+}
+
+/// Reads the words after the program's name.
+pub fn read_words(alloc: Global, words: &[String]) -> Result<Request<'_>, WordsFault>
+    ensures { IsAnswerTo (words_of words.now) result }
+{
+    let [command, words @ ..] = words else {
+        return Err(WordsFault::Refused);
+    };
+    let arguments = read_arguments(alloc, words)?;
+    match request_of(command.as_str(), &arguments) {
+        Some(request) => Ok(request),
+        None => Err(WordsFault::Refused),
+    }
+}
+
+// What the command makes of the words behind it.
+fn request_of<'a>(command: &str, arguments: &Arguments<'a>) -> Option<Request<'a>>
+    ensures { option_map plain_request result ≡ request_of command.now arguments.now }
+{
+    match command {
+        "run" => run_of(arguments.words(), arguments.loads()),
+        "gen" => gen_of(arguments.words(), arguments.loads()),
+        _ => None,
+    }
+}
