@@ -4,8 +4,11 @@ use Rattle.be_base.specs.declared.names.NoMemory.{NoMemory}
 use Rattle.be_change.specs.Requests as asked
 use Rattle.be_server.specs.declared.requests.Refusal.{Refusal}
 use Rattle.be_server.specs.declared.requests.Refusal.TheVariants.{Bad, Long, Attr, Dom, Twice, Many}
+use Rattle.be_model.specs.Matching.{Assignments}
+use Rattle.be_server.specs.declared.requests.EventCommand.{EventCommand}
+use Rattle.be_server.specs.declared.requests.EventCommand.TheVariants.{Publish as Publishing, Cost as OfCost}
 use Rattle.be_server.specs.declared.requests.Request.{Request}
-use Rattle.be_server.specs.declared.requests.Request.TheVariants.{Subscribe, Unsubscribe, Publish, Listing, Quit, Refused}
+use Rattle.be_server.specs.declared.requests.Request.TheVariants.{Subscribe, Unsubscribe, Publish, Costing, Listing, Quit, Refused}
 
 abbrev pub plain_refusal : Refusal → asked.Refusal
 plain_refusal Bad = asked.bad
@@ -19,14 +22,21 @@ abbrev pub plain_request : Request → asked.Request
 plain_request (Subscribe subscription) = asked.subscribe subscription.name subscription.conj
 plain_request (Unsubscribe name) = asked.unsubscribe name
 plain_request (Publish event) = asked.publish event
+plain_request (Costing event) = asked.costing event
 plain_request Listing = asked.listing
 plain_request Quit = asked.quit
 plain_request (Refused refusal) = asked.refused (plain_refusal refusal)
+
+-- what is asked of an event
+abbrev pub asks : EventCommand → Assignments → asked.Request
+asks Publishing = asked.publish
+asks OfCost = asked.costing
 
 -- only a condition and an event take memory
 abbrev pub TakesMemory : asked.Request → Type 0
 TakesMemory (asked.subscribe name conj) = Unit {0}
 TakesMemory (asked.publish event) = Unit {0}
+TakesMemory (asked.costing event) = Unit {0}
 TakesMemory _ = ⊥
 
 abbrev pub Reads : Result Request NoMemory → asked.Request → Type 0

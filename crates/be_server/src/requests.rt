@@ -7,7 +7,7 @@ ghost use Rattle.be_change.specs.Requests as asked;
 ghost use Rattle.be_transcript.specs.Readings.{reading, subscription, removal, of_event, alone, expr_refusal, event_refusal};
 ghost use Rattle.be_expr.specs.Expressions.{IsKnown as IsKnownExpr};
 ghost use Rattle.be_event.specs.Events.{IsKnown as IsKnownEvent};
-ghost use Rattle.be_server.specs.Requests.{Reads, plain_request, Refuses};
+ghost use Rattle.be_server.specs.Requests.{Reads, asks, plain_request, Refuses};
 
 use be_base::{AttrNo, Name, NoMemory, Scan, Token, next_token};
 use be_event::{EventFault, read_event};
@@ -45,9 +45,28 @@ pub enum Request {
     Subscribe(Subscription),
     Unsubscribe(Name),
     Publish(Event),
+    Costing(Event),
     Listing,
     Quit,
     Refused(Refusal),
+}
+
+// What a line asks of its event.
+#[derive(Clone, Copy)]
+enum EventCommand {
+    Publish,
+    Cost,
+}
+
+impl EventCommand {
+    fn of(self, event: Event) -> Request
+        ensures { plain_request result ≡ asks self event }
+    {
+        match self {
+            EventCommand::Publish => Request::Publish(event),
+            EventCommand::Cost => Request::Costing(event),
+        }
+    }
 }
 
 /// Reads a line. Only a line without a fault takes memory.
@@ -65,7 +84,10 @@ pub fn read_line(alloc: Global, schema: &Schema, text: &[u8]) -> Result<Request,
         return Ok(read_removal(rest));
     }
     if command == b"PUB".as_slice() {
-        return read_publication(alloc, schema, rest);
+        return read_event_line(alloc, schema, EventCommand::Publish, rest);
+    }
+    if command == b"COST".as_slice() {
+        return read_event_line(alloc, schema, EventCommand::Cost, rest);
     }
     if command == b"LIST".as_slice() {
         return Ok(read_end(Request::Listing, rest));
@@ -114,11 +136,17 @@ fn read_subscription(alloc: Global, schema: &Schema, text: &[u8]) -> Result<Requ
     }
 }
 
-fn read_publication(alloc: Global, schema: &Schema, text: &[u8]) -> Result<Request, NoMemory>
-    ensures { Reads result (of_event asked.publish schema.now (tokens text.now)) }
+// An event, and no token after it.
+fn read_event_line(
+    alloc: Global,
+    schema: &Schema,
+    command: EventCommand,
+    text: &[u8],
+) -> Result<Request, NoMemory>
+    ensures { Reads result (of_event (asks command) schema.now (tokens text.now)) }
 {
     match read_event(alloc, schema, text) {
-        Ok(event) => Ok(Request::Publish(event)),
+        Ok(event) => Ok(command.of(event)),
         Err(fault) => Ok(Request::Refused(of_event(schema, fault)?)),
     }
 }

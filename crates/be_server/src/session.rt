@@ -174,7 +174,7 @@ impl Session {
 
     // Answers a line over the limit.
     fn refuse_long<K: Sink>(&self, out: &mut K) -> Turn
-        ensures { TurnsAfter self.now.subscriptions (asked.refused asked.long) self.now.subscriptions
+        ensures { TurnsAfter schema_is self.now.subscriptions (asked.refused asked.long) self.now.subscriptions
             (sink_state K.Sink out.old) (sink_state K.Sink out.new) result }
     {
         turn_after(say(out, Short::Refused(Refusal::Long)))
