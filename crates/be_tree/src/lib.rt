@@ -1,0 +1,4 @@
+//! The tree as an index.
+#![tactic(auto)]
+
+mod gathers;
