@@ -49,6 +49,15 @@ length_map (r ∷ rs) = ap (λ n. suc n) (length_map rs)
 pub length_by_ids : (rows : List Row) → length (by_ids rows) ≡ length rows
 length_by_ids rows = sym (length_map (by_ids rows)) ∙ length_permutation rows (rows_of (by_ids rows)) (rows_permuted rows)
 
+rows_if : (b : Bool) (r : ℕ × Row) (m : ByIds) (rows : List Row) → rows_of m ≡ rows → rows_of (cond b (r ∷ m) m) ≡ cond b (r.1 ∷ rows) rows
+rows_if true r m rows e = ap (λ (l : List Row). r.1 ∷ l) e
+rows_if false r m rows e = e
+
+-- filtered by their rows, rows by ids are the rows that are left
+pub rows_of-filter : (p : Row → Bool) (m : ByIds) → rows_of (filter (λ (r : ℕ × Row). p r.1) m) ≡ filter p (rows_of m)
+rows_of-filter p [] = refl
+rows_of-filter p (r ∷ rs) = rows_if (p r.1) r (filter (λ (x : ℕ × Row). p x.1) rs) (filter p (rows_of rs)) (rows_of-filter p rs)
+
 -- the rows that pass a test are the same too
 kept : (p : Row → Bool) (b : Bool) (row : Row) (xs ys : List Row) → IsPermutation xs ys → IsPermutation (cond b (row ∷ xs) xs) (cond b (row ∷ ys) ys)
 kept p true row xs ys h = IsPermutation-cons row xs ys h
@@ -212,19 +221,20 @@ row_found (row ∷ rows) x d (suc k, l, is) =
     let b : eqb (id_of row) (id_of x) ≡ false = ne_eqb (id_of row) (id_of x) (λ e. eqb-false (id_of x) (id_of row) a (sym e)) in
     put_other (id_of x) row (by_ids rows) b ∙ row_found rows x ((and_parts (not (list_any (λ other. eqb (id_of other) (id_of row)) rows)) (ids_differ rows) d).1) c
 
--- and what is found by an id is a row that has it
-put_says : (row : Row) (m : ByIds) → SayIds m → SayIds (put_by_id row m)
+-- rows that say their ids
+pub put_says : (row : Row) (m : ByIds) → SayIds m → SayIds (put_by_id row m)
 put_says row [] s = (refl, tt)
 put_says row (r ∷ rs) s =
     by_order (SayIds (put_by_id row (r ∷ rs))) (id_of row) r.0
     (λ k. subst SayIds (sym (put_before row r rs k)) (refl, s))
     (λ k. subst SayIds (sym (put_after row r rs k)) (s.0, put_says row rs s.1))
 
-all_say : (rows : List Row) → SayIds (by_ids rows)
+pub all_say : (rows : List Row) → SayIds (by_ids rows)
 all_say [] = tt
 all_say (row ∷ rows) = put_says row (by_ids rows) (all_say rows)
 
-found_says : (id : ℕ) (m : ByIds) (x : Row) → SayIds m → row_at id m ≡ Some x → Contains (rows_of m) x × (id_of x ≡ id)
+-- and what is found by an id is a row that has it
+pub found_says : (id : ℕ) (m : ByIds) (x : Row) → SayIds m → row_at id m ≡ Some x → Contains (rows_of m) x × (id_of x ≡ id)
 found_says id [] x s h = absurd (cc)
 found_says id (r ∷ rs) x s h =
     by_value (Contains (rows_of (r ∷ rs)) x × (id_of x ≡ id)) (eqb r.0 id)
