@@ -3,18 +3,40 @@
 ghost use Rattle.std.specs.Prelude.{◌≡◌, ◌++◌, ◌∷◌, ◌<◌, [], length, OnOk, OnErr};
 ghost use Rattle.std.specs.Arc.{arc_value};
 ghost use Rattle.be_base.specs.Lists.{BeginsWith};
-ghost use Rattle.be_match.specs.Leaves.{KeepsRoom};
-ghost use Rattle.be_shape.specs.Plain.{plain, parts_as, half_as, part_as, parts_of, rows_below, rows_in_parts, rows_in_half};
+ghost use Rattle.be_model.specs.Rows.{KeepsRoom};
+ghost use Rattle.be_model.specs.ByIds.{PutsEach, rows_of};
+ghost use Rattle.be_shape.specs.Plain.{plain, contents, parts_as, half_as, part_as, parts_of, rows_below, rows_in_parts, rows_in_half};
 ghost use Rattle.be_tree.specs.Gathered.{is_wanted, wanted};
 
 use be_base::{NoMemory, SessionNo};
 use be_model::{Found, Row};
-use be_shape::{Leaf, Node, Part};
+use be_shape::{Leaf, Node, Part, Tree};
 use std::sync::Arc;
+
+/// Appends the wanted rows, in any order, or none.
+pub(crate) fn gather(
+    t: &Tree,
+    session: Option<SessionNo>,
+    found: &mut Found,
+) -> Result<(), NoMemory>
+    ensures found { OnOk result (PutsEach (wanted session (rows_of (contents (plain t.now.root)))) found.old.rows found.new.rows) }
+    ensures some { OnErr result (0 < length (wanted session (rows_of (contents (plain t.now.root))))) }
+    ensures refused { OnErr result (found.new.rows ≡ found.old.rows) }
+    ensures room { KeepsRoom found.old found.new }
+{
+    let before = found.len();
+    match gather_node(&t.root, session, found) {
+        Ok(()) => Ok(()),
+        Err(NoMemory) => {
+            found.cut(before);
+            Err(NoMemory)
+        }
+    }
+}
 
 // Appends the wanted rows of a node and of all below it.
 #[cycle(gathers)]
-pub(crate) fn gather_node(
+fn gather_node(
     n: &Node,
     session: Option<SessionNo>,
     found: &mut Found,

@@ -1,6 +1,6 @@
 use Rattle.std.proofs.Common.{◌≡◌, ◌++◌, drop}
 use Rattle.be_base.specs.Lists.{BeginsWith}
-use Rattle.be_match.specs.Leaves.{KeepsRoom}
+use Rattle.be_model.specs.Rows.{KeepsRoom}
 use Rattle.be_tree.specs.Gathered.{wanted}
 use Rattle.be_tree.proofs.gathers.gather_leaf.Given as goal
 
