@@ -15,4 +15,4 @@ returns-clause-found c =
 pub returns-clause-some : goal.returns-clause-some
 returns-clause-some c =
     let m = contents (plain c.args.self.now.0.root) in
-    subst (λ n. OnErr c.gather.result (0 < n)) (ap length (wanted_all (rows_of m)) ∙ length-map (λ (r : ℕ × Row). r.1) m) c.gather.ensures.some
+    subst (λ n. OnErr c.gather.result (0 < n)) (ap length (wanted_all (rows_of m)) ∙ length-map m (λ (r : ℕ × Row). r.1)) c.gather.ensures.some
