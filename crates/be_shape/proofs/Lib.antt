@@ -18,3 +18,5 @@ pub mod LeafSteps
 pub mod Among
 pub mod PartPlaces
 pub mod Roots
+pub mod OneLess
+pub mod LeafLess

@@ -21,3 +21,4 @@ pub use nodes::{Node, Part};
 pub use ranges::{NodeRange, holds_value, lower_range, upper_range, whole_range};
 pub use spots::Spot;
 pub use trees::Tree;
+pub use walks::child_range;
