@@ -20,3 +20,6 @@ pub mod PartPlaces
 pub mod Roots
 pub mod OneLess
 pub mod LeafLess
+pub mod Exchanges
+pub mod Replacements
+pub mod Reshaping
