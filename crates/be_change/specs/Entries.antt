@@ -6,11 +6,12 @@ use Rattle.be_base.specs.declared.limits.TheConstants.{LOG_CHANGES}
 use Rattle.be_model.specs.declared.changes.Change.{Change}
 use Rattle.be_model.specs.declared.changes.Row.{Row}
 pub use Rattle.be_model.specs.Entries.{entry_of}
+use Rattle.be_model.specs.ByIds.{map_in}
 use Rattle.be_change.specs.History.{Entry, subscribed, unsubscribed, left, ByIds}
 
--- rows by ids, as plain data
+-- live rows by their ids, as plain data
 abbrev pub live_in : {Z : Type 0} → List (ℕ × Arc Row Z) → ByIds
-live_in xs = map (λ (x : ℕ × Arc Row _). (x.0, arc_value x.1)) xs
+live_in xs = map_in xs
 
 abbrev pub entries_in : {Z : Type 0} → List (Arc Change Z) → List Entry
 entries_in xs = map (λ x. entry_of (arc_value x)) xs

@@ -17,7 +17,7 @@ use Rattle.be_score.specs.Scores.{IsCandidate}
 use Rattle.be_insert.specs.Filled.{better_half, half_for}
 
 -- what is counted is there, and where nothing is counted, there is nothing
-counted : (p : Row → Bool) (rows : List Row) → 0 < count_by p rows → list_any p rows ≡ true
+pub counted : (p : Row → Bool) (rows : List Row) → 0 < count_by p rows → list_any p rows ≡ true
 counted p [] h = absurd (omega arith)
 counted p (row ∷ rows) h = by_test (p row) refl (counted p rows)
   where
@@ -25,7 +25,7 @@ counted p (row ∷ rows) h = by_test (p row) refl (counted p rows)
     by_test true e more = refl
     by_test false e more = more (omega (arith, h, sum_by-cons (λ (y : Row). cond (p y) 1 0) row rows, ap {B = ℕ} (λ b. cond b 1 0) e))
 
-none_counted : (p : Row → Bool) (rows : List Row) → count_by p rows ≡ 0 → list_any p rows ≡ false
+pub none_counted : (p : Row → Bool) (rows : List Row) → count_by p rows ≡ 0 → list_any p rows ≡ false
 none_counted p [] h = refl
 none_counted p (row ∷ rows) h = by_test (p row) refl (none_counted p rows)
   where

@@ -8,3 +8,4 @@ pub mod Settled
 pub mod Ways
 pub mod Downwards
 pub mod Roots
+pub mod SplitOff

@@ -45,8 +45,8 @@ pub(crate) fn is_overfull(leaf: &Leaf, s: &Schema, k: &Spot) -> bool
     false
 }
 
-// How many rows may pass the step.
-fn count(leaf: &Leaf, s: &Schema, hop: Hop, range: NodeRange) -> usize
+/// How many rows may pass the step.
+pub(crate) fn count(leaf: &Leaf, s: &Schema, hop: Hop, range: NodeRange) -> usize
     requires lie { list_all (row_lies s.now) leaf.now ≡ true }
     requires bounded { is_bounded range ≡ true }
     requires rising { is_rising range ≡ true }

@@ -7,6 +7,8 @@
 
 mod leaves;
 mod places;
+mod split_steps;
 mod splits;
 
 pub use places::place;
+pub use split_steps::{split_half, split_part};

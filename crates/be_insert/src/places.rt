@@ -6,8 +6,8 @@ ghost use Rattle.be_model.specs.Lies.{row_lies};
 ghost use Rattle.be_model.specs.Rows.{has, id_of};
 ghost use Rattle.be_model.specs.ByIds.{put_by_id, has_id};
 ghost use Rattle.be_base.specs.declared.limits.TheConstants.{LOG_CHANGES};
-ghost use Rattle.be_shape.specs.Plain.{plain, with_row, half_as, parts_as, part_as, rows_below, contents};
-ghost use Rattle.be_shape.specs.Shape.{known, fits_half, attrs_of, spans_inside, may_stand};
+ghost use Rattle.be_shape.specs.Plain.{plain, with_row, parts_as, part_as, rows_below, contents};
+ghost use Rattle.be_shape.specs.Shape.{attrs_of, spans_inside, may_stand};
 ghost use Rattle.be_shape.specs.Ranges.{is_bounded, is_rising};
 ghost use Rattle.be_shape.specs.Spots.{known_of};
 ghost use Rattle.be_insert.specs.Refusals.{back};
@@ -18,19 +18,8 @@ use crate::splits::settle;
 use be_base::NoMemory;
 use be_model::{Hop, Row, Schema};
 use be_score::weight;
-use be_shape::{Node, NodeRange, Part, Spot, Tree, has_attr, is_inside, lower_range, upper_range};
+use be_shape::{Node, NodeRange, Part, Spot, Tree, has_attr, lower_range, takes, upper_range};
 use std::sync::Arc;
-
-// Whether the half is there and encloses the row's span.
-fn takes(half: &Option<Box<Node>>, s: &Schema, range: NodeRange, row: &Row) -> bool
-    requires { row_lies s.now row.now ≡ true }
-    ensures { result ≡ fits_half s.now (known range []) (half_as half.now) row.now }
-{
-    match half {
-        Some(_) => is_inside(row, s, range),
-        None => false,
-    }
-}
 
 fn heavier(best: Option<(usize, i64)>, next: (usize, i64)) -> Option<(usize, i64)>
     ensures { result ≡ heavier best next }

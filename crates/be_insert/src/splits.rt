@@ -55,7 +55,19 @@ pub(crate) fn draw_off(
     move_rows(&mut n.leaf, &mut below.leaf, s, hop, range, first);
 }
 
-/// Takes the memory of a split: for a node, its place among the parts, and the way to it.
+/// Takes the memory of a new child: for the node, and for its place among the parts.
+pub(crate) fn make_room(n: &mut Node, hop: Hop) -> Result<Box<Node>, NoMemory>
+    ensures same { plain n.new ≡ plain n.old }
+    ensures made { IfOk result (λ below. plain below.value ≡ node [] no_part no_half no_half) }
+    ensures room { OnOk result (HasRoom hop n.new) }
+{
+    let alloc = *n.parts.allocator();
+    let below = Box::new(alloc, Node::make(alloc))?;
+    n.parts.reserve(1)?;
+    Ok(below)
+}
+
+/// Takes the memory of a split, and goes to the new child.
 pub(crate) fn prepare(
     n: &mut Node,
     s: &Schema,
@@ -68,9 +80,7 @@ pub(crate) fn prepare(
     ensures room { OnOk result (HasRoom hop n.new) }
     ensures entered { OnOk result (known_of k.new ≡ known_below s.now hop (known_of k.old)) }
 {
-    let alloc = *n.parts.allocator();
-    let below = Box::new(alloc, Node::make(alloc))?;
-    n.parts.reserve(1)?;
+    let below = make_room(n, hop)?;
     k.enter(s, hop)?;
     Ok(below)
 }

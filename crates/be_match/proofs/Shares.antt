@@ -1,26 +1,24 @@
 -- What a row shares with an event at a node: the halvings of the node's range that are left, and the ranges of the
 -- attributes that aren't used above. Below each step it is at least one less.
-use Rattle.std.proofs.Common.{◌≡◌, ℕ, ℤ, ◌+◌, ◌<ℤ◌, ◌≤◌, Bool, true, false, cond, eqb, ◌||◌, List, [], ◌∷◌, length, Option, Some, None, option_map, refl, ap, ◌∙◌, arith}
+use Rattle.std.proofs.Common.{◌≡◌, ℕ, ℤ, ◌+◌, ◌≤◌, Bool, true, false, cond, eqb, ◌||◌, List, [], ◌∷◌, length, Some, refl, ap, ◌∙◌, arith}
 use Rattle.std.specs.List.{sum_by, list_all}
 use Rattle.std.specs.Option.{is_some}
-use Rattle.std.proofs.lemmas.Int.{ints}
 use Rattle.std.proofs.lemmas.Bool.{eqb-true, not-true}
 use Rattle.std.proofs.lemmas.Bool.Decides.{nat_tests}
 use Rattle.std.proofs.lemmas.List.Sums.{sum_by-cons, sum_by-le-sum_by}
 use Rattle.be_base.specs.declared.names.AttrNo.{AttrNo}
 use Rattle.be_model.specs.declared.changes.Row.{Row}
-use Rattle.be_model.specs.Domains.{Range, width, bits}
-use Rattle.be_model.specs.Schemas.{Attributes, range_of, numbered}
+use Rattle.be_model.specs.Schemas.{Attributes, numbered}
 use Rattle.be_model.specs.Matching.{Assignments, values_of, is_assigned}
 use Rattle.be_model.specs.Rows.{has}
-use Rattle.be_model.specs.Bounds.{bits_of, bits_at, ranges_to, shared}
+use Rattle.be_model.specs.Bounds.{bits_at, ranges_to, shared}
 use Rattle.be_model.proofs.Attributes.{and_left, and_right}
 use Rattle.be_shape.proofs.BitsLeft.{bits_left, whole_bits, low_left, high_left}
 use Rattle.be_model.specs.declared.paths.Hop.{Hop}
 use Rattle.be_model.specs.declared.paths.Hop.TheVariants.{Part, Low, High}
 use Rattle.be_shape.specs.Children.{known_below, is_open, may_pass}
 use Rattle.be_shape.specs.Search.{enters}
-use Rattle.be_shape.specs.Shape.{NodeRange, whole, lower, upper, Known, nothing, in_part, in_low, in_high, is_used, can_split, is_some as some_row}
+use Rattle.be_shape.specs.Shape.{Known, nothing, in_part, in_low, in_high, is_used, can_split, is_some as some_row}
 
 abbrev unused_ranges : Attributes → List AttrNo → Row → AttrNo × List ℤ → ℕ
 unused_ranges s used row item = cond (is_used used item.0) 0 (ranges_to s row item)

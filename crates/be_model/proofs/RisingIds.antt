@@ -15,6 +15,10 @@ below_if : (n : ℕ) (r : ℕ × Row) (m : ByIds) (b : Bool) → r.0 < n → All
 below_if n r m true h a = (h, a)
 below_if n r m false h a = a
 
+pub AllBelow-kept : (n : ℕ) (p : ℕ × Row → Bool) (m : ByIds) → AllBelow n m → AllBelow n (filter p m)
+AllBelow-kept n p [] b = tt
+AllBelow-kept n p (x ∷ xs) b = below_if n x (filter p xs) (p x) b.0 (AllBelow-kept n p xs b.1)
+
 pub AllBelow-filter : (n : ℕ) (p : ℕ × Row → Bool) (m : ByIds) → AllBelow n m → AllBelow (n + 1) (filter p m)
 AllBelow-filter n p [] b = tt
 AllBelow-filter n p (x ∷ xs) b = below_if (n + 1) x (filter p xs) (p x) (omega (arith, b.0)) (AllBelow-filter n p xs b.1)

@@ -6,7 +6,7 @@ use Rattle.std.proofs.lemmas.Bool.{and_parts, eq-eqb, eqb-false, eqb-true, le-lt
 use Rattle.std.proofs.lemmas.List.Sorted.{IsPermutation-refl, IsPermutation-sym, IsPermutation-trans, IsPermutation-cons, IsPermutation-middle, length_permutation, Contains-permutation}
 use Rattle.be_model.specs.declared.changes.Row.{Row}
 use Rattle.be_model.specs.Rows.{id_of}
-use Rattle.be_model.specs.ByIds.{ByIds, put_by_id, by_ids, rows_of, row_at, has_id, AllBelow, AllAbove, Rising, SayIds, ids_differ}
+use Rattle.be_model.specs.ByIds.{ByIds, put_by_id, by_ids, rows_of, row_at, has_id, without_id, AllBelow, AllAbove, Rising, SayIds, ids_differ}
 
 abbrev pair : Row → ℕ × Row
 pair row = (id_of row, row)
@@ -48,6 +48,15 @@ length_map (r ∷ rs) = ap (λ n. suc n) (length_map rs)
 
 pub length_by_ids : (rows : List Row) → length (by_ids rows) ≡ length rows
 length_by_ids rows = sym (length_map (by_ids rows)) ∙ length_permutation rows (rows_of (by_ids rows)) (rows_permuted rows)
+
+rows_if : (b : Bool) (r : ℕ × Row) (m : ByIds) (rows : List Row) → rows_of m ≡ rows → rows_of (cond b (r ∷ m) m) ≡ cond b (r.1 ∷ rows) rows
+rows_if true r m rows e = ap (λ (l : List Row). r.1 ∷ l) e
+rows_if false r m rows e = e
+
+-- filtered by their rows, rows by ids are the rows that are left
+pub rows_of-filter : (p : Row → Bool) (m : ByIds) → rows_of (filter (λ (r : ℕ × Row). p r.1) m) ≡ filter p (rows_of m)
+rows_of-filter p [] = refl
+rows_of-filter p (r ∷ rs) = rows_if (p r.1) r (filter (λ (x : ℕ × Row). p x.1) rs) (filter p (rows_of rs)) (rows_of-filter p rs)
 
 -- the rows that pass a test are the same too
 kept : (p : Row → Bool) (b : Bool) (row : Row) (xs ys : List Row) → IsPermutation xs ys → IsPermutation (cond b (row ∷ xs) xs) (cond b (row ∷ ys) ys)
@@ -212,19 +221,20 @@ row_found (row ∷ rows) x d (suc k, l, is) =
     let b : eqb (id_of row) (id_of x) ≡ false = ne_eqb (id_of row) (id_of x) (λ e. eqb-false (id_of x) (id_of row) a (sym e)) in
     put_other (id_of x) row (by_ids rows) b ∙ row_found rows x ((and_parts (not (list_any (λ other. eqb (id_of other) (id_of row)) rows)) (ids_differ rows) d).1) c
 
--- and what is found by an id is a row that has it
-put_says : (row : Row) (m : ByIds) → SayIds m → SayIds (put_by_id row m)
+-- rows that say their ids
+pub put_says : (row : Row) (m : ByIds) → SayIds m → SayIds (put_by_id row m)
 put_says row [] s = (refl, tt)
 put_says row (r ∷ rs) s =
     by_order (SayIds (put_by_id row (r ∷ rs))) (id_of row) r.0
     (λ k. subst SayIds (sym (put_before row r rs k)) (refl, s))
     (λ k. subst SayIds (sym (put_after row r rs k)) (s.0, put_says row rs s.1))
 
-all_say : (rows : List Row) → SayIds (by_ids rows)
+pub all_say : (rows : List Row) → SayIds (by_ids rows)
 all_say [] = tt
 all_say (row ∷ rows) = put_says row (by_ids rows) (all_say rows)
 
-found_says : (id : ℕ) (m : ByIds) (x : Row) → SayIds m → row_at id m ≡ Some x → Contains (rows_of m) x × (id_of x ≡ id)
+-- and what is found by an id is a row that has it
+pub found_says : (id : ℕ) (m : ByIds) (x : Row) → SayIds m → row_at id m ≡ Some x → Contains (rows_of m) x × (id_of x ≡ id)
 found_says id [] x s h = absurd (cc)
 found_says id (r ∷ rs) x s h =
     by_value (Contains (rows_of (r ∷ rs)) x × (id_of x ≡ id)) (eqb r.0 id)
@@ -236,3 +246,21 @@ pub found_row : (rows : List Row) (id : ℕ) (x : Row) → row_at id (by_ids row
 found_row rows id x h =
     let z = found_says id (by_ids rows) x (all_say rows) h in
     (Contains-permutation (rows_of (by_ids rows)) rows x (IsPermutation-sym rows (rows_of (by_ids rows)) (rows_permuted rows)) z.0, z.1)
+
+-- a row whose id is new is put, and left out again
+without_new : (id : ℕ) (m : ByIds) → has_id id m ≡ false → without_id id m ≡ m
+without_new id [] new = refl
+without_new id (r ∷ rs) new =
+    let z = or_parts (eqb r.0 id) (has_id id rs) new in
+    ap (λ b. cond (not b) (r ∷ without_id id rs) (without_id id rs)) z.0 ∙ ap (λ m. r ∷ m) (without_new id rs z.1)
+
+left_out : (row : Row) (m : ByIds) → without_id (id_of row) (pair row ∷ m) ≡ without_id (id_of row) m
+left_out row m =
+    ap (λ b. cond (not b) (pair row ∷ without_id (id_of row) m) (without_id (id_of row) m)) (eq-eqb (id_of row) (id_of row) refl)
+
+pub without_put : (row : Row) (m : ByIds) → has_id (id_of row) m ≡ false → without_id (id_of row) (put_by_id row m) ≡ m
+without_put row [] new = left_out row []
+without_put row (r ∷ rs) new =
+    by_order (without_id (id_of row) (put_by_id row (r ∷ rs)) ≡ r ∷ rs) (id_of row) r.0
+    (λ h. ap (without_id (id_of row)) (put_before row r rs h) ∙ left_out row (r ∷ rs) ∙ without_new (id_of row) (r ∷ rs) new)
+    (λ h. let z = or_parts (eqb r.0 (id_of row)) (has_id (id_of row) rs) new in ap (without_id (id_of row)) (put_after row r rs h) ∙ ap (λ b. cond (not b) (r ∷ without_id (id_of row) (put_by_id row rs)) (without_id (id_of row) (put_by_id row rs))) z.0 ∙ ap (λ m. r ∷ m) (without_put row rs z.1))

@@ -1,6 +1,8 @@
 -- Rows by their ids: a finite map, as a list whose ids rise.
 use Rattle.std.specs.Prelude.{◌≡◌, ◌++◌, IsPermutation, ℕ, ◌==◌, ◌<◌, ◌&&◌, Bool, true, not, List, [], ◌∷◌, filter, map, nat_lt, Option, Some, None, if◌then◌else◌}
 use Rattle.std.specs.List.{list_any}
+use Rattle.std.specs.Arc.{arc_value}
+use Rattle.std.specs.declared.sync.Arc.{Arc}
 use Rattle.be_model.specs.declared.changes.Row.{Row}
 use Rattle.be_model.specs.Matching.{Assignments, satisfied}
 use Rattle.be_model.specs.Rows.{id_of}
@@ -19,6 +21,10 @@ put_by_id row (r ∷ rs) =
 abbrev pub by_ids : List Row → ByIds
 by_ids [] = []
 by_ids (row ∷ rows) = put_by_id row (by_ids rows)
+
+-- a map of shared rows, as plain data
+abbrev pub map_in : {Z : Type 0} → List (ℕ × Arc Row Z) → ByIds
+map_in xs = map (λ (x : ℕ × Arc Row _). (x.0, arc_value x.1)) xs
 
 abbrev pub rows_of : ByIds → List Row
 rows_of m = map (λ (r : ℕ × Row). r.1) m
@@ -61,8 +67,16 @@ abbrev pub ids_differ : List Row → Bool
 ids_differ [] = true
 ids_differ (row ∷ rows) = not (list_any (λ other. id_of other == id_of row) rows) && ids_differ rows
 
--- a search puts the rows that the event satisfies behind what was found before, each once, in some order
-pub record FindsIn (e : Assignments) (m : ByIds) (before after : List Row) : Type 0 where
+-- a session's rows
+abbrev pub session_rows : ℕ → ByIds → List Row
+session_rows k m = rows_of (filter (is_of k) m)
+
+-- these rows are put behind what was found before, each once, in some order
+pub record PutsEach (rows before after : List Row) : Type 0 where
   pub found : List Row
   pub put : after ≡ before ++ found
-  pub exact : IsPermutation (satisfied e (rows_of m)) found
+  pub exact : IsPermutation rows found
+
+-- a search puts the rows that the event satisfies
+abbrev pub FindsIn : Assignments → ByIds → (before after : List Row) → Type 0
+FindsIn e m before after = PutsEach (satisfied e (rows_of m)) before after

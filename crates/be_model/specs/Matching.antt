@@ -1,5 +1,5 @@
 -- When a value and a set of values meet a comparison, and when an event satisfies a condition.
-use Rattle.std.specs.Prelude.{ℤ, ◌==◌, Bool, false, not, ◌&&◌, List, [], ◌∷◌, filter, map, Option, Some, None, int_lt, int_le, if◌then◌else◌}
+use Rattle.std.specs.Prelude.{ℤ, ◌==◌, ◌<◌, Bool, false, not, ◌&&◌, List, [], ◌∷◌, filter, map, length, Option, Some, None, int_lt, int_le, if◌then◌else◌}
 use Rattle.std.specs.List.{list_any, list_all}
 use Rattle.std.specs.Ordering.{int_eq}
 use Rattle.std.specs.Option.{is_some}
@@ -56,3 +56,7 @@ satisfies e conj = list_all (λ (p : Pred). is_met (values_of e p.attr) p.op) co
 -- the rows that the event satisfies
 abbrev pub satisfied : Assignments → List Row → List Row
 satisfied e rows = filter (λ (row : Row). satisfies e row.conj) rows
+
+-- the event satisfies some of the rows
+abbrev pub FindsSome : Assignments → List Row → Type 0
+FindsSome e rows = 0 < length (satisfied e rows)

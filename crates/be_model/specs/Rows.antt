@@ -1,5 +1,5 @@
 -- Rows behind shared references, as contracts see them.
-use Rattle.std.specs.Prelude.{ℕ, Bool, List, map}
+use Rattle.std.specs.Prelude.{ℕ, ◌+◌, ◌≤◌, Bool, List, length, map}
 use Rattle.std.specs.List.{list_any}
 use Rattle.std.specs.Arc.{arc_value}
 use Rattle.std.specs.declared.sync.Arc.{Arc}
@@ -17,6 +17,10 @@ pub record FoundRows : Type 0 where
 
 abbrev pub found : List Row → ℕ → FoundRows
 found rows spare = record { rows = rows; spare = spare }
+
+-- the rows and the room for more together are no less
+abbrev pub KeepsRoom : FoundRows → FoundRows → Type 0
+KeepsRoom before after = length before.rows + before.spare ≤ length after.rows + after.spare
 
 abbrev pub id_of : Row → ℕ
 id_of row = row.id.0

@@ -59,11 +59,19 @@ impl Path {
 #[derive(Drop)]
 pub enum Step {
     /// Rows of the node's leaf that have the attribute move to a new part of it.
-    SplitPart { path: Path, attr: AttrNo },
+    SplitPart {
+        path: Path,
+        attr: AttrNo,
+    },
     /// Rows of the node's leaf that a half of its range encloses move to a new node for it; `half` is `Low` or `High`.
-    SplitHalf { path: Path, half: Hop },
+    SplitHalf {
+        path: Path,
+        half: Hop,
+    },
     /// The rows of the node and of all below it move to the leaf above, and the node is dropped.
-    Merge { path: Path },
+    Merge {
+        path: Path,
+    },
     /// A row moves from one part of the node to another.
     Shift {
         path: Path,

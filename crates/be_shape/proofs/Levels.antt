@@ -53,7 +53,7 @@ passes_high : (s : Attributes) (k : Known) (h : Half) (row : Row) → fits_half 
 passes_high s k no_half row = refl
 passes_high s k (half n) row = or_false (spans_inside s (in_high k).range row)
 
-passes_is : (s : Attributes) (k : Known) (rows : List Row) (parts : Parts) (low high : Half) (row : Row)
+pub passes_is : (s : Attributes) (k : Known) (rows : List Row) (parts : Parts) (low high : Half) (row : Row)
     → (list_any (λ a. has a row) (attrs_of parts) || fits_half s (in_low k) low row || fits_half s (in_high k) high row) ≡ passes_one s k (children (node rows parts low high)) row
 passes_is s k rows parts low high row =
     let p = λ (x : Hop × Plain). may_pass s x.0 k.range row in

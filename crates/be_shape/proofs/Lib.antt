@@ -18,3 +18,8 @@ pub mod LeafSteps
 pub mod Among
 pub mod PartPlaces
 pub mod Roots
+pub mod OneLess
+pub mod LeafLess
+pub mod Exchanges
+pub mod Replacements
+pub mod Reshaping

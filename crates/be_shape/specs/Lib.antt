@@ -10,3 +10,5 @@ pub mod NodeList
 pub mod Steps
 pub mod Right
 pub mod Spots
+pub mod Less
+pub mod Swaps

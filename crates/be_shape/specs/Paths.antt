@@ -1,5 +1,6 @@
 -- Ways from a node to one below it, and the range at their end.
-use Rattle.std.specs.Prelude.{ℤ, ◌==◌, List, [], ◌∷◌, Option, Some, None, option_and_then, option_map, if◌then◌else◌}
+use Rattle.std.specs.Prelude.{ℤ, ◌==◌, Bool, false, List, [], ◌∷◌, Option, Some, None, option_and_then, option_map, if◌then◌else◌}
+use Rattle.std.specs.List.{list_any}
 use Rattle.be_base.specs.declared.names.AttrNo.{AttrNo}
 use Rattle.be_model.specs.declared.paths.Hop.{Hop}
 use Rattle.be_model.specs.declared.paths.Hop.TheVariants.{Part, Low, High}
@@ -43,3 +44,13 @@ ends r = option_map (λ (x : AttrNo × Range). (x.0, x.1.0, x.1.1)) r
 -- the range of the node at the end of a path from the root; there is none where the node isn't there or has no range
 abbrev pub range_at : Attributes → List Hop → Plain → Option (AttrNo × ℤ × ℤ)
 range_at s hops n = option_and_then (λ m. ends (range_along s hops None)) (walk hops n)
+
+-- a step leads to a part of the attribute
+abbrev pub is_part_of : AttrNo → Hop → Bool
+is_part_of a (Part b) = b.0 == a.0
+is_part_of a Low = false
+is_part_of a High = false
+
+-- the attribute is used on a path from the root
+abbrev pub is_used_on : List Hop → AttrNo → Bool
+is_used_on hops a = list_any (is_part_of a) hops

@@ -1,15 +1,18 @@
 //! What a row may do at a node.
 
-ghost use Rattle.std.specs.Prelude.{◌≡◌, ◌<◌, ◌&&◌, ◌||◌, true};
+ghost use Rattle.std.specs.Prelude.{◌≡◌, ◌<◌, ◌&&◌, ◌||◌, true, []};
 ghost use Rattle.be_model.specs.declared.paths.Hop.TheVariants.{Low, High};
 ghost use Rattle.std.specs.List.{count_by, list_all};
 ghost use Rattle.be_model.specs.Lies.{row_lies};
 ghost use Rattle.be_model.specs.Rows.{has};
-ghost use Rattle.be_shape.specs.Shape.{spans_inside, can_split, is_used, is_stuck};
+ghost use Rattle.be_shape.specs.Plain.{half_as};
+ghost use Rattle.be_shape.specs.Shape.{known, spans_inside, can_split, fits_half, is_used, is_stuck};
+ghost use Rattle.be_shape.specs.Paths.{is_part_of, is_used_on};
 ghost use Rattle.be_shape.specs.Ranges.{is_bounded, is_rising};
 ghost use Rattle.be_shape.specs.Children.{may_pass};
 ghost use Rattle.be_shape.specs.Spots.{known_of};
 
+use crate::nodes::Node;
 use crate::ranges::{NodeRange, lower_range, upper_range};
 use crate::spots::Spot;
 use be_base::AttrNo;
@@ -26,6 +29,17 @@ pub fn is_inside(row: &Row, s: &Schema, range: NodeRange) -> bool
             Some(span) => ends.0 <= span.0 && span.1 <= ends.1,
             None => false,
         },
+    }
+}
+
+/// Whether the half is there and encloses the row's span.
+pub fn takes(half: &Option<Box<Node>>, s: &Schema, range: NodeRange, row: &Row) -> bool
+    requires { row_lies s.now row.now ≡ true }
+    ensures { result ≡ fits_half s.now (known range []) (half_as half.now) row.now }
+{
+    match half {
+        Some(_) => is_inside(row, s, range),
+        None => false,
     }
 }
 
@@ -65,6 +79,22 @@ pub fn is_used(used: &[AttrNo], a: AttrNo) -> bool
     ensures { result ≡ is_used used.now a }
 {
     used.iter().any(|u| u.0 == a.0)
+}
+
+/// Whether the attribute is used on the path from the root.
+pub fn is_used_on(hops: &[Hop], a: AttrNo) -> bool
+    ensures { result ≡ is_used_on hops.now a }
+{
+    hops.iter().any(|hop| is_part_of(*hop, a))
+}
+
+fn is_part_of(hop: Hop, a: AttrNo) -> bool
+    ensures { result ≡ is_part_of a hop }
+{
+    match hop {
+        Hop::Part(b) => b.0 == a.0,
+        Hop::Low | Hop::High => false,
+    }
 }
 
 fn are_all_used(row: &Row, used: &[AttrNo]) -> bool

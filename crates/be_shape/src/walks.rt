@@ -12,8 +12,8 @@ use crate::ranges::{NodeRange, lower_range, upper_range, whole_range};
 use be_base::AttrNo;
 use be_model::{Hop, Schema};
 
-// The node at the end of the steps.
-pub(crate) fn walk<'a>(n: &'a Node, hops: &[Hop]) -> Option<&'a Node>
+/// The node at the end of the steps. There is none where the path isn't there.
+pub fn walk<'a>(n: &'a Node, hops: &[Hop]) -> Option<&'a Node>
     ensures { option_map (λ m. plain m.now) result ≡ walk hops.now (plain n.now) }
 {
     let mut at = n;
@@ -23,23 +23,25 @@ pub(crate) fn walk<'a>(n: &'a Node, hops: &[Hop]) -> Option<&'a Node>
     Some(at)
 }
 
-// The range of the node at the end of the steps from the root.
-pub(crate) fn walk_range(n: &Node, s: &Schema, hops: &[Hop]) -> NodeRange
+/// The range of the node at the end of the steps from the root.
+pub fn walk_range(n: &Node, s: &Schema, hops: &[Hop]) -> NodeRange
     requires { StandsIn s.now None (plain n.now) }
-    ensures { result ≡ option_and_then (λ m. range_along s.now hops.now None) (walk hops.now (plain n.now)) }
+    ensures range { result ≡ option_and_then (λ m. range_along s.now hops.now None) (walk hops.now (plain n.now)) }
+    ensures bounded { is_bounded result ≡ true }
+    ensures rising { is_rising result ≡ true }
 {
     let mut at = n;
     let mut range = None;
     for hop in hops {
         let below = child(at, *hop)?;
-        range = step(s, *hop, range);
+        range = child_range(s, *hop, range);
         at = below;
     }
     range
 }
 
-// The range of a child.
-fn step(s: &Schema, hop: Hop, range: NodeRange) -> NodeRange
+/// The range of a child.
+pub fn child_range(s: &Schema, hop: Hop, range: NodeRange) -> NodeRange
     requires bounded { is_bounded range ≡ true }
     requires rising { is_rising range ≡ true }
     ensures range { result ≡ range_below s.now hop range }
@@ -53,8 +55,9 @@ fn step(s: &Schema, hop: Hop, range: NodeRange) -> NodeRange
     }
 }
 
+/// The child at the end of the step.
 #[tactic(auto, using(crate::proofs::Plains::plain_out))]
-fn child<'a>(n: &'a Node, hop: Hop) -> Option<&'a Node>
+pub fn child<'a>(n: &'a Node, hop: Hop) -> Option<&'a Node>
     ensures { option_map (λ m. plain m.now) result ≡ child hop (plain n.now) }
 {
     match hop {
