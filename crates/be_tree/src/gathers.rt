@@ -36,11 +36,7 @@ pub(crate) fn gather(
 
 // Appends the wanted rows of a node and of all below it.
 #[cycle(gathers)]
-fn gather_node(
-    n: &Node,
-    session: Option<SessionNo>,
-    found: &mut Found,
-) -> Result<(), NoMemory>
+fn gather_node(n: &Node, session: Option<SessionNo>, found: &mut Found) -> Result<(), NoMemory>
     ensures put { OnOk result (found.new.rows ≡ found.old.rows ++ wanted session (rows_below (plain n.now))) }
     ensures refused { OnErr result (0 < length (wanted session (rows_below (plain n.now)))) }
     ensures front { BeginsWith found.new.rows found.old.rows }
@@ -71,11 +67,7 @@ fn gather_parts(
 }
 
 #[cycle(gathers)]
-fn gather_part(
-    part: &Part,
-    session: Option<SessionNo>,
-    found: &mut Found,
-) -> Result<(), NoMemory>
+fn gather_part(part: &Part, session: Option<SessionNo>, found: &mut Found) -> Result<(), NoMemory>
     ensures put { OnOk result (found.new.rows ≡ found.old.rows ++ wanted session (rows_below (part_as part.now).1)) }
     ensures refused { OnErr result (0 < length (wanted session (rows_below (part_as part.now).1))) }
     ensures front { BeginsWith found.new.rows found.old.rows }

@@ -10,6 +10,7 @@ use be_index::Index;
 use be_insert::place;
 use be_match::{cost_of, find_in};
 use be_model::{Cost, Event, Found, Row, Schema, Step, StepDone};
+use be_remove::take;
 use be_shape::Tree;
 use std::alloc::Global;
 use std::sync::Arc;
@@ -80,8 +81,8 @@ impl Index for BeTree {
 
     ghost planned = { λ t. None };
 
-    fn remove(&mut self, _row: &Row) -> bool {
-        false
+    fn remove(&mut self, row: &Row) -> bool {
+        take(&mut self.0, row).is_some()
     }
 
     fn step(&mut self, _step: &Step) -> StepDone {
