@@ -1,31 +1,26 @@
--- The list of changes of a run with one session, what is kept beside it, and how it grows by each reply.
-use Rattle.std.specs.Prelude.{◌≡◌, ℕ, ◌+◌, true, false, List, ◌++◌, length, Option, option_map, find}
+-- The list of changes of a run with one session, and how it grows by each reply.
+use Rattle.std.specs.Prelude.{◌≡◌, ℕ, ◌+◌, Bool, true, false, List, ◌++◌, length}
 use Rattle.std.specs.List.{list_all}
-use Rattle.be_base.specs.Text.{Text}
-use Rattle.be_base.specs.declared.names.Id.{Id}
-use Rattle.be_model.specs.declared.changes.Row.{Row}
-use Rattle.be_change.specs.History.{Entry, ByIds, live, hits, is_live_name, is_of, has_name, entries_of, IsWellFormed}
+use Rattle.be_model.specs.Lies.{event_lies}
+use Rattle.be_change.specs.History.{Entry, live, hits, is_live_name, is_of, entries_of, IsWellFormed}
 use Rattle.be_change.specs.Requests.{Request, refused, subscribe, unsubscribe, publish, costing, listing, quit, Reply, refusal, ok, bye, dup, none, hit, cost, listed, no_memory}
 use Rattle.be_model.specs.Schemas.{Attributes}
 use Rattle.be_model.specs.Bounds.{IsWithinBound}
 use Rattle.be_change.specs.Walk.{HasNameAt, names_of_session, live_rows}
 use Rattle.be_change.specs.Made.{change_named}
+use Rattle.be_server.specs.declared.naming.Wanted.{Wanted}
+use Rattle.be_server.specs.declared.naming.Wanted.TheVariants.{SatisfiedBy, Own}
 
-abbrev pub id_of_row : ℕ × Row → Id
-id_of_row r = record { 0 = r.0 }
-
--- the id of the live row of this name
-abbrev pub id_named : Text → ByIds → Option Id
-id_named name l = option_map id_of_row (find (has_name name) l)
-
--- the list is well formed, each change and each live row is of session 1, the rows are what is live, and the register
--- has their names
-pub record IsKept (h : List Entry) (rows : ByIds) (register : Text → Option Id) : Type 0 where
+-- the list is well formed, and each change and each live row is of session 1
+pub record IsAlone (h : List Entry) : Type 0 where
   pub formed : IsWellFormed h
   pub alone : entries_of 1 h ≡ h
   pub owned : list_all (is_of 1) (live h) ≡ true
-  pub rows_are : rows ≡ live h
-  pub registered : (name : Text) → register name ≡ id_named name (live h)
+
+-- the event that is searched for lies in the schema
+abbrev pub wanted_lies : Attributes → Wanted → Bool
+wanted_lies s (SatisfiedBy e) = event_lies s e.now
+wanted_lies s Own = true
 
 -- the change that the request names is put last, and n is the number of changes then
 abbrev pub Grows : List Entry → Request → ℕ → List Entry → Type 0
