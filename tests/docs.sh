@@ -1,6 +1,7 @@
 #!/usr/bin/env bash
 # Sees that what the documents name is there: files and folders, the definitions of docs/architecture.md in their
-# modules, and the calls and clauses of docs/promises.md. Ends with 1 where something is missing.
+# modules and its calls in their files, and the calls and clauses of docs/promises.md. Ends with 1 where something is
+# missing.
 set -u
 cd "$(dirname "${BASH_SOURCE[0]}")/.." || exit 2
 room="$(mktemp -d)"
@@ -31,6 +32,26 @@ while IFS='|' read -r _ _ names module _; do
         grep -q "^ *\([a-z]* \)\?pub .*\<$name\>" "$file" || lacks "$file has no $name"
     done
 done < <(grep '^|.*|.*| `be_[a-z]*/specs/[A-Za-z]*` |' docs/architecture.md)
+
+# its rows on promises: | what | `call`, `Type::call`, `file or folder`; `Type`, `file or folder` | definitions |
+while IFS='|' read -r _ _ calls _; do
+    names=()
+    for word in $(echo "$calls" | grep -o '`[^`]*`' | tr -d '`'); do
+        case "$word" in
+            crates/*) ;;
+            *) names+=("$word"); continue ;;
+        esac
+        for name in "${names[@]}"; do
+            case "${name##*::}" in
+                [A-Z]*) item=struct ;;
+                *) item=fn ;;
+            esac
+            grep -rqs --include='*.rt' "\<$item ${name##*::}\>" "$word" || lacks "docs/architecture.md names $name in $word, which has no $item ${name##*::}"
+        done
+        names=()
+    done
+    [ "${#names[@]}" -eq 0 ] || lacks "docs/architecture.md names ${names[*]} with no file behind it"
+done < <(awk '/^## / { on = ($0 == "## Where each promise stands") } on && /^\| /' docs/architecture.md)
 
 # words in the column 'Carried by' of docs/promises.md
 find crates -name out -prune -o \( -name '*.rt' -o -name '*.antt' \) -exec cat {} + | grep -o '[A-Za-z_][A-Za-z0-9_]*' | sort -u >"$room/words"

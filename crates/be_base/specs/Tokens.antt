@@ -1,4 +1,5 @@
--- A text as tokens: words, operators and marks, the longest ones from left to right.
+-- A text as tokens: words, operators and marks, the longest ones from left to right. The list is built from the right, a byte
+-- at a time; specs/FirstTokens says the same from the left, by what a text begins with.
 use Rattle.std.specs.Prelude.{ℕ, ◌==◌, ◌||◌, Bool, List, [], ◌∷◌, Option, Some, None, if◌then◌else◌}
 use Rattle.be_base.specs.Text.{Text, is_word_byte}
 

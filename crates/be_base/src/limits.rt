@@ -1,4 +1,5 @@
-//! The limits of the product.
+//! The limits of the product. Those of generated runs, of feeds, of seats and links, of letters and of reshaping are for what
+//! is still to come (docs/promises.md says what is open).
 
 /// Bytes of a name.
 pub const NAME_BYTES: usize = 64;

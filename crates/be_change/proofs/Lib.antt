@@ -13,3 +13,4 @@ pub mod Placed
 pub mod Below
 pub mod Hits
 pub mod Boxes
+pub mod Listed

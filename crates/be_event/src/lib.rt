@@ -1,4 +1,8 @@
 //! The texts of events and schemas.
+//!
+//! Its contract: `read_event` and `read_schema` answer exactly what a text means, or its first fault, and what `write_event`
+//! writes is read back as the same. It stands on be_model, and on be_io for the lines of a file. Begin with specs/Grammar and
+//! specs/Events, and with specs/SchemaTexts for schemas.
 #![tactic(auto)]
 
 mod events;

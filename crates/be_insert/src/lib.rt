@@ -2,7 +2,8 @@
 //!
 //! `place` is its one call. Its contract speaks of the contents, since the type of a tree keeps the shape. It stands on the
 //! tree of be_shape and on the choice of an attribute of be_score. Begin with `src/places.rt` and `src/splits.rt`; what
-//! holds while a row is on its way is in `specs/Right`, and what one step does to a node in `proofs/Steps`.
+//! holds while a row is on its way is in `specs/Filled` and be_shape's `specs/Right`, and what one step does to a node in
+//! `proofs/Steps`.
 #![tactic(auto)]
 
 mod leaves;

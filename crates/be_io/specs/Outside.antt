@@ -12,10 +12,11 @@ abbrev pub sink_state : {K : Type 0} → Sink K → K → SinkState
 sink_state of sink =
     record { held = of.held sink; faults = of.write_faults sink; refusals = of.refusals sink }
 
--- a link is a source and a sink
+-- a link is a source and a sink. A run's input and output are two objects, whose states be_server joins
 pub record LinkState : Type 0 where
   pub source : SourceState
   pub sink : SinkState
 
+-- what one object that is both tells
 abbrev pub link_state : {L : Type 0} → Source L → Sink L → L → LinkState
 link_state gives takes link = record { source = source_state gives link; sink = sink_state takes link }

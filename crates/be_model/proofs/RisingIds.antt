@@ -1,11 +1,11 @@
 -- Rows by rising ids: one row more, fewer rows, and the look-up of a row.
-use Rattle.std.proofs.Common.{◌≡◌, ℕ, zero, suc, ◌+◌, ◌<◌, ◌==◌, Bool, true, false, cond, [], ◌∷◌, ◌++◌, Option, Some, slice_get, refl, ap, ◌∙◌, arith, eq-eqb}
+use Rattle.std.proofs.Common.{◌≡◌, ℕ, zero, suc, ◌+◌, ◌<◌, ◌==◌, Bool, true, false, cond, [], ◌∷◌, ◌++◌, Option, Some, slice_get, nat_lt, refl, ap, ◌∙◌, arith, eq-eqb}
 use Rattle.std.specs.Prelude.{filter}
-use Rattle.std.proofs.lemmas.Bool.{eqb-true}
+use Rattle.std.proofs.lemmas.Bool.{eqb-true, or_from}
 use Rattle.std.proofs.lemmas.Bool.Decides.{nat_tests}
 use Rattle.be_model.specs.declared.changes.Row.{Row}
 use Rattle.be_model.specs.Rows.{id_of}
-use Rattle.be_model.specs.ByIds.{ByIds, AllBelow, AllAbove, Rising, SayIds, row_at}
+use Rattle.be_model.specs.ByIds.{ByIds, AllBelow, AllAbove, Rising, SayIds, row_at, has_id, put_by_id}
 
 pub AllBelow-snoc : (n : ℕ) (m : ByIds) (r : ℕ × Row) → AllBelow n m → r.0 < n + 1 → AllBelow (n + 1) (m ++ r ∷ [])
 AllBelow-snoc n [] r b h = (h, tt)
@@ -87,3 +87,26 @@ row_at-each (x ∷ xs) zero r a e =
     let same : x ≡ r = cc in
     row_at-first x xs r.0 (ap (λ (y : ℕ × Row). y.0) same) ∙ ap (λ (y : ℕ × Row). Some y.1) same
 row_at-each (x ∷ xs) (suc i) r a e = row_at-later x xs r.0 r.1 a (row_at-each xs i r a.1 e)
+
+-- no row has an id that all ids are below
+pub above_is_new : (n id : ℕ) (m : ByIds) → id ≡ n → AllBelow n m → has_id id m ≡ false
+above_is_new n id [] is b = refl
+above_is_new n id (x ∷ xs) is b =
+    let apart : (x.0 == id) ≡ false = grind (arith, nat_tests, b.0, is) in
+    or_from (x.0 == id) (has_id id xs) apart (above_is_new n id xs is b.1)
+
+-- a row whose id all ids are below is put last
+pub put_greatest : (n : ℕ) (row : Row) (m : ByIds) → id_of row ≡ n → AllBelow n m → put_by_id row m ≡ m ++ (n, row) ∷ []
+put_greatest n row [] is b = ap (λ (i : ℕ). (i, row) ∷ []) is
+put_greatest n row (x ∷ xs) is b =
+    let over : nat_lt (id_of row) x.0 ≡ false = grind (arith, nat_tests, b.0, is) in
+    ap (λ (c : Bool). cond c ((id_of row, row) ∷ x ∷ xs) (x ∷ put_by_id row xs)) over ∙ ap (λ (l : ByIds). x ∷ l) (put_greatest n row xs is b.1)
+
+-- a row is found below what all ids are below
+pub row_at-below : (n id : ℕ) (m : ByIds) (row : Row) → AllBelow n m → row_at id m ≡ Some row → id < n
+row_at-below n id [] row b e = absurd cc
+row_at-below n id (x ∷ xs) row b e = step (x.0 == id) refl e (λ rest. row_at-below n id xs row b.1 rest)
+  where
+    step : (c : Bool) → (x.0 == id) ≡ c → cond c (Some x.1) (row_at id xs) ≡ Some row → (row_at id xs ≡ Some row → id < n) → id < n
+    step true is e more = let same : x.0 ≡ id = eqb-true x.0 id is in omega (arith, b.0)
+    step false is e more = more e

@@ -189,14 +189,14 @@ found_here id r rs h = ap (λ b. cond b (Some r.1) (row_at id rs)) h
 found_later : (id : ℕ) (r : ℕ × Row) (rs : ByIds) → eqb r.0 id ≡ false → row_at id (r ∷ rs) ≡ row_at id rs
 found_later id r rs h = ap (λ b. cond b (Some r.1) (row_at id rs)) h
 
-put_found : (row : Row) (m : ByIds) → has_id (id_of row) m ≡ false → row_at (id_of row) (put_by_id row m) ≡ Some row
+pub put_found : (row : Row) (m : ByIds) → has_id (id_of row) m ≡ false → row_at (id_of row) (put_by_id row m) ≡ Some row
 put_found row [] new = found_here (id_of row) (pair row) [] (eq-eqb (id_of row) (id_of row) refl)
 put_found row (r ∷ rs) new =
     by_order (row_at (id_of row) (put_by_id row (r ∷ rs)) ≡ Some row) (id_of row) r.0
     (λ h. ap (row_at (id_of row)) (put_before row r rs h) ∙ found_here (id_of row) (pair row) (r ∷ rs) (eq-eqb (id_of row) (id_of row) refl))
     (λ h. let z = or_parts (eqb r.0 (id_of row)) (has_id (id_of row) rs) new in ap (row_at (id_of row)) (put_after row r rs h) ∙ found_later (id_of row) r (put_by_id row rs) z.0 ∙ put_found row rs z.1)
 
-put_other : (id : ℕ) (row : Row) (m : ByIds) → eqb (id_of row) id ≡ false → row_at id (put_by_id row m) ≡ row_at id m
+pub put_other : (id : ℕ) (row : Row) (m : ByIds) → eqb (id_of row) id ≡ false → row_at id (put_by_id row m) ≡ row_at id m
 put_other id row [] h = found_later id (pair row) [] h
 put_other id row (r ∷ rs) h =
     by_order (row_at id (put_by_id row (r ∷ rs)) ≡ row_at id (r ∷ rs)) (id_of row) r.0

@@ -1,6 +1,7 @@
 //! Ways from the root of a tree to a node, and steps that reshape a tree.
 
-ghost use Rattle.std.specs.Prelude.{◌≡◌, [], ◌∷◌, ◌++◌, OnOk, OnErr};
+ghost use Rattle.std.specs.Prelude.{◌≡◌, ◌-◌, [], ◌∷◌, ◌++◌, length, take, OnOk, OnErr, IfOk};
+ghost use Rattle.std.specs.Option.{option_to_list};
 
 use be_base::{AttrNo, Id, NoMemory};
 use std::alloc::Global;
@@ -46,6 +47,23 @@ impl Path {
     {
         self.hops.push(hop)?;
         Ok(())
+    }
+
+    /// Takes the last step out, if there is one.
+    pub fn pop(&mut self) -> Option<Hop>
+        ensures rest { self.new ≡ take (length self.old - 1) self.old }
+        ensures last { self.old ≡ self.new ++ option_to_list result }
+    {
+        self.hops.pop()
+    }
+
+    /// The same path once more.
+    pub fn copy(&self) -> Result<Path, NoMemory>
+        ensures { IfOk result (λ path. path ≡ self.now) }
+    {
+        let mut hops = Vec::new(*self.hops.allocator());
+        hops.extend_from_slice(self.hops.as_slice())?;
+        Ok(Path { hops })
     }
 
     pub fn hops(&self) -> &[Hop]

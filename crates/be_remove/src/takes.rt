@@ -18,7 +18,10 @@ ghost use Rattle.be_remove.specs.Taken.{has_way, Lacks};
 
 use crate::leaves::{drop_half, drop_part, take_row};
 use be_model::{Hop, Row, Schema};
-use be_shape::{Node, NodeRange, Part, Spot, Tree, child_range, has_attr, is_inside, lower_range, may_pass, upper_range};
+use be_shape::{
+    Node, NodeRange, Part, Spot, Tree, child_range, has_attr, is_inside, lower_range, may_pass,
+    upper_range,
+};
 use std::sync::Arc;
 
 // Whether the row has the attribute of a part.

@@ -4,3 +4,4 @@ pub mod Adding
 pub mod Choosing
 pub mod Tallying
 pub mod Examples
+pub mod Picks

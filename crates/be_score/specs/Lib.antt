@@ -1,2 +1,3 @@
 pub mod Scores
 pub mod Tallies
+pub mod Picks

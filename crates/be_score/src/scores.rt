@@ -5,6 +5,7 @@ ghost use Rattle.std.specs.List.{list_all};
 ghost use Rattle.be_model.specs.Lies.{row_lies};
 ghost use Rattle.be_base.specs.declared.names.AttrNo.{AttrNo};
 ghost use Rattle.be_score.specs.Scores.{IsCandidate, IsPick, is_used};
+ghost use Rattle.be_score.specs.Picks.{pick};
 ghost use Rattle.be_score.specs.Tallies.{IsTally, better_of};
 
 use crate::tallies::Tally;
@@ -17,6 +18,7 @@ pub fn pick_attr<R: RowList>(s: &Schema, rows: &R, used: &[AttrNo], alpha: u8) -
     requires { list_all (row_lies s.now) (R.rows rows.now) ≡ true }
     ensures pick { IfSome result (IsPick s.now (R.rows rows.now) used.now alpha) }
     ensures none { IsNone result ↔ ((a : AttrNo) → ¬ IsCandidate (R.rows rows.now) used.now a) }
+    ensures exact { result ≡ pick s.now (R.rows rows.now) used.now alpha }
 {
     let tally = tally_of(s, rows);
     let count = rows.len() as u64;

@@ -1,4 +1,5 @@
--- Which status is due: a faulty schema and a file over the limit are named, and where nothing is wrong all is done.
+-- Which status is due: a faulty schema and a file over the limit are named, unless reading the file failed or memory was wanting,
+-- and where nothing is wrong all is done, or memory was wanting.
 use Rattle.std.specs.Prelude.{◌≡◌, ℕ, ◌<◌, ◌≤◌, ◌⊎◌, List, length, Option, Some, None, Ok, Err}
 use Rattle.be_base.specs.Text.{Text}
 use Rattle.be_base.specs.declared.limits.TheConstants.{SOURCE_BYTES, FILE_BYTES}
@@ -27,12 +28,12 @@ FileIsRefused before after status =
 
 -- what the file holds decides the status
 pub record IsExact (file : ToldFile) (before after : CommandState) (status : Status) : Type 0 where
-  -- a faulty schema is named
+  -- a faulty schema is named, or the file was refused
   pub schema_bad : (text : List ℕ) (line : ℕ) (kind : SchemaKind) → file ≡ Some (Some text) → length text ≤ FILE_BYTES
       → schema_of text ≡ Err (Line line kind) → (status ≡ SchemaBad line kind) ⊎ FileIsRefused before after status
-  -- a file over the limit is named
+  -- a file over the limit is named, or it was refused otherwise
   pub long_file : (text : List ℕ) → file ≡ Some (Some text) → FILE_BYTES < length text → (status ≡ LongFile) ⊎ FileIsRefused before after status
-  -- a missing file can't be read
+  -- a missing file is refused
   pub missing : file ≡ Some None → FileIsRefused before after status
   -- where nothing is wrong all is done, want of memory aside
   pub complete : (text : List ℕ) (s : Attributes) → file ≡ Some (Some text) → length text ≤ FILE_BYTES

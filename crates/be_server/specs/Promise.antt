@@ -30,7 +30,8 @@ abbrev pub QuitsAtEnd : Bool → Attributes → List TextLine → Type 0
 QuitsAtEnd true s lines = EndsWithQuit s lines
 QuitsAtEnd false s lines = HasNoQuit s lines
 
--- a QUIT's own reply says what stands in the list. Without a QUIT the session's Bye is put last, unless memory is wanting
+-- a QUIT's own reply says what stands in the list. Without a QUIT the session's Bye is put last,
+-- or the list is as before
 abbrev pub Leaves : Bool → List Entry → List Entry → Type 0
 Leaves true before after = after ≡ before
 Leaves false before after = (after ≡ before) ⊎ (after ≡ before ++ left 1 (length before) ∷ [])
@@ -43,7 +44,7 @@ pub record Replied (s : Attributes) (lines : List TextLine) (quits : Bool) (befo
   -- what was written is these replies, and no other byte
   pub written : HoldsMore before.held after.held (texts s exchanges)
   pub last_line : QuitsAtEnd quits s lines
-  -- the list that was left is that list, with the session's Bye
+  -- the list that was left is that list, with the session's Bye or without it
   pub leaves : Leaves quits (made [] 1 exchanges) list
 
 -- each of these lines was answered, but that the reply to the last one is cut short

@@ -45,7 +45,8 @@ where
         (command_state (F.read_faults shelf.new) (source_state S.Source input.new) (sink_state K.Sink out.new))
         result }
 
-    // A faulty schema and a file over the limit are named. Where nothing is wrong, all is done.
+    // A faulty schema and a file over the limit are named, unless reading the file failed or memory was wanting. Where nothing
+    // is wrong, all is done, or memory was wanting.
     ensures exact { EndsExactly (command_of (words_of words.now)) (F.content shelf.old)
         (command_state (F.read_faults shelf.old) (source_state S.Source input.old) (sink_state K.Sink out.old))
         (command_state (F.read_faults shelf.new) (source_state S.Source input.new) (sink_state K.Sink out.new))

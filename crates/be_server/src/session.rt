@@ -255,7 +255,7 @@ impl<I: Index> Session<I> {
         }
     }
 
-    // The session leaves without a reply. Its Bye is missing only where memory was wanting.
+    // The session leaves without a reply: its Bye is put last, or the list is as before. The clause doesn't say why.
     fn leave(&mut self, alloc: Global)
         requires { has_left 1 self.old.subscriptions.list ≡ false }
         ensures { Leaves false self.old.subscriptions.list self.new.subscriptions.list }

@@ -1,9 +1,9 @@
 -- All nodes of a tree: what holds everywhere holds of each, and the path of each leads to it.
-use Rattle.std.proofs.Common.{◌≡◌, ◌≢◌, ◌<◌, ◌≤◌, ◌+◌, ℕ, Bool, true, cond, ltb, ◌&&◌, List, [], ◌∷◌, ◌++◌, Some, option_and_then, refl, sym, ap, ◌∙◌, subst, arith}
-use Rattle.std.specs.List.{list_all, flat_map, AllByRecursion}
+use Rattle.std.proofs.Common.{◌≡◌, ◌≢◌, ◌<◌, ◌≤◌, ◌+◌, ℕ, Bool, true, cond, ltb, ◌&&◌, List, [], ◌∷◌, ◌++◌, length, Option, Some, None, option_and_then, refl, sym, ap, ◌∙◌, subst, arith}
+use Rattle.std.specs.List.{list_all, flat_map, AllByRecursion, Contains}
 use Rattle.std.proofs.lemmas.Bool.{and_parts, ltb-true, eq-eqb, ne_eqb}
 use Rattle.std.proofs.lemmas.List.{append_assoc, append-nil}
-use Rattle.std.proofs.lemmas.List.Elements.{All-from_recursion, All-weaker}
+use Rattle.std.proofs.lemmas.List.Elements.{All-from_recursion, All-weaker, Contains-append_left, Contains-append_right}
 use Rattle.std.proofs.lemmas.List.Folds.{list_all-append}
 use Rattle.be_base.specs.declared.names.AttrNo.{AttrNo}
 use Rattle.be_model.specs.declared.changes.Row.{Row}
@@ -15,9 +15,9 @@ use Rattle.be_shape.specs.Plain.{Plain, node, Parts, no_part, part, Half, no_hal
 use Rattle.be_shape.specs.Shape.{Known, nothing, in_part, in_low, in_high, everywhere, is_placed_at, is_settled_at, is_settled, attrs_of}
 use Rattle.be_shape.specs.Paths.{part_on, child, walk}
 use Rattle.be_shape.specs.Children.{roots_of, root_of, children, known_below}
-use Rattle.be_shape.specs.NodeList.{NodeAt, node_at, nodes_from, nodes_in_parts, nodes_in_half, nodes, known_along, HoldsAtNodes, PathsLead, IsSettledBut}
+use Rattle.be_shape.specs.NodeList.{NodeAt, node_at, nodes_from, nodes_in_parts, nodes_in_half, nodes, known_along, HoldsAtNodes, PathsLead, NodesAreListed, IsSettledBut}
 use Rattle.be_shape.proofs.Children.{Each-append, Each-weaker, Each-from_test, in_trees, where_known, below, everywhere_is, over_children_is}
-use Rattle.be_shape.proofs.Placed.{placed}
+use Rattle.be_shape.proofs.Placed.{placed, at_child}
 
 -- the nodes below a child
 abbrev pub nodes_of : Attributes → List Hop → Known → Hop × Plain → List NodeAt
@@ -175,3 +175,39 @@ pub settled_but : (s : Attributes) (path : List Hop) (n : Plain) → is_settled 
 settled_but s path n h =
     All-weaker (λ (x : NodeAt). is_settled_at s x.known x.here ≡ true) (λ (x : NodeAt). x.path ≢ path → is_settled_at s x.known x.here ≡ true) (λ x t _. t) (nodes s n)
     (All-from_recursion (λ (x : NodeAt). is_settled_at s x.known x.here ≡ true) (nodes s n) (Each-from_test (λ (x : NodeAt). is_settled_at s x.known x.here) (nodes s n) (sym (at_nodes s n (is_settled_at s)) ∙ h)))
+
+-- what a list for an element contains, the lists for all contain
+abbrev Brings : {X Y : Type 0} → (X → List Y) → List Y → X → Type 0
+Brings f ys x = (y : _) → Contains (f x) y → Contains ys y
+
+each_brings : {X Y : Type 0} (f : X → List Y) (xs : List X) → AllByRecursion (Brings f (flat_map f xs)) xs
+each_brings f [] = tt
+each_brings f (x ∷ xs) = (
+  λ y h. Contains-append_left (f x) (flat_map f xs) y h,
+  Each-weaker (Brings f (flat_map f xs)) (Brings f (f x ++ flat_map f xs)) (λ z g y h. Contains-append_right (f x) (flat_map f xs) y (g y h)) xs (each_brings f xs),
+)
+
+-- the node at the end of steps from a node is among those from it
+pub listed_from : (s : Attributes) (hops : List Hop) (n m : Plain) (path : List Hop) (k : Known) → walk hops n ≡ Some m
+    → Contains (nodes_from s path k n) (node_at (path ++ hops) (known_along s hops k) m)
+listed_from s [] n m path k h =
+    let same : n ≡ m = cc in
+    subst (λ p. Contains (nodes_from s path k n) (node_at p k m)) (sym (append-nil path))
+    (subst (λ x. Contains (nodes_from s path k n) (node_at path k x)) same (subst (λ l. Contains l (node_at path k n)) (sym (nodes_are s path k n)) (0, omega arith, refl)))
+listed_from s (hop ∷ hops) n m path k h =
+    by_child (child hop n) refl h (λ c w. listed_from s hops c m (path ++ hop ∷ []) (known_below s hop k) w)
+  where
+    by_child : (o : Option Plain) → child hop n ≡ o → option_and_then (walk hops) o ≡ Some m
+        → ((c : Plain) → walk hops c ≡ Some m → Contains (nodes_from s (path ++ hop ∷ []) (known_below s hop k) c) (node_at ((path ++ hop ∷ []) ++ hops) (known_along s hops (known_below s hop k)) m))
+        → Contains (nodes_from s path k n) (node_at (path ++ hop ∷ hops) (known_along s hops (known_below s hop k)) m)
+    by_child None e w on = absurd (cc)
+    by_child (Some c) e w on =
+        let f = nodes_of s path k in
+        let x = node_at (path ++ hop ∷ hops) (known_along s hops (known_below s hop k)) m in
+        let below : Contains (f (hop, c)) x =
+        subst (λ p. Contains (f (hop, c)) (node_at p (known_along s hops (known_below s hop k)) m)) (append_assoc path (hop ∷ []) hops) (on c w) in
+        subst (λ l. Contains l x) (sym (nodes_are s path k n))
+        (Contains-append_right (node_at path k n ∷ []) (flat_map f (children n)) x (at_child (Brings f (flat_map f (children n))) hop n c e (each_brings f (children n)) x below))
+
+pub are_listed : (s : Attributes) (n : Plain) → NodesAreListed s n
+are_listed s n path m h = listed_from s path n m [] nothing h

@@ -1,6 +1,6 @@
 -- All nodes of a tree, in order, each with its path.
 use Rattle.std.specs.Prelude.{◌≡◌, ◌≢◌, Bool, true, List, [], ◌∷◌, ◌++◌, Some}
-use Rattle.std.specs.List.{list_all, All}
+use Rattle.std.specs.List.{list_all, All, Contains}
 use Rattle.be_model.specs.declared.paths.Hop.{Hop}
 use Rattle.be_model.specs.declared.paths.Hop.TheVariants.{Part, Low, High}
 use Rattle.be_model.specs.Schemas.{Attributes}
@@ -57,3 +57,8 @@ PathsLead s n =
 abbrev pub IsSettledBut : Attributes → List Hop → Plain → Type 0
 IsSettledBut s path n =
     All (λ (x : NodeAt). x.path ≢ path → is_settled_at s x.known x.here ≡ true) (nodes s n)
+
+-- the list is complete: each node that a path leads to is in it, with the path and what is known along it
+abbrev pub NodesAreListed : Attributes → Plain → Type 0
+NodesAreListed s n =
+    (path : List Hop) (m : Plain) → walk path n ≡ Some m → Contains (nodes s n) (node_at path (known_along s path nothing) m)

@@ -5,7 +5,7 @@ ghost use Rattle.be_model.specs.ByIds.{Rising, rows_of};
 ghost use Rattle.be_shape.specs.Plain.{plain, rows_below, contents};
 ghost use Rattle.std.specs.Arc.{arc_value};
 ghost use Rattle.be_shape.specs.Contents.{RowsAreFound, NewIdsAreNowhere};
-ghost use Rattle.be_shape.specs.NodeList.{HoldsAtNodes, PathsLead};
+ghost use Rattle.be_shape.specs.NodeList.{HoldsAtNodes, PathsLead, NodesAreListed};
 
 use crate::trees::Tree;
 
@@ -37,4 +37,9 @@ pub fn nodes_are_everywhere(t: &Tree)
 /// The path of each node in the list leads to it, and what is known along the path is known of the node.
 pub fn paths_lead(t: &Tree)
     ensures { PathsLead (arc_value t.now.schema) (plain t.now.root) }
+{}
+
+/// Each node that a path leads to is in the list, with its path and what is known along it.
+pub fn nodes_are_listed(t: &Tree)
+    ensures { NodesAreListed (arc_value t.now.schema) (plain t.now.root) }
 {}

@@ -1,4 +1,8 @@
 //! The tree of rows: its shape, and what always holds of it.
+//!
+//! Its contract is the type `Tree`: whatever is done to one, it stays placed, drawn, pruned and settled, and its rows lie in its
+//! schema. What a tree contains is a list of rows by their ids, and the laws say what that list is. It stands on be_model.
+//! Begin with specs/Plain (a node as plain data) and specs/Shape; specs/Right has all of it for one node and what is below it.
 #![tactic(auto)]
 
 mod counts;
@@ -13,8 +17,8 @@ mod trees;
 mod walks;
 
 pub use laws::{
-    ids_rise, new_ids_are_nowhere, nodes_are_everywhere, paths_lead, rows_are_found,
-    rows_are_of_leaves,
+    ids_rise, new_ids_are_nowhere, nodes_are_everywhere, nodes_are_listed, paths_lead,
+    rows_are_found, rows_are_of_leaves,
 };
 pub use leaves::Leaf;
 pub use looks::{

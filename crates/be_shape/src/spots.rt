@@ -1,7 +1,7 @@
 //! Where a node stands in its tree.
 
 ghost use Rattle.std.specs.Prelude.{◌≡◌, true, OnOk, OnErr};
-ghost use Rattle.be_shape.specs.Shape.{nothing};
+ghost use Rattle.be_shape.specs.Shape.{nothing, known};
 ghost use Rattle.be_shape.specs.Ranges.{is_bounded, is_rising};
 ghost use Rattle.be_shape.specs.Children.{is_open, known_below};
 
@@ -20,7 +20,7 @@ pub struct Spot {
 }
 
 impl Spot {
-    ghost use Rattle.be_shape.specs.Spots.{known_of};
+    ghost use Rattle.be_shape.specs.Spots.{known_of, CanLeave, used_above};
 
     /// Of the root nothing is known. It takes no memory.
     pub fn root(alloc: Global) -> Spot
@@ -47,5 +47,18 @@ impl Spot {
             Hop::High => self.range = upper_range(self.range),
         }
         Ok(())
+    }
+
+    /// Goes back up the step that was gone last, to a node of this range. It takes no memory.
+    pub fn leave(&mut self, hop: Hop, range: NodeRange)
+        requires bounded { is_bounded range ≡ true }
+        requires rising { is_rising range ≡ true }
+        requires used { CanLeave hop self.old.used.items }
+        ensures { known_of self.new ≡ known range (used_above hop self.old.used.items) }
+    {
+        if let Hop::Part(_) = hop {
+            let _ = self.used.remove(0);
+        }
+        self.range = range;
     }
 }

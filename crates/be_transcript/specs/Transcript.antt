@@ -34,14 +34,3 @@ pub record AreExchanges (s : Attributes) (k z : ℕ) (h : List Entry) (ls : List
   pub somebody : k ≢ 0
   pub session : IsLegalSession s k z h ps
   pub each : AnswersEach session.end.ended (map (reading s) ls) (requests ps)
-
--- out is a legal transcript of session k's lines over the list h
-abbrev pub IsTranscript : Attributes → (k z : ℕ) → List Entry → List TextLine → List ℕ → Type 0
-IsTranscript s k z h ls out = (ps : List Exchange) × AreExchanges s k z h ls ps × (out ≡ texts s ps)
-
--- out is a legal transcript of its lines, but that the last reply is cut short
-pub record IsCutTranscript (s : Attributes) (k z : ℕ) (h : List Entry) (ls : List TextLine) (out : List ℕ) : Type 0 where
-  pub ps : List Exchange
-  pub last : Exchange
-  pub exchanges : AreExchanges s k z h ls (ps ++ last ∷ [])
-  pub cut : IsCutText s ps last out

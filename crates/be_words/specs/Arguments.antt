@@ -1,5 +1,5 @@
 -- The words behind the command: which of them are options, and which stand by their places.
-use Rattle.std.specs.Prelude.{◌==◌, Bool, false, List, [], ◌∷◌, ◌++◌, take, drop, Option, Some, None, option_and_then, codes, if◌then◌else◌}
+use Rattle.std.specs.Prelude.{◌==◌, Bool, false, List, [], ◌∷◌, ◌++◌, take, drop, length, Option, Some, None, option_and_then, codes, if◌then◌else◌}
 use Rattle.std.specs.Option.{option_map_or}
 use Rattle.be_base.specs.Text.{Text, same_text}
 
@@ -18,52 +18,60 @@ pub data Next : Type 0 where
   -- a word by its place: the separator stands before it
   plain : Next
 
--- what was read
-pub record Arguments : Type 0 where
+-- what was read of the words so far
+pub record Progress : Type 0 where
   -- the words that stand by their places
   pub words : List Text
   -- the FILE of each `--load`
   pub loads : List Text
   pub next : Next
 
-abbrev pub no_arguments : Arguments
-no_arguments = record { words = []; loads = []; next = any }
+abbrev pub beginning : Progress
+beginning = record { words = []; loads = []; next = any }
 
-abbrev pub with_word : Text → Arguments → Arguments
+abbrev pub with_word : Text → Progress → Progress
 with_word word a = record a { words = a.words ++ word ∷ [] }
 
-abbrev pub with_load : Text → Arguments → Arguments
+abbrev pub with_load : Text → Progress → Progress
 with_load word a = record { words = a.words; loads = a.loads ++ word ∷ []; next = any }
+
+abbrev pub load_front : Text
+load_front = codes "--load="
 
 -- FILE of `--load=FILE`
 abbrev pub load_in : Text → Option Text
-load_in word = if same_text (take 7 word) (codes "--load=") then Some (drop 7 word) else None
+load_in word = if same_text (take (length load_front) word) load_front then Some (drop (length load_front) word) else None
 
--- no word that begins with `-` stands by its place, but `-` alone
-abbrev pub undashed : (Text → Arguments → Arguments) → Text → Arguments → Option Arguments
+-- no word that begins with `-` is taken so, but `-` alone
+abbrev pub undashed : (Text → Progress → Progress) → Text → Progress → Option Progress
 undashed put word a = if is_dashed word then None else Some (put word a)
 
 -- a word before any separator
-abbrev pub with_any : Text → Arguments → Option Arguments
+abbrev pub with_any : Text → Progress → Option Progress
 with_any word a =
     if same_text word (codes "--") then Some (record a { next = plain }) else
     (if same_text word (codes "--load") then Some (record a { next = file }) else
     option_map_or (λ named. Some (with_load named a)) (load_in word) (undashed with_word word a))
 
-abbrev pub with_next : Next → Text → Arguments → Option Arguments
+abbrev pub with_next : Next → Text → Progress → Option Progress
 with_next any word a = with_any word a
 with_next file word a = undashed with_load word a
 with_next plain word a = Some (with_word word a)
 
+-- the words that stand by their places, and the FILE of each `--load`
+pub record Arguments : Type 0 where
+  pub words : List Text
+  pub loads : List Text
+
 -- no `--load` waits for its FILE
-abbrev pub ended : Next → Arguments → Option Arguments
+abbrev pub ended : Next → Progress → Option Arguments
 ended file a = None
-ended _ a = Some a
+ended _ a = Some (record { words = a.words; loads = a.loads })
 
 -- these words read behind what was read
-abbrev pub arguments_from : Arguments → List Text → Option Arguments
+abbrev pub arguments_from : Progress → List Text → Option Arguments
 arguments_from a [] = ended a.next a
 arguments_from a (word ∷ words) = option_and_then (λ b. arguments_from b words) (with_next a.next word a)
 
 abbrev pub arguments : List Text → Option Arguments
-arguments words = arguments_from no_arguments words
+arguments words = arguments_from beginning words

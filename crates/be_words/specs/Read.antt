@@ -1,24 +1,26 @@
--- What a reader of words answers.
-use Rattle.std.specs.Prelude.{◌≡◌, Option, Some, None, Result, Ok, Err}
-use Rattle.be_words.specs.declared.arguments.Next.{Next as NextWord}
-use Rattle.be_words.specs.declared.arguments.Next.TheVariants as words
+-- What the kit's parser of command lines gives.
+use Rattle.std.specs.Prelude.{◌≡◌, List, [], Option, Some, None, Result, Ok, Err, unwrap_or}
+use Rattle.be_base.specs.Text.{Text}
+use Rattle.clap.specs.Matches.{found_of}
+use Rattle.clap.specs.Walk.{Row, all_of, rows_of}
+use Rattle.clap.specs.declared.parser.matches.ArgMatches.{ArgMatches}
 use Rattle.be_words.specs.declared.words.WordsFault.{WordsFault}
 use Rattle.be_words.specs.declared.words.WordsFault.TheVariants.{Refused, NoMemory}
-use Rattle.be_words.specs.Arguments.{Arguments, Next, any, file, plain}
+use Rattle.be_words.specs.Arguments.{Arguments}
+use Rattle.be_words.specs.CommandLine.{load_id, word_id}
 
-abbrev pub plain_next : NextWord → Next
-plain_next words.Any = any
-plain_next words.File = file
-plain_next words.Plain = plain
+-- the values of an argument of this id
+abbrev pub seen : Text → List Row → List Text
+seen id rows = unwrap_or (all_of id rows) []
+
+abbrev pub values_in : ArgMatches → Text → List Text
+values_in matches id = seen id (rows_of (found_of matches))
+
+abbrev pub arguments_in : ArgMatches → Arguments
+arguments_in matches = record { words = values_in matches word_id; loads = values_in matches load_id }
 
 -- the arguments exactly where there are some, and the refusal exactly where there are none, want of memory aside
-abbrev pub AreArguments : Option Arguments → Result Arguments WordsFault → Type 0
-AreArguments wanted (Ok a) = wanted ≡ Some a
+abbrev pub AreArguments : Option Arguments → Result ArgMatches WordsFault → Type 0
+AreArguments wanted (Ok matches) = wanted ≡ Some (arguments_in matches)
 AreArguments wanted (Err Refused) = wanted ≡ None
 AreArguments wanted (Err NoMemory) = Unit {0}
-
--- the same, of a word more
-abbrev pub IsTaken : Option Arguments → Arguments → Result (Unit {0}) WordsFault → Type 0
-IsTaken wanted after (Ok _) = wanted ≡ Some after
-IsTaken wanted after (Err Refused) = wanted ≡ None
-IsTaken wanted after (Err NoMemory) = Unit {0}

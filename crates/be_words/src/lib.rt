@@ -1,7 +1,8 @@
 //! The words of the command line as plain data.
 //!
 //! Its contract: `read_words` gives the request that the words are, and refuses exactly words that have no reading, want of
-//! memory aside. It stands on `be_base`. Begin with specs/Words, whose table has a row for each command.
+//! memory aside. It stands on `be_base` and the kit's `clap`. Begin with specs/Words, whose table has a row for each
+//! command, and specs/Arguments, which says what a word that begins with `-` is.
 #![tactic(auto)]
 
 mod arguments;

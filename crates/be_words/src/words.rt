@@ -4,9 +4,9 @@ ghost use Rattle.std.specs.Prelude.{◌≡◌, map, option_map};
 ghost use Rattle.be_base.specs.Readers.{now_of};
 ghost use Rattle.be_words.specs.Words.{IsAnswerTo, words_of, plain_request, request_of, run_of, gen_of, count_within};
 
-use crate::arguments::{Arguments, read_arguments};
+use crate::arguments::{LOAD, WORD, read_arguments, values_of};
 use be_base::{GENERATED_EVENTS, GENERATED_SUBSCRIPTIONS, NoMemory, read_count};
-use std::alloc::{AllocFailed, Global};
+use std::alloc::Global;
 
 /// What the words ask for.
 #[derive(Clone, Copy, Debug, PartialEq, Eq)]
@@ -38,16 +38,6 @@ impl From<NoMemory> for WordsFault {
     ghost from_gives = { λ fault words. words ≡ NoMemory };
 
     fn from(_: NoMemory) -> WordsFault {
-        WordsFault::NoMemory
-    }
-}
-
-impl<T: Drop> From<AllocFailed<T>> for WordsFault {
-    ghost use Rattle.be_words.specs.declared.words.WordsFault.TheVariants.{NoMemory};
-
-    ghost from_gives = { λ failed words. words ≡ NoMemory };
-
-    fn from(_: AllocFailed<T>) -> WordsFault {
         WordsFault::NoMemory
     }
 }
@@ -95,20 +85,22 @@ pub fn read_words(alloc: Global, words: &[String]) -> Result<Request<'_>, WordsF
     let [command, words @ ..] = words else {
         return Err(WordsFault::Refused);
     };
-    let arguments = read_arguments(alloc, words)?;
-    match request_of(command.as_str(), &arguments) {
+    let matches = read_arguments(alloc, words)?;
+    let words = values_of(&matches, WORD);
+    let loads = values_of(&matches, LOAD);
+    match request_of(command.as_str(), words, loads) {
         Some(request) => Ok(request),
         None => Err(WordsFault::Refused),
     }
 }
 
 // What the command makes of the words behind it.
-fn request_of<'a>(command: &str, arguments: &Arguments<'a>) -> Option<Request<'a>>
-    ensures { option_map plain_request result ≡ request_of command.now arguments.now }
+fn request_of<'a>(command: &str, words: &[&'a str], loads: &[&'a str]) -> Option<Request<'a>>
+    ensures { option_map plain_request result ≡ request_of command.now (record { words = map now_of words.now; loads = map now_of loads.now }) }
 {
     match command {
-        "run" => run_of(arguments.words(), arguments.loads()),
-        "gen" => gen_of(arguments.words(), arguments.loads()),
+        "run" => run_of(words, loads),
+        "gen" => gen_of(words, loads),
         _ => None,
     }
 }

@@ -1,32 +1,12 @@
-//! Tests of the parts: what no clause of theirs says.
+//! Tests of the parts that need a runtime: mailboxes between threads, and files of the system. What the other parts answer stands
+//! as rows of `worked_answers` and `worked_trees`.
 #![tactic(auto)]
 
 #[cfg(test)]
-mod base;
-#[cfg(test)]
-mod change;
-#[cfg(test)]
-mod core_;
-#[cfg(test)]
-mod dice;
-#[cfg(test)]
-mod event;
-#[cfg(test)]
-mod expr;
-#[cfg(test)]
-mod expr_written;
-#[cfg(test)]
-mod insert;
-mod io;
+mod files;
 #[cfg(test)]
 mod mail;
 #[cfg(test)]
-mod match_;
+mod words;
 #[cfg(test)]
-mod model;
-#[cfg(test)]
-mod plain_walk;
-#[cfg(test)]
-mod score;
-#[cfg(test)]
-mod shape;
+mod workload;

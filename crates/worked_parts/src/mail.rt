@@ -1,68 +1,45 @@
 //! Mailboxes: letters in order, a full mailbox, and passes that move into threads and back. `Seat` and `Hub` show how
-//! what carries passes is named.
+//! what carries passes is named. `None` and `false` are answers that no test wants.
 
-ghost use Rattle.std.specs.Prelude.{◌≡◌, length, map, IfOk};
+ghost use Rattle.std.specs.Prelude.{◌≡◌, length, map, IfSome};
 ghost use Rattle.std.specs.List.{range_with_len};
 ghost use Rattle.be_model.specs.Letters.{plain_letter};
 ghost use Rattle.be_mail.specs.Letters.{IsFit};
 ghost use Rattle.be_mail.specs.Passes.{new_passes};
 
-use be_base::{AttrNo, Id, Name, NoMemory, SessionNo};
+use be_base::{Id, Name, NoMemory, SessionNo};
+use be_event::{read_event, read_schema};
+use be_expr::read_expr;
 use be_mail::{BoxNames, Mail, MailPasses, Post, make_mail};
-use be_model::{Conj, Domain, Event, EventText, Letter, Op, Pred, Row, Schema, Values};
+use be_model::{Conj, Event, EventText, Letter, Row, Schema};
 use std::alloc::Global;
 use std::marker::{Brand, PhantomData};
-use std::process::Abort;
 use std::sync::{Arc, Wait};
-use std::test::Fail;
 use std::thread;
 use std::thread::Threads;
 
-// Why a test ends early.
-#[derive(Clone, Copy, Debug, PartialEq, Eq)]
-enum Refusal {
-    NoMemory,
-    // The event doesn't lie in the schema, or doesn't satisfy the row.
-    Unfit,
-    Full,
+fn schema_of_price(alloc: Global) -> Option<Schema> {
+    read_schema(alloc, b"int price 0 1000").ok()
 }
 
-impl From<NoMemory> for Refusal {
-    fn from(_: NoMemory) -> Refusal {
-        Refusal::NoMemory
-    }
+// A condition, and an event that satisfies it.
+fn condition_and_event(alloc: Global, schema: &Schema) -> Option<(Conj, Event)> {
+    let conj = read_expr(alloc, schema, b"price < 10").ok()?;
+    let event = read_event(alloc, schema, b"price=7").ok()?;
+    Some((conj, event))
 }
 
-// The schema `int price 0 1000`.
-fn schema_of_price(alloc: Global) -> Result<Schema, Refusal> {
-    let mut schema = Schema::make(alloc);
-    let name = Name::read(b"price").map_err(|_| Refusal::Unfit)?;
-    let domain = Domain::Int { lo: 0, hi: 1000 };
-    if !schema.accepts(&name, &domain) {
-        return Err(Refusal::Unfit);
-    }
-    schema.push((name, domain))?;
-    Ok(schema)
-}
-
-// The event `price=7`, found by the row `price < 10` of session `to`.
-fn letter(alloc: Global, schema: &Schema, to: u64, id: u64, n: u64) -> Result<Letter, Refusal>
-    ensures to { IfOk result (λ l. l.session.0 ≡ to) }
-    ensures n { IfOk result (λ l. l.n ≡ n) }
-    ensures fit { IfOk result (λ l. IsFit schema.now (plain_letter l)) }
+// The event, found by a row of session `to`.
+fn letter(alloc: Global, schema: &Schema, to: u64, id: u64, n: u64) -> Option<Letter>
+    ensures to { IfSome result (λ l. l.session.0 ≡ to) }
+    ensures n { IfSome result (λ l. l.n ≡ n) }
+    ensures fit { IfSome result (λ l. IsFit schema.now (plain_letter l)) }
 {
-    let attr = AttrNo(0);
     let session = SessionNo(to);
-    let name = Name::read(b"low").map_err(|_| Refusal::Unfit)?;
-    let mut conj = Conj::make(alloc);
-    conj.push(Pred {
-        attr,
-        op: Op::Lt(10),
-    })?;
-    let mut event = Event::make(alloc);
-    event.push((attr, Values::one(alloc, 7)?))?;
+    let name = Name::read(b"low").ok()?;
+    let (conj, event) = condition_and_event(alloc, schema)?;
     if to == 0 || !event.lies(schema) || !conj.satisfied_by(&event) {
-        return Err(Refusal::Unfit);
+        return None;
     }
     let row = Row {
         id: Id(id),
@@ -70,9 +47,9 @@ fn letter(alloc: Global, schema: &Schema, to: u64, id: u64, n: u64) -> Result<Le
         name,
         conj,
     };
-    let row = Arc::new(alloc, row).map_err(|_| Refusal::NoMemory)?;
-    let text = Arc::new(alloc, EventText { event }).map_err(|_| Refusal::NoMemory)?;
-    Ok(Letter {
+    let row = Arc::new(alloc, row).ok()?;
+    let text = Arc::new(alloc, EventText { event }).ok()?;
+    Some(Letter {
         session,
         n,
         row,
@@ -131,17 +108,17 @@ fn put_all<S: Post, N: BoxNames, R: Wait>(
     hub: &Hub<S, N>,
     mut seat: Seat<N>,
     sender: u64,
-) -> Result<Seat<N>, Refusal>
+) -> Option<Seat<N>>
     requires named { (S.schema ≡ schema.now) × (S.seats ≡ 3) }
-    ensures { IfOk result (λ s. s.passes.seat ≡ seat.passes.seat) }
+    ensures { IfSome result (λ s. s.passes.seat ≡ seat.passes.seat) }
 {
     for n in 0..EACH {
         let next = letter(alloc, schema, 3, sender, n)?;
         if hub.mail.put(rt, &mut seat.passes, 2, next).is_err() {
-            return Err(Refusal::Full);
+            return None;
         }
     }
-    Ok(seat)
+    Some(seat)
 }
 
 // Takes the letters of both senders, and says whether those of each came in order.
@@ -171,13 +148,13 @@ fn take_all<S: Post, N: BoxNames, R: Wait>(
 }
 
 // Two threads put, and one of them takes what both put; the passes come back and account for every letter.
-fn exchanged<S: Post + Send + Sync, N: BoxNames + Send + Sync, R: Threads + Wait + Abort + Sync>(
+fn exchanged<S: Post + Send + Sync, N: BoxNames + Send + Sync, R: Threads + Wait + Sync>(
     rt: &R,
     alloc: Global,
     schema: &Schema,
     mail: Mail<S>,
     passes: Vec<MailPasses>,
-) -> Result<(), Fail>
+) -> Option<bool>
     requires rule { (S.schema ≡ schema.now) × (S.seats ≡ 3) }
     requires named { mail ≡ N.boxes }
     requires seats { (length mail ≡ 3) × (passes.items ≡ map (new_passes mail) (range_with_len 0 3)) }
@@ -185,32 +162,22 @@ fn exchanged<S: Post + Send + Sync, N: BoxNames + Send + Sync, R: Threads + Wait
     let hub = Hub::<S, N>::new(mail);
     let hub = &hub;
     let mut passes = passes.into_iter();
-    let Some(a) = passes.next() else {
-        return Ok(());
-    };
-    let Some(b) = passes.next() else {
-        return Ok(());
-    };
-    let Some(c) = passes.next() else {
-        return Ok(());
-    };
-    let a = Seat::<N>::new(a);
-    let b = Seat::<N>::new(b);
-    let c = Seat::<N>::new(c);
+    let a = Seat::<N>::new(passes.next()?);
+    let b = Seat::<N>::new(passes.next()?);
+    let c = Seat::<N>::new(passes.next()?);
     let (a, (b, (c, in_order))) = thread::join(
         rt,
         move ||
             requires { (S.schema ≡ schema.now) × (S.seats ≡ 3) }
-            ensures { IfOk result (λ s. s.passes.seat ≡ a.passes.seat) }
+            ensures { IfSome result (λ s. s.passes.seat ≡ a.passes.seat) }
         { put_all(rt, alloc, schema, hub, a, 0) },
         move ||
             requires { (S.schema ≡ schema.now) × (S.seats ≡ 3) }
-            ensures { IfOk result.0 (λ s. s.passes.seat ≡ b.passes.seat) × (result.1.0.passes.seat ≡ c.passes.seat) }
+            ensures { IfSome result.0 (λ s. s.passes.seat ≡ b.passes.seat) × (result.1.0.passes.seat ≡ c.passes.seat) }
         { (put_all(rt, alloc, schema, hub, b, 1), take_all(rt, hub, c)) },
     );
-    assert!(rt; in_order);
-    close(alloc, hub, a?, b?, c)?;
-    Ok(())
+    close(alloc, hub, a?, b?, c).ok()?;
+    Some(in_order)
 }
 
 // Joins the passes of three seats, the last first.
@@ -232,99 +199,100 @@ fn close<S: Post, N: BoxNames>(
     Ok(())
 }
 
-#[test]
-fn letters_of_two_threads_come_to_one(rt: HostRuntime) -> Result<(), Fail> {
-    let alloc = rt.alloc();
-    let schema = schema_of_price(alloc)?;
-    with_three_seats::<Brand, _>(&rt, alloc, &schema)
-}
-
 // Makes the mail of three seats.
-fn with_three_seats<S: Post + Send + Sync, R: Threads + Wait + Abort + Sync>(
+fn with_three_seats<S: Post + Send + Sync, R: Threads + Wait + Sync>(
     rt: &R,
     alloc: Global,
     schema: &Schema,
-) -> Result<(), Fail>
+) -> Option<bool>
     requires { (S.schema ≡ schema.now) × (S.seats ≡ 3) }
 {
-    let (mail, passes) = make_mail::<S>(alloc, 3)?;
+    let (mail, passes) = make_mail::<S>(alloc, 3).ok()?;
     exchanged::<S, Brand, _>(rt, alloc, schema, mail, passes)
 }
 
-// Two letters come out in the order in which they were put, and then none.
-fn two_in_order<S: Post, R: Wait + Abort>(
+#[test]
+fn letters_of_two_threads_come_to_one(rt: HostRuntime) {
+    let alloc = rt.alloc();
+    let schema = schema_of_price(alloc).expect(&rt, "a schema");
+    let in_order = with_three_seats::<Brand, _>(&rt, alloc, &schema);
+    assert!(rt; in_order == Some(true));
+}
+
+/// What came of so many puts, and then so many fetches, of one seat.
+#[derive(Drop, PartialEq, Eq)]
+struct Outcome {
+    put: u64,
+    // The number of the last letter that was given back.
+    back: u64,
+    // How many came in order.
+    came: u64,
+    fulls: u64,
+    empties: u64,
+}
+
+// Puts letters with the numbers 0, 1 and so on, and then fetches.
+fn passed<S: Post, R: Wait>(
     rt: &R,
     alloc: Global,
     schema: &Schema,
-) -> Result<(), Fail>
+    puts: u64,
+    fetches: u64,
+) -> Option<Outcome>
     requires { (S.schema ≡ schema.now) × (S.seats ≡ 1) }
 {
-    let (mail, mut passes) = make_mail::<S>(alloc, 1)?;
-    let Some(mut mine) = passes.pop() else {
-        return Ok(());
-    };
-    assert!(rt;
-        mail.put(rt, &mut mine, 0, letter(alloc, schema, 1, 0, 5)?)
-            .is_ok()
-    );
-    assert!(rt;
-        mail.put(rt, &mut mine, 0, letter(alloc, schema, 1, 0, 6)?)
-            .is_ok()
-    );
-    for n in 5..7 {
-        match mail.fetch(rt, &mut mine) {
-            Some(letter) => assert_eq!(rt; letter.n, n),
-            None => assert!(rt; false),
+    let (mail, mut passes) = make_mail::<S>(alloc, 1).ok()?;
+    let mut mine = passes.pop()?;
+    let (mut put, mut back, mut came) = (0u64, 0u64, 0u64);
+    for n in 0..puts {
+        match mail.put(rt, &mut mine, 0, letter(alloc, schema, 1, 0, n)?) {
+            Ok(()) => put = put.saturating_add(1),
+            Err(letter) => back = letter.n,
         }
     }
-    assert!(rt; mail.fetch(rt, &mut mine).is_none());
-    assert_eq!(rt; (mine.fulls(), mine.empties()), (0, 1));
-    Ok(())
+    for _ in 0..fetches {
+        if let Some(letter) = mail.fetch(rt, &mut mine) {
+            if letter.n == came {
+                came = came.saturating_add(1);
+            }
+        }
+    }
+    Some(Outcome {
+        put,
+        back,
+        came,
+        fulls: mine.fulls(),
+        empties: mine.empties(),
+    })
 }
 
 #[test]
-fn two_letters_come_in_order(rt: HostRuntime) -> Result<(), Fail> {
+fn two_letters_come_in_order(rt: HostRuntime) {
     let alloc = rt.alloc();
-    let schema = schema_of_price(alloc)?;
-    two_in_order::<Brand, _>(&rt, alloc, &schema)
-}
-
-// A mailbox takes 1024 letters, and gives the next one back.
-fn one_too_many<S: Post, R: Wait + Abort>(
-    rt: &R,
-    alloc: Global,
-    schema: &Schema,
-) -> Result<(), Fail>
-    requires { (S.schema ≡ schema.now) × (S.seats ≡ 1) }
-{
-    let (mail, mut passes) = make_mail::<S>(alloc, 1)?;
-    let Some(mut mine) = passes.pop() else {
-        return Ok(());
+    let schema = schema_of_price(alloc).expect(&rt, "a schema");
+    let found = passed::<Brand, _>(&rt, alloc, &schema, 2, 3);
+    let want = Outcome {
+        put: 2,
+        back: 0,
+        came: 2,
+        fulls: 0,
+        empties: 1,
     };
-    for n in 0..1024 {
-        assert!(rt;
-            mail.put(rt, &mut mine, 0, letter(alloc, schema, 1, 0, n)?)
-                .is_ok()
-        );
-    }
-    match mail.put(rt, &mut mine, 0, letter(alloc, schema, 1, 0, 9999)?) {
-        Ok(()) => assert!(rt; false),
-        Err(back) => assert_eq!(rt; back.n, 9999),
-    }
-    for n in 0..1024 {
-        match mail.fetch(rt, &mut mine) {
-            Some(letter) => assert_eq!(rt; letter.n, n),
-            None => assert!(rt; false),
-        }
-    }
-    assert!(rt; mail.fetch(rt, &mut mine).is_none());
-    assert_eq!(rt; (mine.fulls(), mine.empties()), (1, 1));
-    Ok(())
+    assert!(rt; found == Some(want));
 }
 
+// A mailbox takes 1024 letters.
 #[test]
-fn a_full_mailbox_gives_the_letter_back(rt: HostRuntime) -> Result<(), Fail> {
+fn a_full_mailbox_gives_the_letter_back(rt: HostRuntime) {
     let alloc = rt.alloc();
-    let schema = schema_of_price(alloc)?;
-    one_too_many::<Brand, _>(&rt, alloc, &schema)
+    let schema = schema_of_price(alloc).expect(&rt, "a schema");
+    let found = passed::<Brand, _>(&rt, alloc, &schema, 1025, 1025);
+    let want = Outcome {
+        put: 1024,
+        back: 1024,
+        came: 1024,
+        fulls: 1,
+        empties: 1,
+    };
+    assert!(rt; found == Some(want));
 }

@@ -5,7 +5,8 @@ ghost use Rattle.std.specs.Prelude.{◌<◌};
 use crate::setting::{RUN, Ran, SCHEMA, Setting, run};
 use be_server::Status;
 use std::alloc::Global;
-use std::test::Fail;
+use std::sync::Wait;
+use std::thread::Threads;
 
 // Lines with their replies. The last line may have no LF.
 struct Script {
@@ -44,40 +45,40 @@ const SCRIPTS: &[Script] = &[
     },
 ];
 
-fn text_of(alloc: Global, script: &Script) -> Result<Vec<u8>, Fail> {
+fn text_of(alloc: Global, script: &Script) -> Option<Vec<u8>> {
     let mut text = Vec::new(alloc);
     for (line, _) in script.lines {
-        text.extend_from_slice(line.as_bytes())?;
-        text.push(b'\n')?;
+        text.extend_from_slice(line.as_bytes()).ok()?;
+        text.push(b'\n').ok()?;
     }
     if !script.has_last_lf {
         let _ = text.pop();
     }
-    Ok(text)
+    Some(text)
 }
 
 // The end of each line, its LF included where it has one, with its reply. What lies behind the last byte
 // ends nowhere.
-fn ends(alloc: Global, script: &Script) -> Result<Vec<(usize, &'static str)>, Fail> {
+fn ends(alloc: Global, script: &Script) -> Option<Vec<(usize, &'static str)>> {
     let mut ends = Vec::new(alloc);
     let mut end = 0usize;
     for (line, reply) in script.lines {
         end = end.saturating_add(line.len()).saturating_add(1);
-        ends.push((end, *reply))?;
+        ends.push((end, *reply)).ok()?;
     }
-    Ok(ends)
+    Some(ends)
 }
 
 // The replies to the lines that are whole within so many bytes.
-fn replies_within(alloc: Global, script: &Script, given: usize) -> Result<String, Fail> {
+fn replies_within(alloc: Global, script: &Script, given: usize) -> Option<String> {
     let mut replies = String::new(alloc);
     for (end, reply) in ends(alloc, script)? {
         if end <= given {
-            replies.push_str(reply)?;
-            replies.push_str("\n")?;
+            replies.push_str(reply).ok()?;
+            replies.push_str("\n").ok()?;
         }
     }
-    Ok(replies)
+    Some(replies)
 }
 
 // What a run is to end with, and to leave.
@@ -95,18 +96,18 @@ fn wanted_of_read(
     len: usize,
     piece: usize,
     failing: usize,
-) -> Result<Wanted, Fail>
+) -> Option<Wanted>
     requires { 0 < piece }
 {
     let given = len.min(failing.saturating_sub(1).saturating_mul(piece));
     if failing <= len.div_ceil(piece).saturating_add(1) {
-        return Ok(Wanted {
+        return Some(Wanted {
             status: Status::ReadFault,
             out: replies_within(alloc, script, given)?,
             left: len.saturating_sub(given),
         });
     }
-    Ok(Wanted {
+    Some(Wanted {
         status: Status::Done,
         out: replies_within(alloc, script, usize::MAX)?,
         left: 0,
@@ -120,7 +121,7 @@ fn wanted_of_write(
     len: usize,
     piece: usize,
     failing: usize,
-) -> Result<Wanted, Fail>
+) -> Option<Wanted>
     requires { 0 < piece }
 {
     let mut out = String::new(alloc);
@@ -129,16 +130,16 @@ fn wanted_of_write(
         count = count.saturating_add(1);
         if count == failing {
             let given = end.div_ceil(piece).saturating_mul(piece);
-            return Ok(Wanted {
+            return Some(Wanted {
                 status: Status::WriteFault,
                 out,
                 left: len.saturating_sub(given),
             });
         }
-        out.push_str(reply)?;
-        out.push_str("\n")?;
+        out.push_str(reply).ok()?;
+        out.push_str("\n").ok()?;
     }
-    Ok(Wanted {
+    Some(Wanted {
         status: Status::Done,
         out,
         left: 0,
@@ -165,27 +166,49 @@ fn is_as_wanted(ran: &Ran, want: &Wanted) -> bool {
         && ran.left == want.left as u64
 }
 
+// Whether a run in which this read fails is as it should be.
+fn read_fails<R: Threads + Wait + Sync>(
+    rt: &R,
+    alloc: Global,
+    script: &Script,
+    piece: usize,
+    failing: usize,
+) -> Option<bool>
+    requires { 0 < piece }
+{
+    let text = text_of(alloc, script)?;
+    let want = wanted_of_read(alloc, script, text.len(), piece, failing)?;
+    let ran = run(rt, alloc, &over(&text, piece, failing, 0))?;
+    Some(is_as_wanted(&ran, &want))
+}
+
+// The same of a write.
+fn write_fails<R: Threads + Wait + Sync>(
+    rt: &R,
+    alloc: Global,
+    script: &Script,
+    piece: usize,
+    failing: usize,
+) -> Option<bool>
+    requires { 0 < piece }
+{
+    let text = text_of(alloc, script)?;
+    let want = wanted_of_write(alloc, script, text.len(), piece, failing)?;
+    let ran = run(rt, alloc, &over(&text, piece, 0, failing))?;
+    Some(is_as_wanted(&ran, &want))
+}
+
 #[test]
-fn reads_and_writes_fail(rt: HostRuntime) -> Result<(), Fail> {
+fn reads_and_writes_fail(rt: HostRuntime) {
     let alloc = rt.alloc();
     for script in SCRIPTS {
-        let text = text_of(alloc, script)?;
         for piece in [1usize, 7, 18] {
             for failing in 1..7usize {
-                let want = wanted_of_read(alloc, script, text.len(), piece, failing)?;
-                let ran = run(&rt, alloc, &over(&text, piece, failing, 0))?;
-                assert!(rt;
-                    is_as_wanted(&ran, &want),
-                    "read {failing} in pieces of {piece}"
-                );
-                let want = wanted_of_write(alloc, script, text.len(), piece, failing)?;
-                let ran = run(&rt, alloc, &over(&text, piece, 0, failing))?;
-                assert!(rt;
-                    is_as_wanted(&ran, &want),
-                    "write {failing} in pieces of {piece}"
-                );
+                let read = read_fails(&rt, alloc, script, piece, failing);
+                let write = write_fails(&rt, alloc, script, piece, failing);
+                let fail = read == Some(true) && write == Some(true);
+                assert!(rt; fail, "call {failing} in pieces of {piece}");
             }
         }
     }
-    Ok(())
 }

@@ -10,7 +10,6 @@ use be_io::{MemSink, MemSource, Sink, SinkFault};
 use be_model::Change;
 use be_server::{Session, SessionEnd};
 use std::alloc::Global;
-use std::test::Fail;
 
 const SCRIPT: &[u8] = b"SUB a price >= 10\nPUB price=10\nPUB price=9\n";
 
@@ -35,20 +34,32 @@ impl Sink for Full {
     }
 }
 
-// A session over this script, with a read and a write that fail, where the first call has the number 1.
-fn serve(
+// A session over this script, with a read that fails, where the first has the number 1. Whether it ends so, and leaves the list
+// that it should.
+fn leaves<S: Sink>(
     alloc: Global,
     script: &[u8],
     failing_read: u64,
-    failing_write: u64,
-) -> Result<(Session, SessionEnd), Fail> {
-    let schema = read_schema(alloc, SCHEMA)?;
-    let script = Vec::from_slice(alloc, script)?;
-    let mut input = MemSource::make(script, 18, vec![in alloc; failing_read]?);
-    let mut out = MemSink::make(alloc, vec![in alloc; failing_write]?);
+    out: &mut S,
+    wanted: SessionEnd,
+) -> Option<bool> {
+    let schema = read_schema(alloc, SCHEMA).ok()?;
+    let script = Vec::from_slice(alloc, script).ok()?;
+    let mut input = MemSource::make(script, 18, vec![in alloc; failing_read].ok()?);
     let mut session = Session::make(alloc);
-    let end = session.serve(alloc, &schema, &mut input, &mut out);
-    Ok((session, end))
+    let end = session.serve(alloc, &schema, &mut input, out);
+    Some(end == wanted && is_left(session.subscriptions.changes()))
+}
+
+fn leaves_at(
+    alloc: Global,
+    script: &[u8],
+    failing: (u64, u64),
+    wanted: SessionEnd,
+) -> Option<bool> {
+    let (failing_read, failing_write) = failing;
+    let mut out = MemSink::make(alloc, vec![in alloc; failing_write].ok()?);
+    leaves(alloc, script, failing_read, &mut out, wanted)
 }
 
 // Whether the list is a subscription and the session's Bye.
@@ -67,34 +78,28 @@ fn is_left(log: &ChangeLog) -> bool {
     is_sub && is_bye
 }
 
+// Scripts, with a read and a write that fail, and how the session ends.
+const ENDS: &[(&[u8], (u64, u64), SessionEnd)] = &[
+    (SCRIPT, (0, 0), SessionEnd::Eof),
+    (SCRIPT, (2, 0), SessionEnd::ReadFault),
+    (SCRIPT, (0, 1), SessionEnd::WriteFault),
+    (SCRIPT, (0, 2), SessionEnd::WriteFault),
+    (SCRIPT_WITH_QUIT, (0, 0), SessionEnd::Quit),
+    (SCRIPT_WITH_QUIT, (0, 2), SessionEnd::WriteFault),
+];
+
 #[test]
-fn the_bye_stands_last(rt: HostRuntime) -> Result<(), Fail> {
+fn the_bye_stands_last(rt: HostRuntime) {
     let alloc = rt.alloc();
-    for (script, failing_read, failing_write, wanted) in [
-        (SCRIPT, 0, 0, SessionEnd::Eof),
-        (SCRIPT, 2, 0, SessionEnd::ReadFault),
-        (SCRIPT, 0, 1, SessionEnd::WriteFault),
-        (SCRIPT, 0, 2, SessionEnd::WriteFault),
-        (SCRIPT_WITH_QUIT, 0, 0, SessionEnd::Quit),
-        (SCRIPT_WITH_QUIT, 0, 2, SessionEnd::WriteFault),
-    ] {
-        let (session, end) = serve(alloc, script, failing_read, failing_write)?;
-        assert!(rt; end == wanted, "{end:?} in place of {wanted:?}");
-        assert!(rt; is_left(session.subscriptions.changes()), "after {end:?}");
+    for (script, failing, wanted) in ENDS {
+        let leaves = leaves_at(alloc, script, *failing, *wanted);
+        assert!(rt; leaves == Some(true), "after {wanted:?}");
     }
-    Ok(())
 }
 
 #[test]
-fn the_bye_stands_where_the_output_is_full(rt: HostRuntime) -> Result<(), Fail> {
-    let alloc = rt.alloc();
-    let schema = read_schema(alloc, SCHEMA)?;
-    let script = Vec::from_slice(alloc, SCRIPT)?;
-    let mut input = MemSource::make(script, 18, Vec::new(alloc));
+fn the_bye_stands_where_the_output_is_full(rt: HostRuntime) {
     let mut out = Full { refusals: 0 };
-    let mut session = Session::make(alloc);
-    let end = session.serve(alloc, &schema, &mut input, &mut out);
-    assert!(rt; end == SessionEnd::NoMemory && out.refusals == 1);
-    assert!(rt; is_left(session.subscriptions.changes()));
-    Ok(())
+    let leaves = leaves(rt.alloc(), SCRIPT, 0, &mut out, SessionEnd::NoMemory);
+    assert!(rt; leaves == Some(true) && out.refusals == 1);
 }

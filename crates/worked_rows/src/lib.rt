@@ -8,8 +8,6 @@ mod left;
 #[cfg(test)]
 mod limits;
 #[cfg(test)]
-mod memory;
-#[cfg(test)]
 mod refusals;
 #[cfg(test)]
 mod rows;

@@ -1,9 +1,11 @@
 //! Lines about a limit.
 
-use crate::setting::{plain, run};
-use be_server::Status;
+ghost use Rattle.std.specs.Prelude.{◌<◌};
+
+use crate::setting::{answers, plain};
 use std::alloc::Global;
-use std::test::Fail;
+use std::sync::Wait;
+use std::thread::Threads;
 
 // A line of some bytes before its end, which is padded by one byte to a length.
 struct Padded {
@@ -136,35 +138,50 @@ const PADDED: &[Padded] = &[
     },
 ];
 
-fn line_of(alloc: Global, line: &Padded) -> Result<Vec<u8>, Fail> {
+fn line_of(alloc: Global, line: &Padded) -> Option<Vec<u8>> {
     let pad = line.len.saturating_sub(line.before.len());
-    let mut text = Vec::from_slice(alloc, line.before.as_bytes())?;
-    text.extend_from_slice(&vec![in alloc; line.pad; pad]?)?;
-    text.extend_from_slice(line.after.as_bytes())?;
-    Ok(text)
+    let mut text = Vec::from_slice(alloc, line.before.as_bytes()).ok()?;
+    text.extend_from_slice(&vec![in alloc; line.pad; pad].ok()?)
+        .ok()?;
+    text.extend_from_slice(line.after.as_bytes()).ok()?;
+    Some(text)
+}
+
+// The line behind a subscription, and an event after it.
+fn script_of(alloc: Global, line: &Padded) -> Option<Vec<u8>> {
+    let mut script = Vec::from_slice(alloc, b"SUB a price >= 0\n").ok()?;
+    script.extend_from_slice(&line_of(alloc, line)?).ok()?;
+    script.extend_from_slice(b"\nPUB qty=1\n").ok()?;
+    Some(script)
+}
+
+fn is_answered<R: Threads + Wait + Sync>(
+    rt: &R,
+    alloc: Global,
+    line: &Padded,
+    piece: usize,
+) -> Option<bool>
+    requires { 0 < piece }
+{
+    let script = script_of(alloc, line)?;
+    let count = if line.answer == "OK 2" { 2 } else { 1 };
+    let want = format!(in alloc; "OK 1\n{}\nHIT {count} 0\n", line.answer).ok()?;
+    Some(answers(rt, alloc, &plain(&script, piece), want.as_bytes()))
 }
 
 #[test]
-fn lines_about_a_limit(rt: HostRuntime) -> Result<(), Fail> {
+fn lines_about_a_limit(rt: HostRuntime) {
     let alloc = rt.alloc();
     for line in PADDED {
         for piece in [4096, 65535, 65536, 65537, 1_000_000usize] {
-            let mut script = Vec::from_slice(alloc, b"SUB a price >= 0\n")?;
-            script.extend_from_slice(&line_of(alloc, line)?)?;
-            script.extend_from_slice(b"\nPUB qty=1\n")?;
-            let ran = run(&rt, alloc, &plain(&script, piece))?;
-            let count = if line.answer == "OK 2" { 2 } else { 1 };
-            let want = format!(in alloc; "OK 1\n{}\nHIT {count} 0\n", line.answer)?;
-            assert_eq!(rt;
-                str::from_utf8(&ran.out)?,
-                want.as_str(),
-                "in pieces of {piece}: {} bytes",
+            let is_answered = is_answered(&rt, alloc, line, piece);
+            assert!(rt;
+                is_answered == Some(true),
+                "{} bytes in pieces of {piece}",
                 line.len
             );
-            assert!(rt; ran.status == Status::Done && ran.left == 0);
         }
     }
-    Ok(())
 }
 
 // A part that stands some number of times between a beginning and an end, with the reply to the line.
@@ -293,24 +310,27 @@ const REPEATED: &[Repeated] = &[
     },
 ];
 
-fn text_of(alloc: Global, line: &Repeated) -> Result<Vec<u8>, Fail> {
-    let mut text = Vec::from_slice(alloc, line.before.as_bytes())?;
-    text.extend_from_slice(line.first.as_bytes())?;
+fn text_of(alloc: Global, line: &Repeated) -> Option<Vec<u8>> {
+    let mut text = Vec::from_slice(alloc, line.before.as_bytes()).ok()?;
+    text.extend_from_slice(line.first.as_bytes()).ok()?;
     for _ in 1..line.times {
-        text.extend_from_slice(line.more.as_bytes())?;
+        text.extend_from_slice(line.more.as_bytes()).ok()?;
     }
-    text.extend_from_slice(line.after.as_bytes())?;
-    Ok(text)
+    text.extend_from_slice(line.after.as_bytes()).ok()?;
+    Some(text)
+}
+
+fn are_counted<R: Threads + Wait + Sync>(rt: &R, alloc: Global, line: &Repeated) -> Option<bool> {
+    let script = text_of(alloc, line)?;
+    let want = format!(in alloc; "{}\n", line.answer).ok()?;
+    Some(answers(rt, alloc, &plain(&script, 65536), want.as_bytes()))
 }
 
 #[test]
-fn predicates_and_values_about_their_limits(rt: HostRuntime) -> Result<(), Fail> {
+fn predicates_and_values_about_their_limits(rt: HostRuntime) {
     let alloc = rt.alloc();
     for line in REPEATED {
-        let script = text_of(alloc, line)?;
-        let ran = run(&rt, alloc, &plain(&script, 65536))?;
-        let want = format!(in alloc; "{}\n", line.answer)?;
-        assert_eq!(rt; str::from_utf8(&ran.out)?, want.as_str());
+        let are_counted = are_counted(&rt, alloc, line);
+        assert!(rt; are_counted == Some(true), "{}", line.answer);
     }
-    Ok(())
 }

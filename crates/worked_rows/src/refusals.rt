@@ -1,15 +1,13 @@
 //! What is refused before the first line, and the codes and texts of statuses.
 
-use crate::setting::{RUN, Ran, SCHEMA, Setting, run};
+use crate::setting::{RUN, Ran, SCHEMA, Setting, answers, run};
 use be_event::SchemaKind;
 use be_server::Status;
-use std::test::Fail;
+use std::alloc::Global;
+use std::sync::Wait;
+use std::thread::Threads;
 
 const SCRIPT: &[u8] = b"SUB a price >= 10\nPUB price=10\nPUB price=9\n";
-
-fn form_at(line: u64) -> Status {
-    faulty(line, SchemaKind::Form)
-}
 
 fn faulty(line: u64, kind: SchemaKind) -> Status {
     Status::SchemaBad { line, kind }
@@ -72,18 +70,28 @@ const NOT_SERVED: &[&[&str]] = &[
     &["gen", "7", "0", "0"],
 ];
 
+// Whether the run ends so, untouched, and whether the next ask for the file is refused.
+fn ends<R: Threads + Wait + Sync>(
+    rt: &R,
+    alloc: Global,
+    setting: &Setting,
+    status: Status,
+) -> Option<bool> {
+    let ran = run(rt, alloc, setting)?;
+    if ran.status != status || !is_untouched(&ran) {
+        return None;
+    }
+    Some(ran.is_next_ask_refused)
+}
+
+// No file is asked for.
 #[test]
-fn words_without_a_reading(rt: HostRuntime) -> Result<(), Fail> {
+fn words_without_a_reading(rt: HostRuntime) {
     let alloc = rt.alloc();
     for words in WITHOUT_READING.iter().chain(NOT_SERVED) {
-        let ran = run(&rt, alloc, &refused(words, SCHEMA, 1))?;
-        assert!(rt; ran.status == Status::Words, "{words:?}");
-        assert!(rt;
-            is_untouched(&ran) && ran.is_next_ask_refused,
-            "nothing was asked for"
-        );
+        let ends = ends(&rt, alloc, &refused(words, SCHEMA, 1), Status::Words);
+        assert!(rt; ends == Some(true), "{words:?}");
     }
-    Ok(())
 }
 
 // Schemas with the first line that has a fault, and its first kind.
@@ -123,6 +131,9 @@ const FAULTY: &[(&str, u64, SchemaKind)] = &[
     ),
 ];
 
+// Words that name the file that is there, with a separator.
+const SERVED: &[&[&str]] = &[&["run", "S", "--"], &["run", "--", "S"]];
+
 // Words that name a file that isn't there.
 const MISSING: &[&[&str]] = &[
     &["run", "missing"],
@@ -134,68 +145,15 @@ const MISSING: &[&[&str]] = &[
     &["run", "-", "--"],
 ];
 
-// Words that name the file that is there, with a separator.
-const SERVED: &[&[&str]] = &[&["run", "S", "--"], &["run", "--", "S"]];
-
-#[test]
-fn files_without_a_schema(rt: HostRuntime) -> Result<(), Fail> {
-    let alloc = rt.alloc();
-    for (schema, line, kind) in FAULTY {
-        let ran = run(&rt, alloc, &refused(RUN, schema.as_bytes(), 2))?;
-        assert!(rt; ran.status == faulty(*line, *kind), "{schema:?}");
-        assert!(rt;
-            is_untouched(&ran) && ran.is_next_ask_refused,
-            "one file was asked for"
-        );
-    }
-    for words in SERVED {
-        let ran = run(&rt, alloc, &refused(words, b"", 2))?;
-        assert!(rt; ran.status == Status::Done, "{words:?}");
-    }
-    for words in MISSING {
-        let ran = run(&rt, alloc, &refused(words, SCHEMA, 2))?;
-        assert!(rt; ran.status == Status::ReadFault, "{words:?}");
-        assert!(rt;
-            is_untouched(&ran) && ran.is_next_ask_refused,
-            "one file was asked for"
-        );
-    }
-    let ran = run(&rt, alloc, &refused(RUN, SCHEMA, 1))?;
-    assert!(rt; ran.status == Status::ReadFault && is_untouched(&ran));
-    assert!(rt; !ran.is_next_ask_refused, "the shelf failed once");
-    let ran = run(&rt, alloc, &refused(RUN, b"", 2))?;
-    assert_eq!(rt;
-        str::from_utf8(&ran.out)?,
-        "ATTR price\nATTR price\nATTR price\n",
-        "a schema without attributes"
-    );
-    assert!(rt; ran.status == Status::Done && ran.left == 0);
-    Ok(())
+fn has(alloc: Global, status: Status, code: u8, text: &str) -> Option<bool> {
+    let shown = format!(in alloc; "{status}").ok()?;
+    Some(status.code() == code && shown.as_str() == text)
 }
 
 #[test]
-fn codes_and_texts(rt: HostRuntime) -> Result<(), Fail> {
+fn codes_and_texts(rt: HostRuntime) {
     let alloc = rt.alloc();
-    for (status, code, text) in [
-        (Status::Done, 0, ""),
-        (Status::Words, 2, "words refused"),
-        (form_at(1), 3, "schema line 1: Form"),
-        (
-            faulty(3, SchemaKind::Reserved),
-            3,
-            "schema line 3: Reserved",
-        ),
-        (faulty(4, SchemaKind::Twice), 3, "schema line 4: Twice"),
-        (faulty(5, SchemaKind::Range), 3, "schema line 5: Range"),
-        (faulty(6, SchemaKind::Many), 3, "schema line 6: Many"),
-        (Status::ReadFault, 4, "read fault"),
-        (Status::LongFile, 4, "file over 67108864 bytes"),
-        (Status::WriteFault, 5, "write fault"),
-        (Status::NoMemory, 6, "out of memory"),
-        (Status::Spent, 8, "input over 1099511627776 bytes"),
-    ] {
-        assert_eq!(rt; status.code(), code);
-        assert_eq!(rt; format!(in alloc; "{status}")?.as_str(), text);
+    for (status, code, text) in STATUSES {
+        assert!(rt; has(alloc, *status, *code, text) == Some(true), "{text}");
     }
-    Ok(())
 }

@@ -1,9 +1,12 @@
 //! Sessions that are read to their end.
 
-use crate::setting::{plain, run};
+ghost use Rattle.std.specs.Prelude.{◌<◌};
+
+use crate::setting::{answers, plain, run};
 use be_server::Status;
 use std::alloc::Global;
-use std::test::Fail;
+use std::sync::Wait;
+use std::thread::Threads;
 
 const PIECES: [usize; 4] = [1, 7, 18, 65536];
 
@@ -133,167 +136,192 @@ const SESSIONS: &[(&str, &str)] = &[
 ];
 
 // Lines without a reading.
-const HOSTILE: &[&[u8]] = &[
-    b"",
-    b" ",
-    b"SUB",
-    b"SUB b",
-    b"SUB b price",
-    b"SUB b price >=",
-    b"SUB b price >= 5 5",
-    b"SUB b price >= 5 ,",
-    b"SUB price >= 5",
-    b"SUBb price >= 5",
-    b"SUB bprice >= 5",
-    b"sub b price >= 5",
-    b"Sub b price >= 5",
-    b"XUB b price >= 5",
-    b"b price >= 5",
-    b"SUB = price >= 5",
-    b"SUB { price >= 5",
-    b"SUB b >= price 5",
-    b"SUB b price == 5",
-    b"SUB b price => 5",
-    b"SUB b price =< 5",
-    b"SUB b price <> 5",
-    b"SUB b price > = 5",
-    b"SUB b price ! = 5",
-    b"SUB b price ! 5",
-    b"SUB b price !5",
-    b"SUB b price , 5",
-    b"SUB b price { 5",
-    b"SUB b price is 5",
-    b"SUB b price >= +5",
-    b"SUB b price >= 5 price <= 7",
-    b"SUB b price >= 5\0",
-    b"\0SUB b price >= 5",
-    b"SUB b\0price >= 5",
-    b"\0",
-    b"SUB b price >= 5\xff",
-    b"SUB \xc3\xa9 price >= 5",
-    b"SUB b pric\xe9 >= 5",
-    b"\xff\xfe",
-    b"SUB b price >= 5;",
-    b"SUB b price >= 5 # all",
-    b"# SUB b price >= 5",
-    b"SUB b price >= \"5\"",
-    b"PUB",
-    b"PUB price",
-    b"PUB price=",
-    b"PUB =5",
-    b"PUB price=5,",
-    b"PUB price=5 -",
-    b"PUB price==5",
-    b"PUB price<=5",
-    b"PUB price!=5",
-    b"PUB price 5",
-    b"PUB price={",
-    b"PUB price={}",
-    b"PUB price={5",
-    b"PUB price=5}",
-    b"PUB price={5,}",
-    b"PUB price={,5}",
-    b"PUB price={5 6}",
-    b"PUB price={{5}}",
-    b"PUB price {5}",
-    b"PUB price in {5}",
-    b"PUB price={5}{6}",
-    b"PUB {5}=price",
-    b"PUB {-}",
-    b"PUBprice=5",
-    b"pub price=5",
-    b"SUB b all all",
-    b"SUB b all and price >= 5",
-    b"SUB b price >= 5 and",
-    b"SUB b and price >= 5",
-    b"SUB b price >= 5 and and qty = 0",
-    b"SUB b price >= 5 or qty = 0",
-    b"SUB b all >= 5",
-    b"SUB b in in {5}",
-    b"SUB b price between 1",
-    b"SUB b price between 1 and",
-    b"SUB b price between 1 2",
-    b"SUB b price between 1 , 2",
-    b"SUB b price in",
-    b"SUB b price in 5",
-    b"SUB b price in {}",
-    b"SUB b price in {5",
-    b"SUB b price in 5}",
-    b"SUB b price in {5,}",
-    b"SUB b price in {,5}",
-    b"SUB b price in {5 6}",
-    b"SUB b price in {5,,6}",
-    b"SUB b price in {{5}}",
-    b"SUB b price not {5}",
-    b"SUB b price not 5",
-    b"SUB b price in not {5}",
-    b"SUB b price notin {5}",
-    b"SUB b price >= 5\r\r",
-    b"PUB - -",
-    b"PUB - price=5",
-    b"PUB price=5 qty",
-    b"PUB price=5 qty=",
-    b"PUB all=5",
-    b"PUB in=5",
-    b"PUB price=5, qty=1",
-    b"UNSUB",
-    b"UNSUB a a",
-    b"UNSUB =",
-    b"UNSUB a,",
-    b"UNSUBa",
-    b"unsub a",
-    b"LIST a",
-    b"LIST -",
-    b"LIST,",
-    b"list",
-    b"LISTS",
-    b"QUIT 1",
-    b"QUIT!",
-    b"quit",
-    b"QUITQUIT",
-    b"BYE",
-    b"OK 1",
-    b"COST price=5",
-    b"COST -",
-    b"SEND price=5",
-    b"FETCH 1",
+const HOSTILE: &[&str] = &[
+    "",
+    " ",
+    "SUB",
+    "SUB b",
+    "SUB b price",
+    "SUB b price >=",
+    "SUB b price >= 5 5",
+    "SUB b price >= 5 ,",
+    "SUB price >= 5",
+    "SUBb price >= 5",
+    "SUB bprice >= 5",
+    "sub b price >= 5",
+    "Sub b price >= 5",
+    "XUB b price >= 5",
+    "b price >= 5",
+    "SUB = price >= 5",
+    "SUB { price >= 5",
+    "SUB b >= price 5",
+    "SUB b price == 5",
+    "SUB b price => 5",
+    "SUB b price =< 5",
+    "SUB b price <> 5",
+    "SUB b price > = 5",
+    "SUB b price ! = 5",
+    "SUB b price ! 5",
+    "SUB b price !5",
+    "SUB b price , 5",
+    "SUB b price { 5",
+    "SUB b price is 5",
+    "SUB b price >= +5",
+    "SUB b price >= 5 price <= 7",
+    "SUB b price >= 5\0",
+    "\0SUB b price >= 5",
+    "SUB b\0price >= 5",
+    "\0",
+    "SUB \u{e9} price >= 5",
+    "SUB b price >= 5;",
+    "SUB b price >= 5 # all",
+    "# SUB b price >= 5",
+    "SUB b price >= \"5\"",
+    "PUB",
+    "PUB price",
+    "PUB price=",
+    "PUB =5",
+    "PUB price=5,",
+    "PUB price=5 -",
+    "PUB price==5",
+    "PUB price<=5",
+    "PUB price!=5",
+    "PUB price 5",
+    "PUB price={",
+    "PUB price={}",
+    "PUB price={5",
+    "PUB price=5}",
+    "PUB price={5,}",
+    "PUB price={,5}",
+    "PUB price={5 6}",
+    "PUB price={{5}}",
+    "PUB price {5}",
+    "PUB price in {5}",
+    "PUB price={5}{6}",
+    "PUB {5}=price",
+    "PUB {-}",
+    "PUBprice=5",
+    "pub price=5",
+    "SUB b all all",
+    "SUB b all and price >= 5",
+    "SUB b price >= 5 and",
+    "SUB b and price >= 5",
+    "SUB b price >= 5 and and qty = 0",
+    "SUB b price >= 5 or qty = 0",
+    "SUB b all >= 5",
+    "SUB b in in {5}",
+    "SUB b price between 1",
+    "SUB b price between 1 and",
+    "SUB b price between 1 2",
+    "SUB b price between 1 , 2",
+    "SUB b price in",
+    "SUB b price in 5",
+    "SUB b price in {}",
+    "SUB b price in {5",
+    "SUB b price in 5}",
+    "SUB b price in {5,}",
+    "SUB b price in {,5}",
+    "SUB b price in {5 6}",
+    "SUB b price in {5,,6}",
+    "SUB b price in {{5}}",
+    "SUB b price not {5}",
+    "SUB b price not 5",
+    "SUB b price in not {5}",
+    "SUB b price notin {5}",
+    "SUB b price >= 5\r\r",
+    "PUB - -",
+    "PUB - price=5",
+    "PUB price=5 qty",
+    "PUB price=5 qty=",
+    "PUB all=5",
+    "PUB in=5",
+    "PUB price=5, qty=1",
+    "UNSUB",
+    "UNSUB a a",
+    "UNSUB =",
+    "UNSUB a,",
+    "UNSUBa",
+    "unsub a",
+    "LIST a",
+    "LIST -",
+    "LIST,",
+    "list",
+    "LISTS",
+    "QUIT 1",
+    "QUIT!",
+    "quit",
+    "QUITQUIT",
+    "BYE",
+    "OK 1",
+    "COST price=5",
+    "COST -",
+    "SEND price=5",
+    "FETCH 1",
 ];
 
-#[test]
-fn sessions_read_to_the_end(rt: HostRuntime) -> Result<(), Fail> {
-    let alloc = rt.alloc();
-    for (script, want) in SESSIONS {
-        for piece in PIECES {
-            let ran = run(&rt, alloc, &plain(script.as_bytes(), piece))?;
-            assert_eq!(rt;
-                str::from_utf8(&ran.out)?,
-                *want,
-                "in pieces of {piece}: {script}"
-            );
-            assert!(rt; ran.status == Status::Done);
-            let quits = script.contains("QUIT");
-            assert!(rt; (quits || ran.left == 0) && ran.is_next_ask_refused);
-        }
-    }
-    Ok(())
+// The same, of bytes that are no text.
+const HOSTILE_BYTES: &[&[u8]] = &[b"SUB b price >= 5\xff", b"SUB b pric\xe9 >= 5", b"\xff\xfe"];
+
+// Whether a session has this transcript; after a QUIT the rest stays unread.
+fn is_session<R: Threads + Wait + Sync>(
+    rt: &R,
+    alloc: Global,
+    script: &str,
+    want: &str,
+    piece: usize,
+) -> bool
+    requires { 0 < piece }
+{
+    let Some(ran) = run(rt, alloc, &plain(script.as_bytes(), piece)) else {
+        return false;
+    };
+    let is_read = script.contains("QUIT") || ran.left == 0;
+    ran.status == Status::Done
+        && ran.out.as_slice() == want.as_bytes()
+        && is_read
+        && ran.is_next_ask_refused
 }
 
 #[test]
-fn lines_without_a_reading(rt: HostRuntime) -> Result<(), Fail> {
+fn sessions_read_to_the_end(rt: HostRuntime) {
+    let alloc = rt.alloc();
+    for (script, want) in SESSIONS {
+        for piece in PIECES {
+            let is_session = is_session(&rt, alloc, script, want, piece);
+            assert!(rt; is_session, "in pieces of {piece}: {script}");
+        }
+    }
+}
+
+// The line behind a subscription, and an event after it.
+fn around(alloc: Global, line: &[u8]) -> Option<Vec<u8>> {
+    let mut script = Vec::from_slice(alloc, b"SUB a price >= 0\n").ok()?;
+    script.extend_from_slice(line).ok()?;
+    script.extend_from_slice(b"\nPUB price=5\n").ok()?;
+    Some(script)
+}
+
+fn is_bad<R: Threads + Wait + Sync>(rt: &R, alloc: Global, line: &[u8]) -> bool {
+    match around(alloc, line) {
+        Some(script) => answers(rt, alloc, &plain(&script, 7), b"OK 1\nBAD\nHIT 1 1 a\n"),
+        None => false,
+    }
+}
+
+#[test]
+fn lines_without_a_reading(rt: HostRuntime) {
     let alloc = rt.alloc();
     for line in HOSTILE {
-        let mut script = Vec::from_slice(alloc, b"SUB a price >= 0\n")?;
-        script.extend_from_slice(line)?;
-        script.extend_from_slice(b"\nPUB price=5\n")?;
-        let ran = run(&rt, alloc, &plain(&script, 7))?;
-        assert_eq!(rt;
-            str::from_utf8(&ran.out)?,
-            "OK 1\nBAD\nHIT 1 1 a\n",
-            "after {line:?}"
-        );
-        assert!(rt; ran.status == Status::Done && ran.left == 0);
+        assert!(rt; is_bad(&rt, alloc, line.as_bytes()), "after {line:?}");
     }
-    Ok(())
+}
+
+#[test]
+fn bytes_without_a_reading(rt: HostRuntime) {
+    let alloc = rt.alloc();
+    for line in HOSTILE_BYTES {
+        assert!(rt; is_bad(&rt, alloc, line), "after {line:?}");
+    }
 }
 
 const TRADES: &[u8] =
@@ -306,20 +334,18 @@ const TRADES_REPLIES: &str =
     "OK 1\nOK 2\nOK 3\nHIT 3 2 acme-cheap big-sells\nHIT 3 0\nHIT 3 1 not-ldn\nOK 4\nHIT 4 1 acme-cheap\nBYE 5\n";
 
 #[test]
-fn a_trading_day(rt: HostRuntime) -> Result<(), Fail> {
+fn a_trading_day(rt: HostRuntime) {
     let alloc = rt.alloc();
     for piece in PIECES {
         let mut setting = plain(TRADES_SCRIPT.as_bytes(), piece);
         setting.schema = TRADES;
-        let ran = run(&rt, alloc, &setting)?;
-        assert_eq!(rt;
-            str::from_utf8(&ran.out)?,
-            TRADES_REPLIES,
-            "in pieces of {piece}"
-        );
-        assert!(rt; ran.status == Status::Done);
+        let is_right = match run(&rt, alloc, &setting) {
+            Some(ran) => ran.status == Status::Done
+                && ran.out.as_slice() == TRADES_REPLIES.as_bytes(),
+            None => false,
+        };
+        assert!(rt; is_right, "in pieces of {piece}");
     }
-    Ok(())
 }
 
 const MIXED: &str =
@@ -329,18 +355,28 @@ const MIXED_REPLIES: &str =
     "OK 1\nDUP 1 0\nBAD\nOK 2\nATTR volume\nHIT 2 2 a b\nDOM price\nLIST 2 2 a b\nOK 3\nNONE 3\nTWICE price\nHIT 3 0\nHIT 3 1 b\nBAD\nOK 4\nHIT 4 2 b c\nLIST 4 2 b c\nBAD\nBYE 5\n";
 
 // A first line as long as the script makes each piece that ends within the script the first of two reads.
-#[test]
-fn a_mixed_script_cut_at_every_place(rt: HostRuntime) -> Result<(), Fail> {
-    let alloc = rt.alloc();
-    let mut script = vec![in alloc; b'x'; MIXED.len()]?;
-    script.push(b'\n')?;
-    let first = script.len();
-    script.extend_from_slice(MIXED.as_bytes())?;
-    let want = format!(in alloc; "BAD\n{MIXED_REPLIES}")?;
-    for piece in first..script.len() + 1 {
-        let ran = run(&rt, alloc, &plain(&script, piece))?;
-        assert_eq!(rt; str::from_utf8(&ran.out)?, want.as_str(), "cut at {piece}");
-        assert!(rt; ran.status == Status::Done);
+fn mixed_script(alloc: Global) -> Option<Vec<u8>> {
+    let mut script = vec![in alloc; b'x'; MIXED.len()].ok()?;
+    script.push(b'\n').ok()?;
+    script.extend_from_slice(MIXED.as_bytes()).ok()?;
+    Some(script)
+}
+
+// The first place at which a cut changes something.
+fn wrong_cut<R: Threads + Wait + Sync>(rt: &R, alloc: Global) -> Option<Option<usize>> {
+    let script = mixed_script(alloc)?;
+    let want = format!(in alloc; "BAD\n{MIXED_REPLIES}").ok()?;
+    for piece in MIXED.len() + 1..script.len() + 1 {
+        let ran = run(rt, alloc, &plain(&script, piece))?;
+        if ran.status != Status::Done || ran.out.as_slice() != want.as_bytes() {
+            return Some(Some(piece));
+        }
     }
-    Ok(())
+    Some(None)
+}
+
+#[test]
+fn a_mixed_script_cut_at_every_place(rt: HostRuntime) {
+    let wrong = wrong_cut(&rt, rt.alloc());
+    assert!(rt; wrong == Some(None), "cut at {wrong:?}");
 }

@@ -6,7 +6,6 @@ use be_io::{MemShelf, MemSink, MemSource, NoDoor, NoGate, Pair, Shelf, Source};
 use be_server::{Status, be_main};
 use std::alloc::Global;
 use std::sync::Wait;
-use std::test::Fail;
 use std::thread::Threads;
 
 pub const SCHEMA: &[u8] = b"int price 0 1000\nint qty -5 5\nsym side buy sell hold\nint one 7 7\n";
@@ -55,12 +54,12 @@ pub struct Ran {
     pub is_next_ask_refused: bool,
 }
 
-fn strings(alloc: Global, words: &[&str]) -> Result<Vec<String>, Fail> {
+fn strings(alloc: Global, words: &[&str]) -> Option<Vec<String>> {
     let mut strings = Vec::new(alloc);
     for word in words {
-        strings.push(String::from_str(alloc, word)?)?;
+        strings.push(String::from_str(alloc, word).ok()?).ok()?;
     }
-    Ok(strings)
+    Some(strings)
 }
 
 fn count_left(source: &mut MemSource) -> u64 {
@@ -76,18 +75,27 @@ fn count_left(source: &mut MemSource) -> u64 {
     left
 }
 
-pub fn run<R: Threads + Wait + Sync>(
-    rt: &R,
-    alloc: Global,
-    setting: &Setting,
-) -> Result<Ran, Fail> {
+fn shelf_of(alloc: Global, setting: &Setting) -> Option<MemShelf> {
+    let name = String::from_str(alloc, "S").ok()?;
+    let schema = Vec::from_slice(alloc, setting.schema).ok()?;
+    let files = vec![in alloc; (name, schema)].ok()?;
+    let failing = vec![in alloc; setting.failing_ask].ok()?;
+    Some(MemShelf::make(files, failing))
+}
+
+fn input_of(alloc: Global, setting: &Setting) -> Option<MemSource> {
+    let script = Vec::from_slice(alloc, setting.script).ok()?;
+    let failing = vec![in alloc; setting.failing_read].ok()?;
+    Some(MemSource::make(script, setting.piece, failing))
+}
+
+/// Runs the program's one call. `None` says that memory ran out here.
+pub fn run<R: Threads + Wait + Sync>(rt: &R, alloc: Global, setting: &Setting) -> Option<Ran> {
+    let failing = vec![in alloc; setting.failing_write].ok()?;
     let words = strings(alloc, setting.words)?;
-    let schema = Vec::from_slice(alloc, setting.schema)?;
-    let files = vec![in alloc; (String::from_str(alloc, "S")?, schema)]?;
-    let mut shelf = MemShelf::make(files, vec![in alloc; setting.failing_ask]?);
-    let script = Vec::from_slice(alloc, setting.script)?;
-    let mut input = MemSource::make(script, setting.piece, vec![in alloc; setting.failing_read]?);
-    let mut out = MemSink::make(alloc, vec![in alloc; setting.failing_write]?);
+    let mut shelf = shelf_of(alloc, setting)?;
+    let mut input = input_of(alloc, setting)?;
+    let mut out = MemSink::make(alloc, failing);
     let status = be_main::<_, _, _, _, Peer, _, _>(
         rt,
         alloc,
@@ -98,10 +106,23 @@ pub fn run<R: Threads + Wait + Sync>(
         &mut NoDoor::make(),
         &NoGate,
     );
-    Ok(Ran {
+    Some(Ran {
         status,
         out: out.take(),
         left: count_left(&mut input),
         is_next_ask_refused: shelf.read_file(alloc, "S").is_err(),
     })
+}
+
+/// Whether a run ends well, has read all and has written this.
+pub fn answers<R: Threads + Wait + Sync>(
+    rt: &R,
+    alloc: Global,
+    setting: &Setting,
+    wanted: &[u8],
+) -> bool {
+    match run(rt, alloc, setting) {
+        Some(ran) => ran.status == Status::Done && ran.left == 0 && ran.out.as_slice() == wanted,
+        None => false,
+    }
 }

@@ -44,7 +44,6 @@ take_from_half-returns-clause-less t c =
     let right = subst (λ n. StaysRight s r hop (plain n) o) c.deref_mut.ensures.value c.take_from_child.ensures.right in
     subst (λ h. IsLess s r row (root_of hop h) (root_of hop (half_as c.drop_half.new.half))) (sym (ap half_as c.in-Some.is)) (subst (λ h. IsLess s r row (root_of hop (half m)) (root_of hop h)) (sym c.drop_half.ensures) (half_less s r row hop m o gone right))
 
-
 pub take_from-returns-then-not-has_way-clause-taken : goal.take_from-returns-then-not-has_way-clause-taken
 take_from-returns-then-not-has_way-clause-taken t c =
     let s = c.args.s.now in

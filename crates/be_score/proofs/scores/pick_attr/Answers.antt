@@ -9,6 +9,7 @@ use Rattle.std.proofs.lemmas.Int.{to_z-of_z}
 use Rattle.be_model.specs.Schemas.{numbered}
 use Rattle.be_score.specs.Tallies.{IsBestBelow, better_of}
 use Rattle.be_score.proofs.Choosing.{fits_count, fits_gain, step_on, step_off, step_used, chosen_pick, chosen_none}
+use Rattle.be_score.proofs.Picks.{pick_is}
 use Rattle.be_score.proofs.scores.pick_attr.Goals as goal
 use Rattle.be_score.proofs.scores.pick_attr.Goals.{then-tally-at-gt0+then-not-is_used, else-tally-at-gt0, else-tally-at-gt0-via-then-tally-at-gt0+else-not-is_used, else-tally-at-gt0-via-else-tally-at-gt0}
 
@@ -62,3 +63,6 @@ returns-clause-pick g c =
     let all : length c.args.s.now ≤ c.loop-number.number = let n = c.count-number-end.ensures.count in let t = c.loop-number-test.false in omega arith in
     subst (λ o. IfSome o (IsPick c.args.s.now (g.R.RowList.rows c.args.rows.now) c.args.used.now c.args.alpha)) (sym c.attr_of.ensures)
     (chosen_pick c.args.s.now (g.R.RowList.rows c.args.rows.now) c.args.used.now c.args.alpha c.loop-number.number c.loop-number.best c.requires all c.loop-number.invariant)
+
+pub returns-clause-exact : goal.returns-clause-exact
+returns-clause-exact g c = pick_is c.args.s.now (g.R.RowList.rows c.args.rows.now) c.args.used.now c.args.alpha _ c.requires (returns-clause-pick g c) (returns-clause-none g c)

@@ -1,4 +1,4 @@
 use Rattle.worked_parts.proofs.mail.a_full_mailbox_gives_the_letter_back.Given as goal
 
-abbrev pub ghosts-one_too_many : goal.ghosts-one_too_many
-ghosts-one_too_many g a = record { schema = a.schema.now; seats = 1 }
+abbrev pub ghosts-passed : goal.ghosts-passed
+ghosts-passed g a = record { schema = a.schema.now; seats = 1 }

@@ -1,0 +1,51 @@
+-- What the type of a copy keeps, as its list grows.
+use Rattle.std.proofs.Common.{◌≡◌, ℕ, ◌==◌, Bool, true, false, List, [], ◌∷◌, ◌++◌, length, Result, Ok, Err, OnOk, refl, sym, ap, ◌∙◌, subst}
+use Rattle.std.specs.List.{list_all}
+use Rattle.std.proofs.lemmas.Bool.{and_parts, and_from}
+use Rattle.std.proofs.lemmas.List.Folds.{list_all-append}
+use Rattle.be_model.specs.declared.changes.Row.{Row}
+use Rattle.be_model.specs.Rows.{id_of}
+use Rattle.be_model.specs.ByIds.{ByIds, AllBelow, has_id, row_at, put_by_id}
+use Rattle.be_model.specs.Schemas.{Attributes}
+use Rattle.be_model.specs.Lies.{row_lies, entry_lies}
+use Rattle.be_model.proofs.RisingIds.{above_is_new, put_greatest}
+use Rattle.be_change.specs.History.{Entry, subscribed, unsubscribed, left, live, after_entry}
+use Rattle.be_change.specs.Sound.{all_lie}
+use Rattle.be_change.proofs.Grows.{live-append, live_below}
+use Rattle.be_change.proofs.Listed.{live_listed}
+use Rattle.be_copy.specs.declared.register.Register.{Register}
+use Rattle.be_copy.specs.Edits.{fits}
+use Rattle.be_copy.specs.Registers.{IsRegister, AreOfList, IsKept}
+
+-- live rows are rows of the list
+pub kept_listed : (h : List Entry) (rows : ByIds) → rows ≡ live h → AreOfList h rows
+kept_listed h rows is i row at = live_listed h i row (sym (ap (row_at i) is) ∙ at)
+
+rows_below : (h : List Entry) (rows : ByIds) → rows ≡ live h → AllBelow (length h) rows
+rows_below h rows is = subst (AllBelow (length h)) (sym is) (live_below h)
+
+-- no live row has the next place as its id
+pub next_is_new : (h : List Entry) (rows : ByIds) (id : ℕ) → rows ≡ live h → id ≡ length h → has_id id rows ≡ false
+next_is_new h rows id is at = above_is_new (length h) id rows at (rows_below h rows is)
+
+-- and a row with it is put last
+pub put_next : {A B : Type 0} (r : Result A B) (h : List Entry) (rows rows' : ByIds) (put row : Row) → rows ≡ live h → put ≡ row → id_of row ≡ length h
+    → OnOk r (rows' ≡ put_by_id put rows) → OnOk r (rows' ≡ rows ++ (length h, row) ∷ [])
+put_next (Ok x) h rows rows' put row is same id e = e ∙ ap (λ (q : Row). put_by_id q rows) same ∙ put_greatest (length h) row rows id (rows_below h rows is)
+put_next (Err x) h rows rows' put row is same id e = tt
+
+fits_lies : (s : Attributes) (h : List Entry) (e : Entry) → fits s h e ≡ true → entry_lies s e ≡ true
+fits_lies s h (subscribed k n row) e = (and_parts (row.id.0 == length h) (row_lies s row) e).1
+fits_lies s h (unsubscribed k n name) e = refl
+fits_lies s h (left k n) e = refl
+
+-- one entry more
+pub kept_after : (s s' : Attributes) (h h' : List Entry) (rows rows' : ByIds) (r r' : Register) (e : Entry) → IsKept s h rows r → fits s h e ≡ true
+    → s' ≡ s → h' ≡ h ++ e ∷ [] → rows' ≡ after_entry rows (length h) e → IsRegister r' rows' → IsKept s' h' rows' r'
+kept_after s s' h h' rows rows' r r' e kept fit same grown become filed = record {
+  live = become ∙ ap (λ (m : ByIds). after_entry m (length h) e) kept.live ∙ sym (live-append h e) ∙ ap live (sym grown);
+  lies =
+      ap (λ (a : Attributes). all_lie a h') same ∙ ap (all_lie s) grown ∙ list_all-append (entry_lies s) h (e ∷ [])
+      ∙ and_from (all_lie s h) (all_lie s (e ∷ [])) kept.lies (and_from (entry_lies s e) true (fits_lies s h e fit) refl);
+  filed = filed;
+}

@@ -1,0 +1,4 @@
+pub mod Pairs
+pub mod Filed
+pub mod Firsts
+pub mod Kept

@@ -1,0 +1,6 @@
+pub mod Places
+pub mod Keys
+pub mod Copied
+pub mod Edits
+pub mod Wanted
+pub mod Registers

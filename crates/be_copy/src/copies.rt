@@ -1,0 +1,201 @@
+//! A list of changes and an index of what is live in it.
+
+ghost use Rattle.std.specs.Prelude.{◌≡◌, ◌<◌, ◌++◌, ◌∷◌, [], true, length, find, option_map, OnOk, OnErr, IfOk, IsOk, if◌then◌else◌};
+ghost use Rattle.std.specs.Arc.{arc_value};
+ghost use Rattle.be_model.specs.declared.paths.StepDone.TheVariants.{Done, NotHere};
+ghost use Rattle.be_model.specs.Rows.{id_of};
+ghost use Rattle.be_model.specs.Lies.{row_lies};
+ghost use Rattle.be_change.specs.Entries.{entry_of, HasIdAt};
+ghost use Rattle.be_change.specs.History.{live, after_entry, has_name};
+ghost use Rattle.be_change.specs.Sound.{all_lie};
+ghost use Rattle.be_copy.specs.Edits.{fits, with_entry};
+ghost use Rattle.be_copy.specs.Registers.{IsKept, IsRegister};
+
+use crate::edits::Edit;
+use crate::live::{first, put_row, remove_wanted};
+use crate::register::Register;
+use crate::wanted::Wanted;
+use be_base::{Name, NoMemory};
+use be_change::ChangeLog;
+use be_index::Index;
+use be_model::{Change, Row, StepDone};
+use std::alloc::Global;
+use std::marker::Model;
+use std::sync::Arc;
+
+/// A list of changes, and an index that holds what is live in it. Contracts see the list and the index.
+#[derive(Drop)]
+pub struct Copy2<I: Index> {
+    log: ChangeLog,
+    index: I,
+    register: Register,
+}
+
+impl<I: Index> Model for Copy2<I> {
+    ghost use Rattle.be_copy.specs.Copied.{Copied};
+
+    ghost Value = { Copied I };
+
+    ghost use Rattle.be_copy.specs.Registers.{IsKept};
+
+    ghost view = { λ c. record { list = c.log.list; index = c.index } };
+
+    ghost invariant = { λ c. IsKept (I.schema c.index) c.log.list (I.rows c.index) c.register };
+}
+
+impl<I: Index> Copy2<I> {
+    ghost use Rattle.be_copy.specs.Edits.{AnswersEdit, is_taken, absorbed};
+
+    /// A copy of no changes. It takes no memory.
+    pub fn make(alloc: Global, index: I) -> Copy2<I>
+        requires { I.rows index ≡ [] }
+        ensures list { result.list ≡ [] }
+        ensures index { result.index ≡ index }
+    {
+        Copy2 {
+            log: ChangeLog::make(alloc),
+            index,
+            register: Register::make(alloc),
+        }
+    }
+
+    pub fn log(&self) -> &ChangeLog
+        ensures list { result.now.list ≡ self.now.list }
+        ensures lies { all_lie (I.schema self.now.index) self.now.list ≡ true }
+    {
+        &self.log
+    }
+
+    pub fn index(&self) -> &I
+        ensures index { result.now ≡ self.now.index }
+        ensures rows { I.rows self.now.index ≡ live self.now.list }
+    {
+        &self.index
+    }
+
+    /// The live row of a name: of several, which no well formed list has, that of the lowest id.
+    pub fn named(&self, name: &Name) -> Option<&Arc<Row>>
+        ensures { option_map (λ row. arc_value row.now) result ≡ option_map (λ r. r.1) (find (has_name name.now) (live self.now.list)) }
+    {
+        first(&self.log, &self.index, &self.register, Wanted::Named(name))
+    }
+
+    /// Takes in an edit. A subscription whose row doesn't lie in the schema, or whose id isn't the next place, changes nothing.
+    pub fn absorb(&mut self, edit: &Edit) -> Result<StepDone, NoMemory>
+        ensures answer { IfOk result (λ done. AnswersEdit (I.schema self.old.index) self.old.list (I.can_step self.old.index) edit.now done) }
+        ensures list { OnOk result (self.new.list ≡ absorbed (I.schema self.old.index) self.old.list edit.now) }
+        ensures refused { OnErr result (self.new.list ≡ self.old.list) }
+        // Only what is appended takes memory.
+        ensures some { OnErr result (is_taken (I.schema self.old.index) self.old.list edit.now ≡ true) }
+        ensures rows { I.rows self.new.index ≡ live self.new.list }
+        ensures schema { I.schema self.new.index ≡ I.schema self.old.index }
+        ensures bounded { I.is_bounded self.new.index ≡ I.is_bounded self.old.index }
+    {
+        match edit {
+            Edit::Reshape(step) => Ok(self.index.step(step)),
+            Edit::Change(change) => {
+                take_in(&mut self.log, &mut self.index, &mut self.register, change)
+            }
+        }
+    }
+}
+
+// Takes all the memory before it changes anything.
+fn take_in<I: Index>(
+    log: &mut ChangeLog,
+    index: &mut I,
+    register: &mut Register,
+    change: &Arc<Change>,
+) -> Result<StepDone, NoMemory>
+    requires { IsKept (I.schema index.old) log.old.list (I.rows index.old) register.old }
+    ensures kept { IsKept (I.schema index.new) log.new.list (I.rows index.new) register.new }
+    ensures answer { IfOk result (λ done. done ≡ (if fits (I.schema index.old) log.old.list (entry_of (arc_value change.now)) then Done else NotHere)) }
+    ensures list { OnOk result (log.new.list ≡ with_entry (I.schema index.old) log.old.list (entry_of (arc_value change.now))) }
+    ensures refused { OnErr result (log.new.list ≡ log.old.list) }
+    ensures some { OnErr result (fits (I.schema index.old) log.old.list (entry_of (arc_value change.now)) ≡ true) }
+    ensures schema { I.schema index.new ≡ I.schema index.old }
+    ensures bounded { I.is_bounded index.new ≡ I.is_bounded index.old }
+{
+    if !may_take(log, index, change) {
+        return Ok(StepDone::NotHere);
+    }
+    log.reserve(1)?;
+    let kept = Arc::try_clone(change)?;
+    change_rows(log, index, register, change)?;
+    append(log, kept);
+    Ok(StepDone::Done)
+}
+
+// Whether the change is to be appended.
+fn may_take<I: Index>(log: &ChangeLog, index: &I, change: &Change) -> bool
+    ensures { result ≡ fits (I.schema index.now) log.now.list (entry_of change.now) }
+{
+    match change {
+        Change::Sub { row, .. } => row.id.0 == log.len() && index.lies(row),
+        Change::Unsub { .. } => true,
+        Change::Bye { .. } => true,
+    }
+}
+
+// Makes the rows those that are live after one more change, or leaves them as they were.
+fn change_rows<I: Index>(
+    log: &ChangeLog,
+    index: &mut I,
+    register: &mut Register,
+    change: &Change,
+) -> Result<(), NoMemory>
+    requires kept { IsKept (I.schema index.old) log.now.list (I.rows index.old) register.old }
+    requires fits { fits (I.schema index.old) log.now.list (entry_of change.now) ≡ true }
+    requires room { 0 < log.now.spare }
+    ensures rows { OnOk result (I.rows index.new ≡ after_entry (I.rows index.old) (length log.now.list) (entry_of change.now)) }
+    ensures refused { OnErr result (I.rows index.new ≡ I.rows index.old) }
+    ensures filed { IsRegister register.new (I.rows index.new) }
+    ensures schema { I.schema index.new ≡ I.schema index.old }
+    ensures bounded { I.is_bounded index.new ≡ I.is_bounded index.old }
+{
+    match change {
+        Change::Sub { row, .. } => add_row(log, index, register, row),
+        Change::Unsub { session, name, .. } => {
+            remove_wanted(log, index, register, Wanted::Own(*session, name));
+            Ok(())
+        }
+        Change::Bye { session, .. } => {
+            remove_wanted(log, index, register, Wanted::Of(*session));
+            Ok(())
+        }
+    }
+}
+
+fn add_row<I: Index>(
+    log: &ChangeLog,
+    index: &mut I,
+    register: &mut Register,
+    row: &Arc<Row>,
+) -> Result<(), NoMemory>
+    requires kept { IsKept (I.schema index.old) log.now.list (I.rows index.old) register.old }
+    requires id { id_of (arc_value row.now) ≡ length log.now.list }
+    requires lies { row_lies (I.schema index.old) (arc_value row.now) ≡ true }
+    requires room { 0 < log.now.spare }
+    ensures rows { OnOk result (I.rows index.new ≡ I.rows index.old ++ (length log.now.list, arc_value row.now) ∷ []) }
+    ensures refused { OnErr result (I.rows index.new ≡ I.rows index.old) }
+    ensures filed { IsRegister register.new (I.rows index.new) }
+    ensures schema { I.schema index.new ≡ I.schema index.old }
+    ensures bounded { I.is_bounded index.new ≡ I.is_bounded index.old }
+{
+    // That the id is low comes to light at the length of the list.
+    let _ = log.len();
+    let row = Arc::try_clone(row)?;
+    put_row(index, register, row)
+}
+
+// Puts a change last, for which there is room.
+fn append(log: &mut ChangeLog, change: Arc<Change>)
+    requires room { 0 < log.old.spare }
+    requires id { HasIdAt (length log.old.list) (entry_of (arc_value change)) }
+    ensures { log.new.list ≡ log.old.list ++ entry_of (arc_value change) ∷ [] }
+{
+    match log.push(change) {
+        Ok(()) => {}
+        Err(_) => unreachable!(),
+    }
+}

@@ -1,0 +1,105 @@
+//! The rows of an index, with a register of them: how rows come, are found, and go.
+
+ghost use Rattle.std.specs.Prelude.{◌≡◌, ◌<◌, true, false, not, filter, find, Some, option_map, IfSome, OnOk, OnErr};
+ghost use Rattle.std.specs.Arc.{arc_value};
+ghost use Rattle.be_base.specs.declared.limits.TheConstants.{LOG_CHANGES};
+ghost use Rattle.be_model.specs.ByIds.{put_by_id, without_id, has_id, row_at};
+ghost use Rattle.be_model.specs.Lies.{row_lies};
+ghost use Rattle.be_model.specs.Rows.{id_of};
+ghost use Rattle.be_index.specs.Promise.{IsMap};
+ghost use Rattle.be_copy.specs.Registers.{IsRegister, AreOfList, IsWantedRow};
+ghost use Rattle.be_copy.specs.Wanted.{wants};
+
+use crate::register::Register;
+use crate::wanted::Wanted;
+use be_base::{Id, NoMemory};
+use be_change::ChangeLog;
+use be_index::Index;
+use be_model::Row;
+use std::sync::Arc;
+
+/// The wanted row of the lowest id.
+pub fn first<'a, I: Index>(
+    log: &'a ChangeLog,
+    index: &I,
+    register: &Register,
+    wanted: Wanted<'_>,
+) -> Option<&'a Arc<Row>>
+    requires filed { IsRegister register.now (I.rows index.now) }
+    requires listed { AreOfList log.now.list (I.rows index.now) }
+    ensures first { option_map (λ row. arc_value row.now) result ≡ option_map (λ r. r.1) (find (wants wanted.entry) (I.rows index.now)) }
+    ensures there { IfSome result (λ row. IsWantedRow wanted.entry (I.rows index.now) (arc_value row.now)) }
+    ensures map { IsMap (I.rows index.now) }
+{
+    // That the rows are a map comes to light at their number.
+    let _ = index.len();
+    let mut from = 0;
+    while let Some(id) = register.next(wanted, from) {
+        let Some(row) = log.row(Id(id)) else {
+            unreachable!();
+        };
+        if wanted.takes(row) {
+            return Some(row);
+        }
+        from = id + 1;
+    }
+    None
+}
+
+/// Adds a row, or leaves all rows as they were.
+pub fn put_row<I: Index>(
+    index: &mut I,
+    register: &mut Register,
+    row: Arc<Row>,
+) -> Result<(), NoMemory>
+    requires filed { IsRegister register.old (I.rows index.old) }
+    requires new { has_id (id_of (arc_value row)) (I.rows index.old) ≡ false }
+    requires low { id_of (arc_value row) < LOG_CHANGES }
+    requires lies { row_lies (I.schema index.old) (arc_value row) ≡ true }
+    ensures put { OnOk result (I.rows index.new ≡ put_by_id (arc_value row) (I.rows index.old)) }
+    ensures refused { OnErr result (I.rows index.new ≡ I.rows index.old) }
+    ensures filed { IsRegister register.new (I.rows index.new) }
+    ensures schema { I.schema index.new ≡ I.schema index.old }
+    ensures bounded { I.is_bounded index.new ≡ I.is_bounded index.old }
+{
+    register.put(&row)?;
+    match index.insert(row) {
+        Ok(()) => Ok(()),
+        Err((row, no_memory)) => {
+            register.drop_row(&row);
+            Err(no_memory)
+        }
+    }
+}
+
+// Takes a row out.
+fn drop_row<I: Index>(index: &mut I, register: &mut Register, row: &Row)
+    requires filed { IsRegister register.old (I.rows index.old) }
+    requires there { row_at (id_of row.now) (I.rows index.old) ≡ Some row.now }
+    ensures rows { I.rows index.new ≡ without_id (id_of row.now) (I.rows index.old) }
+    ensures filed { IsRegister register.new (I.rows index.new) }
+    ensures schema { I.schema index.new ≡ I.schema index.old }
+    ensures bounded { I.is_bounded index.new ≡ I.is_bounded index.old }
+{
+    register.drop_row(row);
+    index.remove(row);
+}
+
+/// Takes out each wanted row. It takes no memory.
+pub fn remove_wanted<I: Index>(
+    log: &ChangeLog,
+    index: &mut I,
+    register: &mut Register,
+    wanted: Wanted<'_>,
+)
+    requires filed { IsRegister register.old (I.rows index.old) }
+    requires listed { AreOfList log.now.list (I.rows index.old) }
+    ensures rows { I.rows index.new ≡ filter (λ r. not (wants wanted.entry r)) (I.rows index.old) }
+    ensures filed { IsRegister register.new (I.rows index.new) }
+    ensures schema { I.schema index.new ≡ I.schema index.old }
+    ensures bounded { I.is_bounded index.new ≡ I.is_bounded index.old }
+{
+    while let Some(row) = first(log, index, register, wanted) {
+        drop_row(index, register, row);
+    }
+}

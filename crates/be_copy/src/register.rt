@@ -1,0 +1,68 @@
+//! A register of rows: their ids by session, and by name.
+
+ghost use Rattle.std.specs.Prelude.{◌≡◌, ℕ, ◌<◌, ◌≤◌, ◌^◌, true, false, [], Some, MatchOption, OnOk, OnErr};
+ghost use Rattle.be_model.specs.ByIds.{ByIds, put_by_id, without_id, has_id, row_at};
+ghost use Rattle.be_model.specs.Rows.{id_of};
+ghost use Rattle.be_copy.specs.Registers.{IsRegister, is_found};
+
+use crate::keys::name_key;
+use crate::places::Places;
+use crate::wanted::Wanted;
+use be_base::NoMemory;
+use be_model::Row;
+use std::alloc::Global;
+
+/// Where the rows of a session and those of a name are found without a look at the others.
+#[derive(Drop)]
+pub struct Register {
+    pub sessions: Places,
+    pub names: Places,
+}
+
+impl Register {
+    /// It takes no memory.
+    pub fn make(alloc: Global) -> Register
+        ensures { IsRegister result [] }
+    {
+        Register {
+            sessions: Places::make(alloc),
+            names: Places::make(alloc),
+        }
+    }
+
+    /// Files a row whose id is new, or leaves all as it was.
+    pub fn put(&mut self, row: &Row) -> Result<(), NoMemory>
+        ensures put { OnOk result ((m : ByIds) → has_id (id_of row.now) m ≡ false → IsRegister self.old m → IsRegister self.new (put_by_id row.now m)) }
+        ensures refused { OnErr result ((m : ByIds) → has_id (id_of row.now) m ≡ false → IsRegister self.old m → IsRegister self.new m) }
+    {
+        self.sessions.put(row.session.0, row.id.0)?;
+        match self.names.put(name_key(&row.name), row.id.0) {
+            Ok(()) => Ok(()),
+            Err(NoMemory) => {
+                self.sessions.drop_pair(row.session.0, row.id.0);
+                Err(NoMemory)
+            }
+        }
+    }
+
+    /// Takes a row out.
+    pub fn drop_row(&mut self, row: &Row)
+        ensures removed { (m : ByIds) → row_at (id_of row.now) m ≡ Some row.now → IsRegister self.old m → IsRegister self.new (without_id (id_of row.now) m) }
+        // A row that was put is taken out again.
+        ensures undone { (m : ByIds) → has_id (id_of row.now) m ≡ false → IsRegister self.old (put_by_id row.now m) → IsRegister self.new m }
+    {
+        self.sessions.drop_pair(row.session.0, row.id.0);
+        self.names.drop_pair(name_key(&row.name), row.id.0);
+    }
+
+    /// The next id, not below `from`, that stands under the session, or the name, of the wanted rows.
+    pub fn next(&self, wanted: Wanted<'_>, from: u64) -> Option<u64>
+        ensures { MatchOption result ((i : ℕ) → from ≤ i → i < 2 ^ 64 → is_found self.now wanted.entry i ≡ false) (λ place. (from ≤ place) × (is_found self.now wanted.entry place ≡ true) × ((i : ℕ) → from ≤ i → i < place → is_found self.now wanted.entry i ≡ false)) }
+    {
+        match wanted {
+            Wanted::Named(name) => self.names.next(name_key(name), from),
+            Wanted::Own(_, name) => self.names.next(name_key(name), from),
+            Wanted::Of(session) => self.sessions.next(session.0, from),
+        }
+    }
+}

@@ -1,0 +1,28 @@
+//! Which live rows are looked for.
+
+ghost use Rattle.std.specs.Prelude.{◌≡◌};
+ghost use Rattle.be_model.specs.Rows.{id_of};
+ghost use Rattle.be_copy.specs.Wanted.{wants};
+
+use be_base::{Name, SessionNo};
+use be_model::Row;
+
+#[derive(Clone, Copy)]
+pub enum Wanted<'a> {
+    Named(&'a Name),
+    /// Those of the session that have the name.
+    Own(SessionNo, &'a Name),
+    Of(SessionNo),
+}
+
+impl Wanted<'_> {
+    pub fn takes(self, row: &Row) -> bool
+        ensures { result ≡ wants self.entry (id_of row.now, row.now) }
+    {
+        match self {
+            Wanted::Named(name) => row.name == *name,
+            Wanted::Own(session, name) => row.session.0 == session.0 && row.name == *name,
+            Wanted::Of(session) => row.session.0 == session.0,
+        }
+    }
+}

@@ -1,0 +1,6 @@
+pub mod Rules
+pub mod Rows
+pub mod Classes
+pub mod Stepping
+pub mod Ending
+pub mod Parsed

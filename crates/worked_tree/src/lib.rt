@@ -1,0 +1,11 @@
+//! Tests of the tree: what no clause of the calls on it says.
+#![tactic(auto)]
+
+#[cfg(test)]
+mod grown;
+#[cfg(test)]
+mod looks;
+#[cfg(test)]
+mod plain_walk;
+#[cfg(test)]
+mod remove;

@@ -1,0 +1,47 @@
+//! Looks at a tree, beside a plain list.
+
+use crate::plain_walk::{Seen, look};
+use be_match::find_in;
+use be_model::{Event, Found, Row};
+use be_shape::Tree;
+use std::alloc::Global;
+use std::sync::Arc;
+use std::test::Fail;
+
+/// Whether the tree has the rows of the list, whose ids rise, each once, and is placed, drawn, pruned and settled.
+pub(crate) fn has_ids(alloc: Global, tree: &Tree, rows: &[Arc<Row>]) -> Result<bool, Fail> {
+    let mut seen = Seen::make(alloc);
+    look(&tree.root, &tree.schema, &mut seen)?;
+    seen.ids.sort_unstable();
+    let mut want = Vec::new(alloc);
+    for row in rows {
+        want.push(row.id.0)?;
+    }
+    Ok(seen.is_right && seen.ids.as_slice() == want.as_slice())
+}
+
+/// Whether a search finds the rows that a filter over the list gives.
+pub(crate) fn finds_as_list(
+    alloc: Global,
+    tree: &Tree,
+    rows: &[Arc<Row>],
+    event: &Event,
+) -> Result<bool, Fail> {
+    let mut found = Found::make(alloc);
+    if !event.lies(&tree.schema) {
+        return Ok(false);
+    }
+    let _ = find_in(tree, event, &mut found)?;
+    found.order();
+    let mut ids = Vec::new(alloc);
+    for row in found.rows() {
+        ids.push(row.id.0)?;
+    }
+    let mut want = Vec::new(alloc);
+    for row in rows {
+        if row.conj.satisfied_by(event) {
+            want.push(row.id.0)?;
+        }
+    }
+    Ok(ids.as_slice() == want.as_slice())
+}
