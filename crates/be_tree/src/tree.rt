@@ -33,10 +33,9 @@ impl BeTree {
 }
 
 impl Index for BeTree {
-    ghost use Rattle.std.specs.Prelude.{true};
+    ghost use Rattle.std.specs.Prelude.{true, false, None};
     ghost use Rattle.be_model.specs.Costs.{cost};
     ghost use Rattle.be_shape.specs.Search.{visits, tested};
-    ghost use Rattle.be_shape.specs.Steps.{stands};
 
     ghost schema = { λ t. arc_value t.0.schema };
 
@@ -46,7 +45,7 @@ impl Index for BeTree {
 
     ghost cost_of = { λ t e. cost (visits (arc_value t.0.schema) e (plain t.0.root)) (tested (arc_value t.0.schema) e (plain t.0.root)) };
 
-    ghost can_step = { λ t step. stands (arc_value t.0.schema) step (plain t.0.root) };
+    ghost can_step = { λ t step. false };
 
     fn lies(&self, row: &Row) -> bool {
         row.lies(&self.0.schema)
@@ -77,8 +76,6 @@ impl Index for BeTree {
     }
 
     // TEMPORARY until be_remove, be_adjust and be_plan are here
-    ghost use Rattle.std.specs.Prelude.{None};
-
     ghost planned = { λ t. None };
 
     fn remove(&mut self, row: &Row) -> bool {
