@@ -272,7 +272,7 @@ reached_quit s source sink before after g l =
 -- a reply that was cut short
 cut_short : (s : Attributes) (source : SourceState) (sink : SinkState) (before after : TurnState) (h : List Entry) (quits : Bool) (fault : SinkFault)
     → IsServing s source sink before → (line : TextLine) → TookLine before after line → is_quit (reading s line) ≡ quits
-    → (a : Answered before.list (reading s line) after.list before.sink after.sink (Err fault)) → TookPart before.sink after.sink (with_lf (last_line a.0))
+    → (a : Answered s before.list (reading s line) after.list before.sink after.sink (Err fault)) → TookPart before.sink after.sink (with_lf (last_line a.0))
     → Leaves quits after.list h → CutShort s (link source sink) (link after.source after.sink) h
 cut_short s source sink before after h quits fault g line took is a part l =
     let reply : Reply = a.0 in

@@ -5,9 +5,9 @@ use Rattle.std.proofs.lemmas.List.{append-nil}
 use Rattle.std.proofs.lemmas.List.Folds.{list_all-append}
 use Rattle.be_model.specs.Schemas.{Attributes}
 use Rattle.be_change.specs.History.{Entry}
-use Rattle.be_change.specs.Requests.{Refusal, Request, refused, subscribe, unsubscribe, publish, costing, listing, quit, Reply, refusal, ok, bye, dup, none, hit, cost, listed, no_memory, Exchange}
+use Rattle.be_change.specs.Requests.{Request, refused, subscribe, unsubscribe, publish, costing, listing, quit, Reply, refusal, ok, bye, dup, none, hit, cost, listed, no_memory, Exchange}
 use Rattle.be_change.specs.Walk.{Walk, beginning_at, having_seen, having_changed, accepted, place_accepted}
-use Rattle.be_change.specs.Made.{made, changes_made, change_made}
+use Rattle.be_change.specs.Made.{made, change_made}
 use Rattle.be_change.specs.Alone.{RunsAlone, RanAlone}
 use Rattle.be_change.proofs.Alone.{alone_beginning, alone_same, alone_subscribed, alone_unsubscribed, alone_name, alone_dup, alone_none, alone_hit, alone_cost, alone_listed, alone_ran, alone_bye, alone_quit_no_memory, made-snoc, made_kept, made_entries, accepted-append}
 use Rattle.be_change.proofs.Places.{places_count}

@@ -10,7 +10,7 @@ use Rattle.be_io.specs.declared.lines.Line.TheVariants.{Text, Long, End}
 use Rattle.be_io.specs.declared.faults.SinkFault.{SinkFault}
 use Rattle.be_io.specs.declared.faults.SinkFault.TheVariants.{Failed, NoMemory}
 use Rattle.be_change.specs.History.{Entry}
-use Rattle.be_change.specs.Requests.{Request, refused, subscribe, unsubscribe, publish, costing, listing, sending, fetching, dumping, tailing, quit, Reply, no_memory}
+use Rattle.be_change.specs.Requests.{Request, subscribe, publish, costing, quit, Reply, no_memory}
 use Rattle.be_model.specs.Schemas.{Attributes}
 use Rattle.be_transcript.specs.Readings.{reading}
 use Rattle.be_transcript.specs.Replies.{last_line, with_lf}

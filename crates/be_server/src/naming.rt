@@ -81,7 +81,7 @@ impl Scratch {
         subscriptions: &Subscriptions<I>,
         wanted: Wanted<'_>,
     ) -> Result<&[u8], NoMemory>
-        requires { wanted_lies (I.schema subscriptions.now.index) wanted.entry ≡ true }
+        requires { wanted_lies (I.schema subscriptions.now.index) wanted ≡ true }
         ensures { IfOk result (λ text. text.now ≡ with_lf (last_line (naming wanted.entry (length subscriptions.now.list) (names_wanted wanted.entry (live subscriptions.now.list))))) }
     {
         self.reply.clear();
@@ -96,12 +96,7 @@ impl Scratch {
     }
 }
 
-fn write_reply(
-    reply: &mut Vec<u8>,
-    head: &str,
-    n: u64,
-    rows: &[Arc<Row>],
-) -> Result<(), NoMemory>
+fn write_reply(reply: &mut Vec<u8>, head: &str, n: u64, rows: &[Arc<Row>]) -> Result<(), NoMemory>
     requires { reply.old.items ≡ [] }
     ensures { OnOk result (reply.new.items ≡ (((head.now ++ number n) ++ number (length rows.now)) ++ names_text (names_in (rows_in rows.now))) ++ 10 ∷ []) }
 {

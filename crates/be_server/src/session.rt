@@ -244,7 +244,7 @@ impl<I: Index> Session<I> {
 
     // Writes the reply that names the wanted live rows, or that memory is wanting.
     fn tell<K: Sink>(&mut self, wanted: Wanted<'_>, out: &mut K) -> Result<(), SinkFault>
-        requires { wanted_lies (I.schema self.old.subscriptions.index) wanted.entry ≡ true }
+        requires { wanted_lies (I.schema self.old.subscriptions.index) wanted ≡ true }
         ensures kept { self.new.subscriptions ≡ self.old.subscriptions }
         ensures answered { Answered (I.schema self.old.subscriptions.index) self.old.subscriptions.list (asking wanted.entry) self.old.subscriptions.list
             (sink_state K.Sink out.old) (sink_state K.Sink out.new) result }

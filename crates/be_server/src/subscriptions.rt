@@ -193,9 +193,11 @@ impl<I: Index> Subscriptions<I> {
 
     /// Puts the wanted live rows into `found`, by rising id, and nothing else.
     pub fn find(&self, wanted: Wanted<'_>, found: &mut Found) -> Result<(), NoMemory>
-        requires { wanted_lies (I.schema self.now.index) wanted.entry ≡ true }
+        requires { wanted_lies (I.schema self.now.index) wanted ≡ true }
         ensures { OnOk result (found.new.rows ≡ rows_wanted wanted.entry (live self.now.list)) }
     {
+        // That the list is well formed comes to light at a look at the copy.
+        let _ = &self.copy;
         found.clear();
         self.gather(wanted, found)?;
         found.order();
@@ -204,7 +206,7 @@ impl<I: Index> Subscriptions<I> {
 
     // Puts the wanted rows, in any order.
     fn gather(&self, wanted: Wanted<'_>, found: &mut Found) -> Result<(), NoMemory>
-        requires lies { wanted_lies (I.schema self.now.index) wanted.entry ≡ true }
+        requires lies { wanted_lies (I.schema self.now.index) wanted ≡ true }
         requires empty { found.old.rows ≡ [] }
         ensures { OnOk result (IsPermutation (rows_wanted wanted.entry (live self.now.list)) found.new.rows) }
     {

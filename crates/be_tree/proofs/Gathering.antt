@@ -1,12 +1,12 @@
 -- Wanted rows of a list that is gone through, and of a node.
 use Rattle.std.proofs.Common.{◌≡◌, ℕ, ◌+◌, ◌<◌, List, [], ◌∷◌, ◌++◌, length, drop, get_or, slice_get, Option, Some, sym, ap, ◌∙◌, arith, length-append}
-use Rattle.std.proofs.lemmas.List.{append_assoc, drop_more}
+use Rattle.std.proofs.lemmas.List.{drop_more}
 use Rattle.std.proofs.lemmas.List.Elements.{filter-append}
 use Rattle.std.proofs.lemmas.Option.{slice_get_within, get_or_from_slice_get}
 use Rattle.be_base.specs.declared.names.SessionNo.{SessionNo}
 use Rattle.be_model.specs.declared.changes.Row.{Row}
 use Rattle.be_shape.specs.declared.nodes.Part.{Part}
-use Rattle.be_shape.specs.Plain.{Parts, part_as, parts_as, rows_below, rows_in_parts}
+use Rattle.be_shape.specs.Plain.{part_as, parts_as, rows_below, rows_in_parts}
 use Rattle.be_match.proofs.Fronts.{put_on}
 use Rattle.be_tree.specs.Gathered.{is_wanted, wanted}
 

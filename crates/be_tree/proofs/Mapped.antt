@@ -1,13 +1,13 @@
 -- What a tree contains is a finite map, and what is wanted of it.
-use Rattle.std.proofs.Common.{◌≡◌, ℕ, ◌<◌, Bool, true, false, cond, eqb, ltb, ◌&&◌, List, [], ◌∷◌, Some, None, Option, refl, sym, ap, ◌∙◌}
-use Rattle.std.specs.List.{list_all, filter}
+use Rattle.std.proofs.Common.{◌≡◌, ℕ, true, eqb, ltb, List, [], ◌∷◌, Some, None, refl, sym, ap}
+use Rattle.std.specs.List.{list_all}
 use Rattle.std.specs.Arc.{arc_value}
 use Rattle.std.proofs.lemmas.Bool.{and_parts, ltb-true}
 use Rattle.be_base.specs.declared.limits.TheConstants.{LOG_CHANGES}
 use Rattle.be_base.specs.declared.names.SessionNo.{SessionNo}
 use Rattle.be_model.specs.declared.changes.Row.{Row}
 use Rattle.be_model.specs.Rows.{id_of}
-use Rattle.be_model.specs.ByIds.{ByIds, by_ids, AllBelow, ids_differ, rows_of, is_of, session_rows}
+use Rattle.be_model.specs.ByIds.{ByIds, by_ids, AllBelow, ids_differ, rows_of, session_rows}
 use Rattle.be_model.proofs.RowsByIds.{put_below, ids_rise, all_say, rows_of-filter}
 use Rattle.be_index.specs.Promise.{IsMap}
 use Rattle.be_shape.specs.declared.trees.Tree.{Tree}

@@ -1,5 +1,5 @@
 -- Rows of one session, or of all.
-use Rattle.std.specs.Prelude.{◌≡◌, ◌==◌, ◌++◌, IsPermutation, Bool, true, List, filter, Option, Some, None}
+use Rattle.std.specs.Prelude.{◌==◌, Bool, true, List, filter, Option, Some, None}
 use Rattle.be_base.specs.declared.names.SessionNo.{SessionNo}
 use Rattle.be_model.specs.declared.changes.Row.{Row}
 

@@ -7,8 +7,8 @@ use Rattle.be_server.specs.Requests.{asks}
 use Rattle.be_server.proofs.Commanded.{event_fault, faulty_event}
 use Rattle.be_server.proofs.requests.read_event_line.Goals as goal
 
-pub returns-in_ok-of_event-in-Err : goal.returns-in_ok-of_event-in-Err
-returns-in_ok-of_event-in-Err c =
+pub returns-in_ok-of_event-in-Err-clause-read : goal.returns-in_ok-of_event-in-Err-clause-read
+returns-in_ok-of_event-in-Err-clause-read c =
     let s = c.args.schema.now in
     let ts = tokens c.args.text.now in
     let read = event_fault c.in-Err.fault (event_of s ts) c.in-Err.ensures.exact c.in_ok-of_event-in-Err.ensures.0 in

@@ -1,5 +1,5 @@
 use Rattle.std.proofs.Common.{ap, subst, ◌∙◌}
-use Rattle.std.specs.Prelude.{length, ◌<◌, OnOk, OnErr, None}
+use Rattle.std.specs.Prelude.{length, ◌<◌, OnOk, OnErr}
 use Rattle.std.proofs.lemmas.List.{length-map}
 use Rattle.be_model.specs.ByIds.{PutsEach, rows_of}
 use Rattle.std.specs.Prelude.{ℕ}

@@ -1,4 +1,4 @@
-use Rattle.std.proofs.Common.{ap, subst}
+use Rattle.std.proofs.Common.{subst}
 use Rattle.std.specs.Prelude.{length, ◌<◌, OnOk, OnErr}
 use Rattle.be_model.specs.ByIds.{PutsEach}
 use Rattle.be_shape.specs.Plain.{plain, contents}
