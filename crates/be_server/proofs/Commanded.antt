@@ -11,21 +11,23 @@ use Rattle.be_expr.specs.Expressions as conditions
 use Rattle.be_event.specs.declared.events.EventFault.{EventFault}
 use Rattle.be_event.specs.declared.events.EventFault.TheVariants as event
 use Rattle.be_event.specs.Events as events
-use Rattle.be_change.specs.Requests.{refused, bad, publish}
+use Rattle.be_change.specs.Requests.{Request, refused, bad}
 use Rattle.be_transcript.specs.Readings.{request_of, commanded, subscription, of_event, asking_of, expr_refusal, event_refusal}
 
-five_bad : (a b c d e : Bool) → refused bad ≡ cond a (refused bad) (cond b (refused bad) (cond c (refused bad) (cond d (refused bad) (cond e (refused bad) (refused bad)))))
-five_bad true b c d e = refl
-five_bad false true c d e = refl
-five_bad false false true d e = refl
-five_bad false false false true e = refl
-five_bad false false false false true = refl
-five_bad false false false false false = refl
+-- one condition for each command that is built
+all_bad : (a b c d e f : Bool) → refused bad ≡ cond a (refused bad) (cond b (refused bad) (cond c (refused bad) (cond d (refused bad) (cond e (refused bad) (cond f (refused bad) (refused bad))))))
+all_bad true b c d e f = refl
+all_bad false true c d e f = refl
+all_bad false false true d e f = refl
+all_bad false false false true e f = refl
+all_bad false false false false true f = refl
+all_bad false false false false false true = refl
+all_bad false false false false false false = refl
 
 -- the words after a command decide, also where a byte among them has no meaning
 pub request_word : (s : Attributes) (command : Text) (ts : Option (List Lexeme)) → request_of s (put_token (word command) ts) ≡ commanded s command ts
 request_word s command None =
-    five_bad (same_text command (codes "SUB")) (same_text command (codes "UNSUB")) (same_text command (codes "PUB")) (same_text command (codes "LIST")) (same_text command (codes "QUIT"))
+    all_bad (same_text command (codes "SUB")) (same_text command (codes "UNSUB")) (same_text command (codes "PUB")) (same_text command (codes "COST")) (same_text command (codes "LIST")) (same_text command (codes "QUIT"))
 request_word s command (Some ts) = refl
 
 -- a fault other than want of memory is the text's
@@ -53,5 +55,5 @@ faulty_subscription s word_read name None fault named read = ap (λ f. refused (
     same_fault f e = cc
 faulty_subscription s word_read name (Some ts) fault named read = rw (named, read) refl
 
-pub faulty_publication : (s : Attributes) (ts : Option (List Lexeme)) (fault : EventFault) → events.event_of s ts ≡ Err fault → of_event publish s ts ≡ refused (event_refusal s fault)
-faulty_publication s ts fault read = ap (asking_of publish s) read
+pub faulty_event : (ask : Assignments → Request) (s : Attributes) (ts : Option (List Lexeme)) (fault : EventFault) → events.event_of s ts ≡ Err fault → of_event ask s ts ≡ refused (event_refusal s fault)
+faulty_event ask s ts fault read = ap (asking_of ask s) read

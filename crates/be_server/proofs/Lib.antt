@@ -3,5 +3,6 @@ pub mod Steps
 pub mod Serves
 pub mod Turning
 pub mod Exactness
-pub mod KeptLemmas
+pub mod Alone
 pub mod Told
+pub mod Ordered

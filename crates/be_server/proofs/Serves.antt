@@ -76,7 +76,7 @@ texts-push s ps p =
     flat_map-append (λ (q : Exchange). reply_text s q.1) ps (p ∷ []) ∙ ap (λ (x : List ℕ). texts s ps ++ x) (append-nil (reply_text s p.1))
 
 -- the texts of the replies, and of one more that fits the list
-texts_with : (s : Attributes) (ps : List Exchange) (h after : List Entry) (r : Request) (q : Reply) → Replies h r q after
+texts_with : (s : Attributes) (ps : List Exchange) (h after : List Entry) (r : Request) (q : Reply) → Replies s h r q after
     → texts s (ps ++ (r, q) ∷ []) ≡ texts s ps ++ with_lf (last_line q)
 texts_with s ps h after r q f =
     let alone : reply_text s q ≡ with_lf (last_line q) = rw (one_line s h after r q f) (append-nil (with_lf (last_line q))) in
@@ -101,7 +101,7 @@ record AnsweredOne (s : Attributes) (source : SourceState) (sink : SinkState) (b
   pub lines_read : WhereTold source.left after.source.left (λ b a. GoesOn after.reader.ended b after.reader.unread a (g.done ++ line ∷ []))
 
 answered_one : (s : Attributes) (source : SourceState) (sink : SinkState) (before after : TurnState) (g : IsServing s source sink before) (line : TextLine) (reply : Reply)
-    → TookLine before after line → Replies before.list (reading s line) reply after.list → AnsweredOne s source sink before after g line reply
+    → TookLine before after line → Replies s before.list (reading s line) reply after.list → AnsweredOne s source sink before after g line reply
 answered_one s source sink before after g line reply took f =
     let going : WhereTold source.left before.source.left (λ b a. GoesOn false b before.reader.unread a g.done) =
     subst (λ (e : Bool). WhereTold source.left before.source.left (λ b a. GoesOn e b before.reader.unread a g.done)) took.going g.lines_read in
@@ -143,7 +143,7 @@ pub present : (s : Attributes) (source : SourceState) (sink : SinkState) (now : 
 present s source sink now g = subst (λ (h : List Entry). has_left 1 h ≡ false) g.ties.made_is g.ties.alone.present
 
 answered_present : (s : Attributes) (source : SourceState) (sink : SinkState) (before after : TurnState) → IsServing s source sink before
-    → (line : TextLine) → TookLine before after line → is_quit (reading s line) ≡ false → (reply : Reply) → Replies before.list (reading s line) reply after.list
+    → (line : TextLine) → TookLine before after line → is_quit (reading s line) ≡ false → (reply : Reply) → Replies s before.list (reading s line) reply after.list
     → has_left 1 after.list ≡ false
 answered_present s source sink before after g line took goes reply fits =
     let one = answered_one s source sink before after g line reply took fits in
@@ -272,7 +272,7 @@ reached_quit s source sink before after g l =
 -- a reply that was cut short
 cut_short : (s : Attributes) (source : SourceState) (sink : SinkState) (before after : TurnState) (h : List Entry) (quits : Bool) (fault : SinkFault)
     → IsServing s source sink before → (line : TextLine) → TookLine before after line → is_quit (reading s line) ≡ quits
-    → (a : Answered before.list (reading s line) after.list before.sink after.sink (Err fault)) → TookPart before.sink after.sink (with_lf (last_line a.0))
+    → (a : Answered s before.list (reading s line) after.list before.sink after.sink (Err fault)) → TookPart before.sink after.sink (with_lf (last_line a.0))
     → Leaves quits after.list h → CutShort s (link source sink) (link after.source after.sink) h
 cut_short s source sink before after h quits fault g line took is a part l =
     let reply : Reply = a.0 in

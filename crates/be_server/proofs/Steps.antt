@@ -5,11 +5,11 @@ use Rattle.std.proofs.lemmas.List.{append-nil}
 use Rattle.std.proofs.lemmas.List.Folds.{list_all-append}
 use Rattle.be_model.specs.Schemas.{Attributes}
 use Rattle.be_change.specs.History.{Entry}
-use Rattle.be_change.specs.Requests.{Refusal, Request, refused, subscribe, unsubscribe, publish, listing, quit, Reply, refusal, ok, bye, dup, none, hit, listed, no_memory, Exchange}
+use Rattle.be_change.specs.Requests.{Request, refused, subscribe, unsubscribe, publish, costing, listing, quit, Reply, refusal, ok, bye, dup, none, hit, cost, listed, no_memory, Exchange}
 use Rattle.be_change.specs.Walk.{Walk, beginning_at, having_seen, having_changed, accepted, place_accepted}
-use Rattle.be_change.specs.Made.{made, changes_made, change_made}
+use Rattle.be_change.specs.Made.{made, change_made}
 use Rattle.be_change.specs.Alone.{RunsAlone, RanAlone}
-use Rattle.be_change.proofs.Alone.{alone_beginning, alone_same, alone_subscribed, alone_unsubscribed, alone_name, alone_dup, alone_none, alone_hit, alone_listed, alone_ran, alone_bye, alone_quit_no_memory, made-snoc, made_kept, made_entries, accepted-append}
+use Rattle.be_change.proofs.Alone.{alone_beginning, alone_same, alone_subscribed, alone_unsubscribed, alone_name, alone_dup, alone_none, alone_hit, alone_cost, alone_listed, alone_ran, alone_bye, alone_quit_no_memory, made-snoc, made_kept, made_entries, accepted-append}
 use Rattle.be_change.proofs.Places.{places_count}
 use Rattle.be_transcript.specs.Replies.{first_lines}
 use Rattle.be_transcript.specs.Runs.{comes_in_run, length_told, IsTold, TellsCounts, RemovalMayWant, RemovalsMayWant, AreAlone, is_quit}
@@ -24,26 +24,28 @@ tie_beginning s = record {
 }
 
 -- a reply that fits the list comes in a run
-comes : (h after : List Entry) (r : Request) (q : Reply) → Replies h r q after → comes_in_run false q ≡ true
-comes h after (subscribe name conj) (ok n) f = refl
-comes h after (unsubscribe name) (ok n) f = refl
-comes h after quit (bye n) f = refl
-comes h after (subscribe name conj) (dup m id) f = refl
-comes h after (unsubscribe name) (none m) f = refl
-comes h after (publish e) (hit n names) f = refl
-comes h after listing (listed n names) f = refl
-comes h after (refused r) (refusal s) f = refl
-comes h after r no_memory f = refl
-comes h after _ _ f = absurd f
+comes : (s : Attributes) (h after : List Entry) (r : Request) (q : Reply) → Replies s h r q after → comes_in_run false q ≡ true
+comes s h after (subscribe name conj) (ok n) f = refl
+comes s h after (unsubscribe name) (ok n) f = refl
+comes s h after quit (bye n) f = refl
+comes s h after (subscribe name conj) (dup m id) f = refl
+comes s h after (unsubscribe name) (none m) f = refl
+comes s h after (publish e) (hit n names) f = refl
+comes s h after (costing e) (cost n c) f = refl
+comes s h after listing (listed n names) f = refl
+comes s h after (refused r) (refusal t) f = refl
+comes s h after r no_memory f = refl
+comes s h after _ _ f = absurd f
 
 -- and is of one line
-pub one_line : (s : Attributes) (h after : List Entry) (r : Request) (q : Reply) → Replies h r q after → first_lines s q ≡ []
+pub one_line : (s : Attributes) (h after : List Entry) (r : Request) (q : Reply) → Replies s h r q after → first_lines s q ≡ []
 one_line s h after (subscribe name conj) (ok n) f = refl
 one_line s h after (unsubscribe name) (ok n) f = refl
 one_line s h after quit (bye n) f = refl
 one_line s h after (subscribe name conj) (dup m id) f = refl
 one_line s h after (unsubscribe name) (none m) f = refl
 one_line s h after (publish e) (hit n names) f = refl
+one_line s h after (costing e) (cost n c) f = refl
 one_line s h after listing (listed n names) f = refl
 one_line s h after (refused r) (refusal t) f = refl
 one_line s h after r no_memory f = refl
@@ -77,28 +79,29 @@ unchanged : (h : List Entry) (n m : ℕ) → n ≡ length h → m ≡ length h �
 unchanged h n m e f = omega arith
 
 -- a reply that fits the list tells how many they are
-told : (h after : List Entry) (n : ℕ) (r : Request) (q : Reply) → n ≡ length h → Replies h r q after → IsTold (n + length (accepted ((r, q) ∷ []))) (length_told q)
-told h after n (subscribe name conj) (ok m) e f = f.1.0 ∙ ap (λ (l : ℕ). l + 1) (sym e)
-told h after n (unsubscribe name) (ok m) e f = f.1.0 ∙ ap (λ (l : ℕ). l + 1) (sym e)
-told h after n quit (bye m) e f = f.0 ∙ ap (λ (l : ℕ). l + 1) (sym e)
-told h after n (subscribe name conj) (dup m id) e f = unchanged h n m e f.0
-told h after n (unsubscribe name) (none m) e f = unchanged h n m e f.0
-told h after n (publish x) (hit m names) e f = unchanged h n m e f.0
-told h after n listing (listed m names) e f = unchanged h n m e f.0
-told h after n (refused r) (refusal s) e f = tt
-told h after n r no_memory e f = tt
-told h after n _ _ e f = absurd f
+told : (s : Attributes) (h after : List Entry) (n : ℕ) (r : Request) (q : Reply) → n ≡ length h → Replies s h r q after → IsTold (n + length (accepted ((r, q) ∷ []))) (length_told q)
+told s h after n (subscribe name conj) (ok m) e f = f.1.0 ∙ ap (λ (l : ℕ). l + 1) (sym e)
+told s h after n (unsubscribe name) (ok m) e f = f.1.0 ∙ ap (λ (l : ℕ). l + 1) (sym e)
+told s h after n quit (bye m) e f = f.0 ∙ ap (λ (l : ℕ). l + 1) (sym e)
+told s h after n (subscribe name conj) (dup m id) e f = unchanged h n m e f.0
+told s h after n (unsubscribe name) (none m) e f = unchanged h n m e f.0
+told s h after n (publish x) (hit m names) e f = unchanged h n m e f.0
+told s h after n (costing x) (cost m c) e f = unchanged h n m e f.0
+told s h after n listing (listed m names) e f = unchanged h n m e f.0
+told s h after n (refused r) (refusal t) e f = tt
+told s h after n r no_memory e f = tt
+told s h after n _ _ e f = absurd f
 
-counts_step : (s : Attributes) (ps : List Exchange) (w : Walk) (after : List Entry) (r : Request) (q : Reply) → RunsAlone s [] 1 ps w → TellsCounts 0 ps → Replies (made [] 1 ps) r q after
+counts_step : (s : Attributes) (ps : List Exchange) (w : Walk) (after : List Entry) (r : Request) (q : Reply) → RunsAlone s [] 1 ps w → TellsCounts 0 ps → Replies s (made [] 1 ps) r q after
     → TellsCounts 0 (ps ++ (r, q) ∷ [])
 counts_step s ps w after r q a counts f =
     let many : 0 + length (accepted ps) ≡ length (made [] 1 ps) = omega (arith, as_many s ps w a) in
-    counts_push 0 ps (r, q) counts (told (made [] 1 ps) after (0 + length (accepted ps)) r q many f)
+    counts_push 0 ps (r, q) counts (told s (made [] 1 ps) after (0 + length (accepted ps)) r q many f)
 
 -- memory was wanting to a removal only where the name is live
-may_want : (h after : List Entry) (r : Request) (q : Reply) → Replies h r q after → RemovalMayWant h (r, q)
-may_want h after (unsubscribe name) no_memory f = f.0
-may_want h after _ _ f = tt
+may_want : (s : Attributes) (h after : List Entry) (r : Request) (q : Reply) → Replies s h r q after → RemovalMayWant h (r, q)
+may_want s h after (unsubscribe name) no_memory f = f.0
+may_want s h after _ _ f = tt
 
 removals_push : (before ps : List Exchange) (p : Exchange) → RemovalsMayWant [] before ps → RemovalMayWant (made [] 1 (before ++ ps)) p → RemovalsMayWant [] before (ps ++ p ∷ [])
 removals_push before [] p all last = (subst (λ (qs : List Exchange). RemovalMayWant (made [] 1 qs) p) (append-nil before) last, tt)
@@ -108,12 +111,12 @@ removals_push before (q ∷ ps) p all last = (
 )
 
 -- what is known of the replies is known of one more that fits the list
-alone_step : (s : Attributes) (ps : List Exchange) (w : Walk) (after : List Entry) (r : Request) (q : Reply) → RunsAlone s [] 1 ps w → AreAlone [] ps → Replies (made [] 1 ps) r q after
+alone_step : (s : Attributes) (ps : List Exchange) (w : Walk) (after : List Entry) (r : Request) (q : Reply) → RunsAlone s [] 1 ps w → AreAlone [] ps → Replies s (made [] 1 ps) r q after
     → AreAlone [] (ps ++ (r, q) ∷ [])
 alone_step s ps w after r q a o f = record {
-  plain = plain_push ps (r, q) o.plain (comes (made [] 1 ps) after r q f);
+  plain = plain_push ps (r, q) o.plain (comes s (made [] 1 ps) after r q f);
   counts = counts_step s ps w after r q a o.counts f;
-  removals = removals_push [] ps (r, q) o.removals (may_want (made [] 1 ps) after r q f);
+  removals = removals_push [] ps (r, q) o.removals (may_want s (made [] 1 ps) after r q f);
 }
 
 -- how the walk goes on with one more exchange
@@ -146,7 +149,7 @@ stays s ps next r q after nothing is a = record {
 }
 
 -- over the list that the exchanges made
-walk_step : (s : Attributes) (ps : List Exchange) (w : Walk) (after : List Entry) (r : Request) (q : Reply) → RunsAlone s [] 1 ps w → Replies (made [] 1 ps) r q after → Walked s ps r q after
+walk_step : (s : Attributes) (ps : List Exchange) (w : Walk) (after : List Entry) (r : Request) (q : Reply) → RunsAlone s [] 1 ps w → Replies s (made [] 1 ps) r q after → Walked s ps r q after
 walk_step s ps w after (refused r) (refusal q) a f =
     stays s ps w (refused r) (refusal q) after refl f.1 (alone_same s [] 1 ps w (refused r) (refusal q) a refl (f.0, refl))
 walk_step s ps w after (subscribe name conj) (ok n) a f =
@@ -165,6 +168,10 @@ walk_step s ps w after (publish e) (hit n names) a f =
     stays s ps (having_seen n w) (publish e) (hit n names) after refl f.2 (alone_hit s [] 1 ps w e n names a f.0 f.1)
 walk_step s ps w after (publish e) no_memory a f =
     stays s ps w (publish e) no_memory after refl f (alone_same s [] 1 ps w (publish e) no_memory a refl refl)
+walk_step s ps w after (costing e) (cost n c) a f =
+    stays s ps (having_seen n w) (costing e) (cost n c) after refl f.2 (alone_cost s [] 1 ps w e n c a f.0 f.1)
+walk_step s ps w after (costing e) no_memory a f =
+    stays s ps w (costing e) no_memory after refl f (alone_same s [] 1 ps w (costing e) no_memory a refl refl)
 walk_step s ps w after listing (listed n names) a f =
     stays s ps (having_seen n w) listing (listed n names) after refl f.2 (alone_listed s [] 1 ps w n names a f.0 f.1)
 walk_step s ps w after listing no_memory a f =
@@ -187,9 +194,9 @@ pub record Stepped (s : Attributes) (ps : List Exchange) (r : Request) (q : Repl
   pub replies : AreAlone [] (ps ++ (r, q) ∷ [])
 
 -- one more exchange that fits the list
-pub tie_step : (s : Attributes) (ps : List Exchange) (w : Walk) (h after : List Entry) (r : Request) (q : Reply) → Ties s ps w h → Replies h r q after → Stepped s ps r q after
+pub tie_step : (s : Attributes) (ps : List Exchange) (w : Walk) (h after : List Entry) (r : Request) (q : Reply) → Ties s ps w h → Replies s h r q after → Stepped s ps r q after
 tie_step s ps w h after r q t f =
-    let fits : Replies (made [] 1 ps) r q after = subst (λ (l : List Entry). Replies l r q after) (sym t.made_is) f in
+    let fits : Replies s (made [] 1 ps) r q after = subst (λ (l : List Entry). Replies s l r q after) (sym t.made_is) f in
     record { walked = walk_step s ps w after r q t.alone fits; replies = alone_step s ps w after r q t.alone t.replies fits }
 
 -- the session goes on after it

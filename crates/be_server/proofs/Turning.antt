@@ -10,7 +10,7 @@ use Rattle.be_io.specs.declared.lines.Line.TheVariants.{Text, Long, End}
 use Rattle.be_io.specs.declared.faults.SinkFault.{SinkFault}
 use Rattle.be_io.specs.declared.faults.SinkFault.TheVariants.{Failed, NoMemory}
 use Rattle.be_change.specs.History.{Entry}
-use Rattle.be_change.specs.Requests.{Request, refused, subscribe, unsubscribe, publish, costing, listing, sending, fetching, dumping, tailing, quit, Reply, no_memory}
+use Rattle.be_change.specs.Requests.{Request, subscribe, publish, costing, quit, Reply, no_memory}
 use Rattle.be_model.specs.Schemas.{Attributes}
 use Rattle.be_transcript.specs.Readings.{reading}
 use Rattle.be_transcript.specs.Replies.{last_line, with_lf}
@@ -78,34 +78,35 @@ took_long before after len going gives fits reads kept faults =
     }
 
 -- an answered request, after its write
-pub turns_after : (h after : List Entry) (r : Request) (before held : SinkState) (result : Result (Unit {0}) SinkFault) → is_quit r ≡ false
-    → Answered h r after before held result → TurnsAfter h r after before held (turn_after result)
-turns_after h after r before held (Ok x) goes a = (goes, a)
-turns_after h after r before held (Err Failed) goes a = (goes, a)
-turns_after h after r before held (Err NoMemory) goes a = (goes, a)
+pub turns_after : (s : Attributes) (h after : List Entry) (r : Request) (before held : SinkState) (result : Result (Unit {0}) SinkFault) → is_quit r ≡ false
+    → Answered s h r after before held result → TurnsAfter s h r after before held (turn_after result)
+turns_after s h after r before held (Ok x) goes a = (goes, a)
+turns_after s h after r before held (Err Failed) goes a = (goes, a)
+turns_after s h after r before held (Err NoMemory) goes a = (goes, a)
 
-pub turns_after_quit : (h after : List Entry) (before held : SinkState) (result : Result (Unit {0}) SinkFault)
-    → Answered h quit after before held result → TurnsAfter h quit after before held (turn_after_quit result)
-turns_after_quit h after before held (Ok x) a = (refl, a)
-turns_after_quit h after before held (Err Failed) a = (refl, a)
-turns_after_quit h after before held (Err NoMemory) a = (refl, a)
+pub turns_after_quit : (s : Attributes) (h after : List Entry) (before held : SinkState) (result : Result (Unit {0}) SinkFault)
+    → Answered s h quit after before held result → TurnsAfter s h quit after before held (turn_after_quit result)
+turns_after_quit s h after before held (Ok x) a = (refl, a)
+turns_after_quit s h after before held (Err Failed) a = (refl, a)
+turns_after_quit s h after before held (Err NoMemory) a = (refl, a)
 
 -- a request other than QUIT was given this reply
-pub said : (h after : List Entry) (r : Request) (q : Reply) (before held : SinkState) (result : Result (Unit {0}) SinkFault) (turn : Turn) → is_quit r ≡ false
-    → Replies h r q after → Wrote before held (with_lf (last_line q)) result → turn ≡ turn_after result → TurnsAfter h r after before held turn
-said h after r q before held result turn goes fits wrote is =
-    subst (λ (t : Turn). TurnsAfter h r after before held t) (sym is) (turns_after h after r before held result goes (q, fits, wrote))
+pub said : (s : Attributes) (h after : List Entry) (r : Request) (q : Reply) (before held : SinkState) (result : Result (Unit {0}) SinkFault) (turn : Turn) → is_quit r ≡ false
+    → Replies s h r q after → Wrote before held (with_lf (last_line q)) result → turn ≡ turn_after result → TurnsAfter s h r after before held turn
+said s h after r q before held result turn goes fits wrote is =
+    subst (λ (t : Turn). TurnsAfter s h r after before held t) (sym is) (turns_after s h after r before held result goes (q, fits, wrote))
 
 -- memory was wanting to read a request
-pub wanted_memory : (h : List Entry) (r : Request) (before held : SinkState) (result : Result (Unit {0}) SinkFault) (turn : Turn) → TakesMemory r
-    → Wrote before held (with_lf (last_line no_memory)) result → turn ≡ turn_after result → TurnsAfter h r h before held turn
-wanted_memory h (subscribe name conj) before held result turn takes wrote is = said h h (subscribe name conj) no_memory before held result turn refl refl wrote is
-wanted_memory h (publish e) before held result turn takes wrote is = said h h (publish e) no_memory before held result turn refl refl wrote is
-wanted_memory h _ before held result turn takes wrote is = absurd takes
+pub wanted_memory : (s : Attributes) (h : List Entry) (r : Request) (before held : SinkState) (result : Result (Unit {0}) SinkFault) (turn : Turn) → TakesMemory r
+    → Wrote before held (with_lf (last_line no_memory)) result → turn ≡ turn_after result → TurnsAfter s h r h before held turn
+wanted_memory s h (subscribe name conj) before held result turn takes wrote is = said s h h (subscribe name conj) no_memory before held result turn refl refl wrote is
+wanted_memory s h (publish e) before held result turn takes wrote is = said s h h (publish e) no_memory before held result turn refl refl wrote is
+wanted_memory s h (costing e) before held result turn takes wrote is = said s h h (costing e) no_memory before held result turn refl refl wrote is
+wanted_memory s h _ before held result turn takes wrote is = absurd takes
 
 -- an answered line ends the session or not
 pub turned_line : (s : Attributes) (before after : TurnState) (line : TextLine) (turn : Turn) → TookLine before after line
-    → TurnsAfter before.list (reading s line) after.list before.sink after.sink turn → Turned s before after turn
+    → TurnsAfter s before.list (reading s line) after.list before.sink after.sink turn → Turned s before after turn
 turned_line s before after line Next took t = (line, took, t)
 turned_line s before after line (Over ends.WriteFault) took t = (line, took, t)
 turned_line s before after line (Over ends.NoMemory) took t = (line, took, t)

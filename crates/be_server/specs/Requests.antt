@@ -1,11 +1,16 @@
 -- What a line was read as, as plain data.
-use Rattle.std.specs.Prelude.{◌≡◌, Result, Ok, Err}
+use Rattle.std.specs.Prelude.{◌≡◌, Bool, true, false, Result, Ok, Err}
 use Rattle.be_base.specs.declared.names.NoMemory.{NoMemory}
 use Rattle.be_change.specs.Requests as asked
 use Rattle.be_server.specs.declared.requests.Refusal.{Refusal}
 use Rattle.be_server.specs.declared.requests.Refusal.TheVariants.{Bad, Long, Attr, Dom, Twice, Many}
+use Rattle.be_model.specs.Lies.{conj_lies, event_lies}
+use Rattle.be_model.specs.Matching.{Assignments}
+use Rattle.be_model.specs.Schemas.{Attributes}
+use Rattle.be_server.specs.declared.requests.EventCommand.{EventCommand}
+use Rattle.be_server.specs.declared.requests.EventCommand.TheVariants.{Publish as Publishing, Cost as OfCost}
 use Rattle.be_server.specs.declared.requests.Request.{Request}
-use Rattle.be_server.specs.declared.requests.Request.TheVariants.{Subscribe, Unsubscribe, Publish, Listing, Quit, Refused}
+use Rattle.be_server.specs.declared.requests.Request.TheVariants.{Subscribe, Unsubscribe, Publish, Costing, Listing, Quit, Refused}
 
 abbrev pub plain_refusal : Refusal → asked.Refusal
 plain_refusal Bad = asked.bad
@@ -19,14 +24,41 @@ abbrev pub plain_request : Request → asked.Request
 plain_request (Subscribe subscription) = asked.subscribe subscription.name subscription.conj
 plain_request (Unsubscribe name) = asked.unsubscribe name
 plain_request (Publish event) = asked.publish event
+plain_request (Costing event) = asked.costing event
 plain_request Listing = asked.listing
 plain_request Quit = asked.quit
 plain_request (Refused refusal) = asked.refused (plain_refusal refusal)
+
+-- what is asked of an event
+abbrev pub asks : EventCommand → Assignments → asked.Request
+asks Publishing = asked.publish
+asks OfCost = asked.costing
+
+-- what the request asks lies in the schema
+abbrev pub request_lies : Attributes → Request → Bool
+request_lies s (Subscribe subscription) = conj_lies s subscription.conj
+request_lies s (Publish event) = event_lies s event
+request_lies s (Costing event) = event_lies s event
+request_lies s (Unsubscribe name) = true
+request_lies s Listing = true
+request_lies s Quit = true
+request_lies s (Refused refusal) = true
+
+-- the request names neither a condition nor an event
+abbrev pub asks_nothing : Request → Bool
+asks_nothing (Subscribe subscription) = false
+asks_nothing (Publish event) = false
+asks_nothing (Costing event) = false
+asks_nothing (Unsubscribe name) = true
+asks_nothing Listing = true
+asks_nothing Quit = true
+asks_nothing (Refused refusal) = true
 
 -- only a condition and an event take memory
 abbrev pub TakesMemory : asked.Request → Type 0
 TakesMemory (asked.subscribe name conj) = Unit {0}
 TakesMemory (asked.publish event) = Unit {0}
+TakesMemory (asked.costing event) = Unit {0}
 TakesMemory _ = ⊥
 
 abbrev pub Reads : Result Request NoMemory → asked.Request → Type 0

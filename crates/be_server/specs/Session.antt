@@ -38,9 +38,9 @@ turn_after_quit (Err Failed) = turns.AfterQuit ends.WriteFault
 turn_after_quit (Err NoMemory) = turns.AfterQuit ends.NoMemory
 
 -- a request was given a reply that fits the list of changes, as far as the sink took it
-abbrev pub Answered : List Entry → Request → List Entry → SinkState → SinkState → Result (Unit {0}) SinkFault → Type 0
-Answered h request after before held result =
-    (reply : Reply) × Replies h request reply after × Wrote before held (with_lf (last_line reply)) result
+abbrev pub Answered : Attributes → List Entry → Request → List Entry → SinkState → SinkState → Result (Unit {0}) SinkFault → Type 0
+Answered s h request after before held result =
+    (reply : Reply) × Replies s h request reply after × Wrote before held (with_lf (last_line reply)) result
 
 -- a session goes on over these
 pub record TurnState : Type 0 where
@@ -88,14 +88,14 @@ pub record TookBreak (before after : TurnState) : Type 0 where
   pub next : WhereTold before.source.left after.source.left (λ b a. BreaksOff (before.reader.unread ++ b) a)
 
 -- a request was answered, and the session goes on so
-abbrev pub TurnsAfter : List Entry → Request → List Entry → SinkState → SinkState → Turn → Type 0
-TurnsAfter h r after before held turns.Next = (is_quit r ≡ false) × Answered h r after before held (Ok tt)
-TurnsAfter h r after before held (turns.Over ends.WriteFault) = (is_quit r ≡ false) × Answered h r after before held (Err Failed)
-TurnsAfter h r after before held (turns.Over ends.NoMemory) = (is_quit r ≡ false) × Answered h r after before held (Err NoMemory)
-TurnsAfter h r after before held (turns.AfterQuit ends.Quit) = (is_quit r ≡ true) × Answered h r after before held (Ok tt)
-TurnsAfter h r after before held (turns.AfterQuit ends.WriteFault) = (is_quit r ≡ true) × Answered h r after before held (Err Failed)
-TurnsAfter h r after before held (turns.AfterQuit ends.NoMemory) = (is_quit r ≡ true) × Answered h r after before held (Err NoMemory)
-TurnsAfter h r after before held _ = ⊥
+abbrev pub TurnsAfter : Attributes → List Entry → Request → List Entry → SinkState → SinkState → Turn → Type 0
+TurnsAfter s h r after before held turns.Next = (is_quit r ≡ false) × Answered s h r after before held (Ok tt)
+TurnsAfter s h r after before held (turns.Over ends.WriteFault) = (is_quit r ≡ false) × Answered s h r after before held (Err Failed)
+TurnsAfter s h r after before held (turns.Over ends.NoMemory) = (is_quit r ≡ false) × Answered s h r after before held (Err NoMemory)
+TurnsAfter s h r after before held (turns.AfterQuit ends.Quit) = (is_quit r ≡ true) × Answered s h r after before held (Ok tt)
+TurnsAfter s h r after before held (turns.AfterQuit ends.WriteFault) = (is_quit r ≡ true) × Answered s h r after before held (Err Failed)
+TurnsAfter s h r after before held (turns.AfterQuit ends.NoMemory) = (is_quit r ≡ true) × Answered s h r after before held (Err NoMemory)
+TurnsAfter s h r after before held _ = ⊥
 
 -- nothing was answered
 pub record IsSilent (before after : TurnState) : Type 0 where
@@ -105,7 +105,7 @@ pub record IsSilent (before after : TurnState) : Type 0 where
 -- the line was read and answered, and the session goes on so
 abbrev pub AnswersLine : Attributes → TurnState → TurnState → Turn → Type 0
 AnswersLine s before after turn =
-    (line : TextLine) × TookLine before after line × TurnsAfter before.list (reading s line) after.list before.sink after.sink turn
+    (line : TextLine) × TookLine before after line × TurnsAfter s before.list (reading s line) after.list before.sink after.sink turn
 
 -- what a turn did, after which the session goes on so
 abbrev pub Turned : Attributes → TurnState → TurnState → Turn → Type 0

@@ -1,13 +1,15 @@
 //! What a session's line asks for.
 
-ghost use Rattle.std.specs.Prelude.{◌≡◌, Some};
+ghost use Rattle.std.specs.Prelude.{◌≡◌, true, Some, IfOk};
+ghost use Rattle.be_model.specs.Lies.{event_lies};
+ghost use Rattle.be_model.specs.Schemas.{Attributes};
 ghost use Rattle.be_base.specs.Tokens.{word, tokens, put_token};
 ghost use Rattle.be_io.specs.Lines as line;
 ghost use Rattle.be_change.specs.Requests as asked;
 ghost use Rattle.be_transcript.specs.Readings.{reading, subscription, removal, of_event, alone, expr_refusal, event_refusal};
 ghost use Rattle.be_expr.specs.Expressions.{IsKnown as IsKnownExpr};
 ghost use Rattle.be_event.specs.Events.{IsKnown as IsKnownEvent};
-ghost use Rattle.be_server.specs.Requests.{Reads, plain_request, Refuses};
+ghost use Rattle.be_server.specs.Requests.{Reads, asks, asks_nothing, plain_request, request_lies, Refuses};
 
 use be_base::{AttrNo, Name, NoMemory, Scan, Token, next_token};
 use be_event::{EventFault, read_event};
@@ -45,15 +47,36 @@ pub enum Request {
     Subscribe(Subscription),
     Unsubscribe(Name),
     Publish(Event),
+    Costing(Event),
     Listing,
     Quit,
     Refused(Refusal),
 }
 
+// What a line asks of its event.
+#[derive(Clone, Copy)]
+enum EventCommand {
+    Publish,
+    Cost,
+}
+
+impl EventCommand {
+    fn of(self, event: Event) -> Request
+        ensures request { plain_request result ≡ asks self event }
+        ensures lies { (s : Attributes) → request_lies s result ≡ event_lies s event }
+    {
+        match self {
+            EventCommand::Publish => Request::Publish(event),
+            EventCommand::Cost => Request::Costing(event),
+        }
+    }
+}
+
 /// Reads a line. Only a line without a fault takes memory.
 #[tactic(auto, using(crate::proofs::Commanded::request_word))]
 pub fn read_line(alloc: Global, schema: &Schema, text: &[u8]) -> Result<Request, NoMemory>
-    ensures { Reads result (reading schema.now (line.text text.now)) }
+    ensures read { Reads result (reading schema.now (line.text text.now)) }
+    ensures lies { IfOk result (λ request. request_lies schema.now request ≡ true) }
 {
     let Scan::Found(Token::Word(command), rest) = next_token(text) else {
         return Ok(Request::Refused(Refusal::Bad));
@@ -65,7 +88,10 @@ pub fn read_line(alloc: Global, schema: &Schema, text: &[u8]) -> Result<Request,
         return Ok(read_removal(rest));
     }
     if command == b"PUB".as_slice() {
-        return read_publication(alloc, schema, rest);
+        return read_event_line(alloc, schema, EventCommand::Publish, rest);
+    }
+    if command == b"COST".as_slice() {
+        return read_event_line(alloc, schema, EventCommand::Cost, rest);
     }
     if command == b"LIST".as_slice() {
         return Ok(read_end(Request::Listing, rest));
@@ -78,7 +104,9 @@ pub fn read_line(alloc: Global, schema: &Schema, text: &[u8]) -> Result<Request,
 
 // The request, where no token follows.
 fn read_end(request: Request, rest: &[u8]) -> Request
-    ensures { plain_request result ≡ alone (plain_request request) (tokens rest.now) }
+    requires { asks_nothing request ≡ true }
+    ensures read { plain_request result ≡ alone (plain_request request) (tokens rest.now) }
+    ensures free { asks_nothing result ≡ true }
 {
     match next_token(rest) {
         Scan::End => request,
@@ -88,7 +116,8 @@ fn read_end(request: Request, rest: &[u8]) -> Request
 
 // A name, and no token after it.
 fn read_removal(text: &[u8]) -> Request
-    ensures { plain_request result ≡ removal (tokens text.now) }
+    ensures read { plain_request result ≡ removal (tokens text.now) }
+    ensures free { asks_nothing result ≡ true }
 {
     let Scan::Found(Token::Word(name), rest) = next_token(text) else {
         return Request::Refused(Refusal::Bad);
@@ -100,7 +129,8 @@ fn read_removal(text: &[u8]) -> Request
 }
 
 fn read_subscription(alloc: Global, schema: &Schema, text: &[u8]) -> Result<Request, NoMemory>
-    ensures { Reads result (subscription schema.now (tokens text.now)) }
+    ensures read { Reads result (subscription schema.now (tokens text.now)) }
+    ensures lies { IfOk result (λ request. request_lies schema.now request ≡ true) }
 {
     let Scan::Found(Token::Word(name), rest) = next_token(text) else {
         return Ok(Request::Refused(Refusal::Bad));
@@ -114,11 +144,18 @@ fn read_subscription(alloc: Global, schema: &Schema, text: &[u8]) -> Result<Requ
     }
 }
 
-fn read_publication(alloc: Global, schema: &Schema, text: &[u8]) -> Result<Request, NoMemory>
-    ensures { Reads result (of_event asked.publish schema.now (tokens text.now)) }
+// An event, and no token after it.
+fn read_event_line(
+    alloc: Global,
+    schema: &Schema,
+    command: EventCommand,
+    text: &[u8],
+) -> Result<Request, NoMemory>
+    ensures read { Reads result (of_event (asks command) schema.now (tokens text.now)) }
+    ensures lies { IfOk result (λ request. request_lies schema.now request ≡ true) }
 {
     match read_event(alloc, schema, text) {
-        Ok(event) => Ok(Request::Publish(event)),
+        Ok(event) => Ok(command.of(event)),
         Err(fault) => Ok(Request::Refused(of_event(schema, fault)?)),
     }
 }

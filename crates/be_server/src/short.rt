@@ -8,6 +8,7 @@ ghost use Rattle.be_server.specs.Short.{plain_reply};
 use crate::requests::Refusal;
 use arrayvec::ArrayString;
 use be_base::Name;
+use be_model::Cost;
 use itoa::Buffer;
 
 /// A reply that names no list of rows.
@@ -17,6 +18,7 @@ pub enum Short {
     Bye { n: u64 },
     Dup { m: u64, id: u64 },
     NoName { m: u64 },
+    Costs { n: u64, cost: Cost },
     Refused(Refusal),
     NoMemory,
 }
@@ -35,6 +37,11 @@ impl Short {
                 push_number(&mut text, id);
             }
             Short::NoName { m } => push_one(&mut text, "NONE", m),
+            Short::Costs { n, cost } => {
+                push_one(&mut text, "COST", n);
+                push_number(&mut text, cost.visits);
+                push_number(&mut text, cost.tested);
+            }
             Short::Refused(refusal) => push_refusal(&mut text, refusal),
             Short::NoMemory => push(&mut text, "NOMEM"),
         }

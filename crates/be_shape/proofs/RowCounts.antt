@@ -36,7 +36,7 @@ rows_from ps i p l is =
     let b = rows_in_parts (parts_as (drop (i + 1) ps)) in
     ap (λ xs. length (rows_in_parts (parts_as xs))) (drop_more ps i p l ∙ ap (λ q. q ∷ drop (i + 1) ps) (sym is)) ∙ length-append a b ∙ ap (λ m. m + length b) (sym (ap length (append-nil a)))
 
-lies_low : (s : Attributes) (rows : List Row) → list_all (may_stand s) rows ≡ true → list_all (λ row. ltb (id_of row) LOG_CHANGES) rows ≡ true
+pub lies_low : (s : Attributes) (rows : List Row) → list_all (may_stand s) rows ≡ true → list_all (λ row. ltb (id_of row) LOG_CHANGES) rows ≡ true
 lies_low s [] h = refl
 lies_low s (row ∷ rows) h =
     let m = and_left (may_stand s row) (list_all (may_stand s) rows) h in

@@ -90,11 +90,11 @@ the_empty_event : reading example (text (codes "PUB -")) ≡ publish []
 unfolding is_word_byte
 the_empty_event = refl
 
--- commands that aren't read yet
-a_later_cost : reading example (text (codes "COST price=1")) ≡ refused bad
+a_cost_line : reading example (text (codes "COST price=1")) ≡ costing ((record { 0 = 0 }, pos 1 ∷ []) ∷ [])
 unfolding is_word_byte
-a_later_cost = refl
+a_cost_line = refl
 
+-- commands that aren't read yet
 a_later_send : reading example (text (codes "SEND -")) ≡ refused bad
 unfolding is_word_byte
 a_later_send = refl

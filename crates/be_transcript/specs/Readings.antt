@@ -108,7 +108,7 @@ commands =
     built (codes "SUB") subscription
     ∷ built (codes "UNSUB") (λ s. removal)
     ∷ built (codes "PUB") (of_event publish)
-    ∷ unbuilt (codes "COST") (of_event costing)
+    ∷ built (codes "COST") (of_event costing)
     ∷ built (codes "LIST") (λ s. alone listing)
     ∷ unbuilt (codes "SEND") (of_event sending)
     ∷ unbuilt (codes "FETCH") (λ s. fetch)

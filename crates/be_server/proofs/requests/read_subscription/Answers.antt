@@ -8,8 +8,8 @@ use Rattle.be_transcript.specs.Readings.{subscription}
 use Rattle.be_server.proofs.Commanded.{expr_fault, faulty_subscription}
 use Rattle.be_server.proofs.requests.read_subscription.Goals as goal
 
-pub returns-in_ok-of_expr-in-Err : goal.returns-in_ok-of_expr-in-Err
-returns-in_ok-of_expr-in-Err c =
+pub returns-in_ok-of_expr-in-Err-clause-read : goal.returns-in_ok-of_expr-in-Err-clause-read
+returns-in_ok-of_expr-in-Err-clause-read c =
     let s = c.args.schema.now in
     let name = c.in-Found-Word-default.name.now in
     let rest = c.in-Found-Word-default.rest.now in

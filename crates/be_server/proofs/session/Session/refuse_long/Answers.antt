@@ -11,6 +11,6 @@ pub returns : goal.returns
 returns g c =
     let before : SinkState = sink_state g.K.Sink c.args.out.now in
     let after : SinkState = sink_state g.K.Sink c.say.new.out in
-    subst (λ t. TurnsAfter c.args.self.now.subscriptions (asked.refused asked.long) c.args.self.now.subscriptions before after t) (sym c.turn_after.ensures)
-    (turns_after c.args.self.now.subscriptions c.args.self.now.subscriptions (asked.refused asked.long) before after c.say.result refl
+    subst (λ t. TurnsAfter c.args.schema.now c.args.self.now.subscriptions.list (asked.refused asked.long) c.args.self.now.subscriptions.list before after t) (sym c.turn_after.ensures)
+    (turns_after c.args.schema.now c.args.self.now.subscriptions.list c.args.self.now.subscriptions.list (asked.refused asked.long) before after c.say.result refl
     (asked.refusal asked.long, (refl, refl), c.say.ensures))

@@ -7,7 +7,8 @@ use Rattle.be_server.proofs.session.Session.serve.Goals as goal
 
 pub lines-init : goal.lines-init
 lines-init g c = let taken : c.in-Ok.reader.taken ≡ 0 = ap (λ (x : ReaderState). x.taken) c.in-Ok.ensures in record {
-  serving = serves_first c.args.schema.now (source_state g.S.Source c.args.input.now) (sink_state g.K.Sink c.args.out.now) c.in-Ok.reader c.args.self.now.subscriptions c.in-Ok.ensures c.requires;
+  serving = serves_first c.args.schema.now (source_state g.S.Source c.args.input.now) (sink_state g.K.Sink c.args.out.now) c.in-Ok.reader c.args.self.now.subscriptions.list c.in-Ok.ensures c.requires.empty;
+  schema = c.requires.schema;
   bound = omega (arith, taken);
 }
 
@@ -18,16 +19,17 @@ lines-preserved g c = record {
         reader = c.lines.reader;
         source = source_state g.S.Source c.lines.input;
         sink = sink_state g.K.Sink c.lines.out;
-        list = c.lines.self.subscriptions;
+        list = c.lines.self.subscriptions.list;
       })
       (record {
         reader = c.take_turn.new.reader;
         source = source_state g.S.Source c.take_turn.new.input;
         sink = sink_state g.K.Sink c.take_turn.new.out;
-        list = c.take_turn.new.self.subscriptions;
+        list = c.take_turn.new.self.subscriptions.list;
       })
       c.lines.invariant.serving c.in-Next.ensures.turned c.in-Next.ensures.alike;
   bound = c.take_turn.ensures.bound;
+  schema = c.take_turn.ensures.schema;
 }
 
 pub leave-requires : goal.leave-requires
@@ -36,13 +38,13 @@ leave-requires g c = over_present c.args.schema.now (source_state g.S.Source c.a
       reader = c.lines.reader;
       source = source_state g.S.Source c.lines.input;
       sink = sink_state g.K.Sink c.lines.out;
-      list = c.lines.self.subscriptions;
+      list = c.lines.self.subscriptions.list;
     })
     (record {
       reader = c.take_turn.new.reader;
       source = source_state g.S.Source c.take_turn.new.input;
       sink = sink_state g.K.Sink c.take_turn.new.out;
-      list = c.take_turn.new.self.subscriptions;
+      list = c.take_turn.new.self.subscriptions.list;
     })
     c.in-Over.end c.lines.invariant.serving c.in-Over.ensures.turned
 
@@ -52,15 +54,15 @@ returns-in-Over-clause-ends g c = ended_over _ c.args.schema.now (source_state g
       reader = c.lines.reader;
       source = source_state g.S.Source c.lines.input;
       sink = sink_state g.K.Sink c.lines.out;
-      list = c.lines.self.subscriptions;
+      list = c.lines.self.subscriptions.list;
     })
     (record {
       reader = c.take_turn.new.reader;
       source = source_state g.S.Source c.take_turn.new.input;
       sink = sink_state g.K.Sink c.take_turn.new.out;
-      list = c.take_turn.new.self.subscriptions;
+      list = c.take_turn.new.self.subscriptions.list;
     })
-    c.leave.new.self.subscriptions c.in-Over.end c.lines.invariant.serving c.in-Over.ensures.turned c.in-Over.ensures.alike c.leave.ensures
+    c.leave.new.self.subscriptions.list c.in-Over.end c.lines.invariant.serving c.in-Over.ensures.turned c.in-Over.ensures.alike c.leave.ensures
 
 pub returns-in-AfterQuit-clause-ends : goal.returns-in-AfterQuit-clause-ends
 returns-in-AfterQuit-clause-ends g c = ended_quit _ c.args.schema.now (source_state g.S.Source c.args.input.now) (sink_state g.K.Sink c.args.out.now)
@@ -68,13 +70,13 @@ returns-in-AfterQuit-clause-ends g c = ended_quit _ c.args.schema.now (source_st
       reader = c.lines.reader;
       source = source_state g.S.Source c.lines.input;
       sink = sink_state g.K.Sink c.lines.out;
-      list = c.lines.self.subscriptions;
+      list = c.lines.self.subscriptions.list;
     })
     (record {
       reader = c.take_turn.new.reader;
       source = source_state g.S.Source c.take_turn.new.input;
       sink = sink_state g.K.Sink c.take_turn.new.out;
-      list = c.take_turn.new.self.subscriptions;
+      list = c.take_turn.new.self.subscriptions.list;
     })
     c.in-AfterQuit.end c.lines.invariant.serving c.in-AfterQuit.ensures.turned
 
@@ -84,13 +86,13 @@ returns-in-Over-clause-within g c = taken_within c.args.schema.now (source_state
       reader = c.lines.reader;
       source = source_state g.S.Source c.lines.input;
       sink = sink_state g.K.Sink c.lines.out;
-      list = c.lines.self.subscriptions;
+      list = c.lines.self.subscriptions.list;
     })
     (record {
       reader = c.take_turn.new.reader;
       source = source_state g.S.Source c.take_turn.new.input;
       sink = sink_state g.K.Sink c.take_turn.new.out;
-      list = c.take_turn.new.self.subscriptions;
+      list = c.take_turn.new.self.subscriptions.list;
     })
     c.lines.invariant.serving c.in-Over.ensures.alike c.take_turn.ensures.bound
 
@@ -100,12 +102,12 @@ returns-in-AfterQuit-clause-within g c = taken_within c.args.schema.now (source_
       reader = c.lines.reader;
       source = source_state g.S.Source c.lines.input;
       sink = sink_state g.K.Sink c.lines.out;
-      list = c.lines.self.subscriptions;
+      list = c.lines.self.subscriptions.list;
     })
     (record {
       reader = c.take_turn.new.reader;
       source = source_state g.S.Source c.take_turn.new.input;
       sink = sink_state g.K.Sink c.take_turn.new.out;
-      list = c.take_turn.new.self.subscriptions;
+      list = c.take_turn.new.self.subscriptions.list;
     })
     c.lines.invariant.serving c.in-AfterQuit.ensures.alike c.take_turn.ensures.bound

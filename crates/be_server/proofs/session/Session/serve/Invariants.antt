@@ -1,5 +1,5 @@
 -- The session has answered the lines so far. What it has left to read falls with each line.
-use Rattle.std.proofs.Common.{◌-◌, ◌+◌, ◌≤◌, length}
+use Rattle.std.proofs.Common.{◌≡◌, ◌-◌, ◌+◌, ◌≤◌, length}
 use Rattle.be_base.specs.declared.limits.TheConstants.{SOURCE_BYTES}
 use Rattle.be_io.specs.Outside.{source_state, sink_state}
 use Rattle.be_server.specs.Session.{IsServing}
@@ -12,9 +12,10 @@ invariant-lines g l = record {
         reader = l.reader;
         source = source_state g.S.Source l.input;
         sink = sink_state g.K.Sink l.out;
-        list = l.self.subscriptions;
+        list = l.self.subscriptions.list;
       });
   bound : l.reader.taken ≤ SOURCE_BYTES;
+  schema : g.I.Index.schema l.self.subscriptions.index ≡ l.schema;
 }
 
 abbrev pub decreases-lines : goal.decreases-lines

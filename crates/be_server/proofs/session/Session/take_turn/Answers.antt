@@ -17,13 +17,13 @@ returns-in-Ok-Text-clause-turned g c =
       reader = c.args.reader.now;
       source = source_state g.S.Source c.args.input.now;
       sink = sink_state g.K.Sink c.args.out.now;
-      list = c.args.self.now.subscriptions;
+      list = c.args.self.now.subscriptions.list;
     } in
     let after : TurnState = record {
       reader = c.next.new.self;
       source = source_state g.S.Source c.next.new.src;
       sink = sink_state g.K.Sink c.answer_text.new.out;
-      list = c.answer_text.new.self.subscriptions;
+      list = c.answer_text.new.self.subscriptions.list;
     } in
     let is : c.in-Ok-Text.field-0 ≡ Text = c.in-Ok-Text.field-0-is in
     let other : c.in-Ok-Text.field-0 ≡ End → ⊥ = λ (e : c.in-Ok-Text.field-0 ≡ End). let f : Text ≡ End = sym is ∙ e in cc in
@@ -32,7 +32,7 @@ returns-in-Ok-Text-clause-turned g c =
     (subst (λ (l : Line). WhereTold before.source.left after.source.left (λ b a. GivesLine after.reader l (before.reader.unread ++ b) (after.reader.unread ++ a))) is (c.in-Ok-Text.ensures.line going))
     (record { limit = c.in-Ok-Text.ensures.limit ∙ c.requires.reads.limit; sound = c.in-Ok-Text.ensures.sound.0 }) c.in-Ok-Text.ensures.buffered c.in-Ok-Text.ensures.sound.1 in
     turned_line c.args.schema.now before after (line.text after.reader.text) c.answer_text.result took
-    (subst (λ (bytes : List ℕ). TurnsAfter before.list (reading c.args.schema.now (line.text bytes)) after.list before.sink after.sink c.answer_text.result) c.text.ensures c.answer_text.ensures)
+    (subst (λ (bytes : List ℕ). TurnsAfter c.args.schema.now before.list (reading c.args.schema.now (line.text bytes)) after.list before.sink after.sink c.answer_text.result) c.text.ensures c.answer_text.ensures.turned)
 
 pub returns-in-Ok-Long-clause-turned : goal.returns-in-Ok-Long-clause-turned
 returns-in-Ok-Long-clause-turned g c =
@@ -40,13 +40,13 @@ returns-in-Ok-Long-clause-turned g c =
       reader = c.args.reader.now;
       source = source_state g.S.Source c.args.input.now;
       sink = sink_state g.K.Sink c.args.out.now;
-      list = c.args.self.now.subscriptions;
+      list = c.args.self.now.subscriptions.list;
     } in
     let after : TurnState = record {
       reader = c.next.new.self;
       source = source_state g.S.Source c.next.new.src;
       sink = sink_state g.K.Sink c.refuse_long.new.out;
-      list = c.args.self.now.subscriptions;
+      list = c.args.self.now.subscriptions.list;
     } in
     let len = c.in-Ok-Long.field-0-0 in
     let is : c.in-Ok-Long.field-0 ≡ Long len = c.in-Ok-Long.field-0-is in

@@ -1,18 +1,19 @@
 -- The reply fits the list.
-use Rattle.std.proofs.Common.{◌+◌, ℕ, refl, sym, ap}
+use Rattle.std.proofs.Common.{rules, ◌+◌, ℕ, refl, ap}
 use Rattle.be_change.specs.History.{live}
-use Rattle.be_change.proofs.Grows.{rising_live}
-use Rattle.be_server.proofs.KeptLemmas.{none_live, live_name}
+use Rattle.be_server.proofs.Alone.{none_is, is_there}
 use Rattle.be_server.proofs.subscriptions.Subscriptions.unsubscribe.Goals as goal
 
-pub returns-in_default : goal.returns-in_default
-returns-in_default c =
-    (c.len-m.ensures.len, none_live c.args.name (live c.args.self.now) (sym c.in_default.ensures), refl)
+pub returns-then-is_none-clause-reply : goal.returns-then-is_none-clause-reply
+returns-then-is_none-clause-reply g c =
+    (c.len-m.ensures.len, none_is c.args.name (live c.args.self.now.list) (search rules), refl)
 
-pub returns-in-Ok : goal.returns-in-Ok
-returns-in-Ok c =
-    (live_name c.args.name (live c.args.self.now) c.in-Some.id (rising_live c.args.self.now) (sym c.in-Some.ensures), (ap (λ (n : ℕ). n + 1) c.len-m.ensures.len, c.in-Ok.ensures.removed))
+pub remove-requires-clause-there : goal.remove-requires-clause-there
+remove-requires-clause-there g c = is_there c.args.name (live c.args.self.now.list) (search rules)
 
-pub returns-in-Err : goal.returns-in-Err
-returns-in-Err c =
-    (live_name c.args.name (live c.args.self.now) c.in-Some.id (rising_live c.args.self.now) (sym c.in-Some.ensures), c.in-Err.ensures.refused)
+pub returns-in-Ok-clause-reply : goal.returns-in-Ok-clause-reply
+returns-in-Ok-clause-reply g c =
+    (is_there c.args.name (live c.args.self.now.list) (search rules), (ap (λ (n : ℕ). n + 1) c.len-m.ensures.len, c.in-Ok.ensures.removed))
+
+pub returns-in-Err-clause-reply : goal.returns-in-Err-clause-reply
+returns-in-Err-clause-reply g c = (is_there c.args.name (live c.args.self.now.list) (search rules), c.in-Err.ensures.refused)

@@ -1,0 +1,92 @@
+//! The tree as an index.
+
+ghost use Rattle.std.specs.Prelude.{◌≡◌, []};
+ghost use Rattle.std.specs.Arc.{arc_value};
+ghost use Rattle.be_shape.specs.Plain.{plain, contents};
+
+use crate::gathers::gather;
+use be_base::{NoMemory, SessionNo};
+use be_index::Index;
+use be_insert::place;
+use be_match::{cost_of, find_in};
+use be_model::{Cost, Event, Found, Row, Schema, Step, StepDone};
+use be_remove::take;
+use be_shape::Tree;
+use std::alloc::Global;
+use std::sync::Arc;
+
+/// How much a part's score counts the rows that would stay outside it, in hundredths.
+pub const ALPHA: u8 = 50;
+
+/// Rows in a tree, and nothing beside it.
+#[derive(Drop)]
+pub struct BeTree(pub Tree);
+
+impl BeTree {
+    /// No rows. It takes no memory.
+    pub fn make(alloc: Global, schema: Arc<Schema>) -> BeTree
+        ensures schema { arc_value result.0.schema ≡ arc_value schema }
+        ensures rows { contents (plain result.0.root) ≡ [] }
+    {
+        BeTree(Tree::make(alloc, schema, ALPHA))
+    }
+}
+
+impl Index for BeTree {
+    ghost use Rattle.std.specs.Prelude.{true, false, None};
+    ghost use Rattle.be_model.specs.Costs.{cost};
+    ghost use Rattle.be_shape.specs.Search.{visits, tested};
+
+    ghost schema = { λ t. arc_value t.0.schema };
+
+    ghost rows = { λ t. contents (plain t.0.root) };
+
+    ghost is_bounded = { λ t. true };
+
+    ghost cost_of = { λ t e. cost (visits (arc_value t.0.schema) e (plain t.0.root)) (tested (arc_value t.0.schema) e (plain t.0.root)) };
+
+    ghost can_step = { λ t step. false };
+
+    fn lies(&self, row: &Row) -> bool {
+        row.lies(&self.0.schema)
+    }
+
+    fn insert(&mut self, row: Arc<Row>) -> Result<(), (Arc<Row>, NoMemory)> {
+        place(&mut self.0, row)
+    }
+
+    fn find(&self, event: &Event, found: &mut Found) -> Result<Cost, NoMemory> {
+        find_in(&self.0, event, found)
+    }
+
+    fn cost(&self, event: &Event) -> Cost {
+        cost_of(&self.0, event)
+    }
+
+    fn len(&self) -> u64 {
+        self.0.len()
+    }
+
+    fn rows_of(&self, session: SessionNo, found: &mut Found) -> Result<(), NoMemory> {
+        gather(&self.0, Some(session), found)
+    }
+
+    fn all(&self, found: &mut Found) -> Result<(), NoMemory> {
+        gather(&self.0, None, found)
+    }
+
+    // TEMPORARY until be_remove, be_adjust and be_plan are here
+    ghost planned = { λ t. None };
+
+    fn remove(&mut self, row: &Row) -> bool {
+        take(&mut self.0, row).is_some()
+    }
+
+    fn step(&mut self, _step: &Step) -> StepDone {
+        StepDone::NotHere
+    }
+
+    fn plan(&self) -> Result<Option<Step>, NoMemory> {
+        Ok(None)
+    }
+}
