@@ -43,7 +43,7 @@ while IFS='|' read -r _ _ calls _; do
         esac
         for name in "${names[@]}"; do
             case "${name##*::}" in
-                [A-Z]*) item=struct ;;
+                [A-Z]*) item='\(struct\|trait\)' ;;
                 *) item=fn ;;
             esac
             grep -rqs --include='*.rt' "\<$item ${name##*::}\>" "$word" || lacks "docs/architecture.md names $name in $word, which has no $item ${name##*::}"

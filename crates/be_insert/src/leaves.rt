@@ -45,22 +45,6 @@ pub(crate) fn is_overfull(leaf: &Leaf, s: &Schema, k: &Spot) -> bool
     false
 }
 
-/// How many rows may pass the step.
-pub(crate) fn count(leaf: &Leaf, s: &Schema, hop: Hop, range: NodeRange) -> usize
-    requires lie { list_all (row_lies s.now) leaf.now ≡ true }
-    requires bounded { is_bounded range ≡ true }
-    requires rising { is_rising range ≡ true }
-    ensures { result ≡ count_by (may_pass s.now hop range) leaf.now }
-{
-    let mut count = 0;
-    for place in 0..leaf.len() {
-        if may_pass(leaf.row(place), s, hop, range) {
-            count += 1;
-        }
-    }
-    count
-}
-
 // The half with more rows, the low one on a tie. There is none where neither has rows.
 fn better_half(low: usize, high: usize) -> Option<Hop>
     ensures { result ≡ better_half low high }

@@ -16,12 +16,12 @@ ghost use Rattle.be_shape.specs.Right.{IsRight};
 ghost use Rattle.be_shape.specs.NodeList.{known_along};
 ghost use Rattle.be_shape.specs.Steps.{at_end, can_split_off, split_off, changed_at, stands};
 
-use crate::leaves::count;
 use crate::splits::{attach, draw_off, make_room};
 use be_base::{AttrNo, NoMemory};
 use be_model::{Hop, Path, Schema, StepDone};
 use be_shape::{
-    Leaf, Node, NodeRange, Tree, can_split, child, is_used_on, swap_at, walk, walk_range,
+    Leaf, Node, NodeRange, Tree, can_split, child, count_passing, is_used_on, swap_at, walk,
+    walk_range,
 };
 
 // Whether the step may be made below a node of this range at the end of the path.
@@ -41,7 +41,7 @@ fn any_may_pass(leaf: &Leaf, s: &Schema, hop: Hop, range: NodeRange) -> bool
     requires rising { is_rising range ≡ true }
     ensures { result ≡ list_any (may_pass s.now hop range) leaf.now }
 {
-    0 < count(leaf, s, hop, range)
+    0 < count_passing(leaf, s, hop, range)
 }
 
 // Whether rows of the leaf of the node at the end of the path may be split off to a new child.

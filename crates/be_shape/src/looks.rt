@@ -12,8 +12,8 @@ ghost use Rattle.be_shape.specs.Ranges.{is_bounded, is_rising};
 ghost use Rattle.be_shape.specs.Children.{may_pass};
 ghost use Rattle.be_shape.specs.Spots.{known_of};
 
-use crate::nodes::Node;
 use crate::leaves::Leaf;
+use crate::nodes::Node;
 use crate::ranges::{NodeRange, lower_range, upper_range};
 use crate::spots::Spot;
 use be_base::AttrNo;

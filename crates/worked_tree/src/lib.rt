@@ -8,6 +8,6 @@ mod looks;
 #[cfg(test)]
 mod plain_walk;
 #[cfg(test)]
-mod remove;
-//! Tests of what stands on the whole tree.
 mod plan;
+#[cfg(test)]
+mod remove;
