@@ -6,7 +6,7 @@ use Rattle.std.proofs.lemmas.Bool.{and_parts, eq-eqb, eqb-false, eqb-true, le-lt
 use Rattle.std.proofs.lemmas.List.Sorted.{IsPermutation-refl, IsPermutation-sym, IsPermutation-trans, IsPermutation-cons, IsPermutation-middle, length_permutation, Contains-permutation}
 use Rattle.be_model.specs.declared.changes.Row.{Row}
 use Rattle.be_model.specs.Rows.{id_of}
-use Rattle.be_model.specs.ByIds.{ByIds, put_by_id, by_ids, rows_of, row_at, has_id, AllBelow, AllAbove, Rising, SayIds, ids_differ}
+use Rattle.be_model.specs.ByIds.{ByIds, put_by_id, by_ids, rows_of, row_at, has_id, without_id, AllBelow, AllAbove, Rising, SayIds, ids_differ}
 
 abbrev pair : Row → ℕ × Row
 pair row = (id_of row, row)
@@ -236,3 +236,21 @@ pub found_row : (rows : List Row) (id : ℕ) (x : Row) → row_at id (by_ids row
 found_row rows id x h =
     let z = found_says id (by_ids rows) x (all_say rows) h in
     (Contains-permutation (rows_of (by_ids rows)) rows x (IsPermutation-sym rows (rows_of (by_ids rows)) (rows_permuted rows)) z.0, z.1)
+
+-- a row whose id is new is put, and left out again
+without_new : (id : ℕ) (m : ByIds) → has_id id m ≡ false → without_id id m ≡ m
+without_new id [] new = refl
+without_new id (r ∷ rs) new =
+    let z = or_parts (eqb r.0 id) (has_id id rs) new in
+    ap (λ b. cond (not b) (r ∷ without_id id rs) (without_id id rs)) z.0 ∙ ap (λ m. r ∷ m) (without_new id rs z.1)
+
+left_out : (row : Row) (m : ByIds) → without_id (id_of row) (pair row ∷ m) ≡ without_id (id_of row) m
+left_out row m =
+    ap (λ b. cond (not b) (pair row ∷ without_id (id_of row) m) (without_id (id_of row) m)) (eq-eqb (id_of row) (id_of row) refl)
+
+pub without_put : (row : Row) (m : ByIds) → has_id (id_of row) m ≡ false → without_id (id_of row) (put_by_id row m) ≡ m
+without_put row [] new = left_out row []
+without_put row (r ∷ rs) new =
+    by_order (without_id (id_of row) (put_by_id row (r ∷ rs)) ≡ r ∷ rs) (id_of row) r.0
+    (λ h. ap (without_id (id_of row)) (put_before row r rs h) ∙ left_out row (r ∷ rs) ∙ without_new (id_of row) (r ∷ rs) new)
+    (λ h. let z = or_parts (eqb r.0 (id_of row)) (has_id (id_of row) rs) new in ap (without_id (id_of row)) (put_after row r rs h) ∙ ap (λ b. cond (not b) (r ∷ without_id (id_of row) (put_by_id row rs)) (without_id (id_of row) (put_by_id row rs))) z.0 ∙ ap (λ m. r ∷ m) (without_put row rs z.1))

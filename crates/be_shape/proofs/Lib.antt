@@ -21,3 +21,5 @@ pub mod Roots
 pub mod Exchanges
 pub mod Replacements
 pub mod Reshaping
+pub mod OneLess
+pub mod LeafLess

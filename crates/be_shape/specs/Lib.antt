@@ -11,3 +11,4 @@ pub mod Steps
 pub mod Right
 pub mod Spots
 pub mod Swaps
+pub mod Less

@@ -25,4 +25,4 @@ pub use ranges::{NodeRange, holds_value, lower_range, upper_range, whole_range};
 pub use spots::Spot;
 pub use swaps::{place_on, swap_at};
 pub use trees::Tree;
-pub use walks::{child, walk, walk_range};
+pub use walks::{child, child_range, walk, walk_range};

@@ -3,6 +3,7 @@
 ghost use Rattle.std.specs.Prelude.{◌≡◌, ◌<◌, [], length};
 ghost use Rattle.std.specs.Arc.{arc_value};
 ghost use Rattle.be_shape.specs.Plain.{plain, node, no_part, no_half, leaf_of, with_row};
+ghost use Rattle.be_shape.specs.Less.{is_bare};
 
 use crate::leaves::Leaf;
 use be_base::AttrNo;
@@ -31,6 +32,16 @@ impl Node {
             parts: Vec::new(alloc),
             low: None,
             high: None,
+        }
+    }
+
+    /// Whether it has no rows, parts or halves.
+    pub fn is_bare(&self) -> bool
+        ensures { result ≡ is_bare (plain self.now) }
+    {
+        match (&self.low, &self.high) {
+            (None, None) => self.leaf.len() == 0 && self.parts.is_empty(),
+            _ => false,
         }
     }
 

@@ -34,14 +34,14 @@ pub fn walk_range(n: &Node, s: &Schema, hops: &[Hop]) -> NodeRange
     let mut range = None;
     for hop in hops {
         let below = child(at, *hop)?;
-        range = step(s, *hop, range);
+        range = child_range(s, *hop, range);
         at = below;
     }
     range
 }
 
-// The range of a child.
-fn step(s: &Schema, hop: Hop, range: NodeRange) -> NodeRange
+/// The range of a child.
+pub fn child_range(s: &Schema, hop: Hop, range: NodeRange) -> NodeRange
     requires bounded { is_bounded range ≡ true }
     requires rising { is_rising range ≡ true }
     ensures range { result ≡ range_below s.now hop range }

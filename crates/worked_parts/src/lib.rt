@@ -8,15 +8,11 @@ mod change;
 #[cfg(test)]
 mod core_;
 #[cfg(test)]
-mod dice;
-#[cfg(test)]
 mod event;
 #[cfg(test)]
 mod expr;
 #[cfg(test)]
 mod expr_written;
-#[cfg(test)]
-mod insert;
 mod io;
 #[cfg(test)]
 mod mail;
@@ -24,8 +20,6 @@ mod mail;
 mod match_;
 #[cfg(test)]
 mod model;
-#[cfg(test)]
-mod plain_walk;
 #[cfg(test)]
 mod score;
 #[cfg(test)]

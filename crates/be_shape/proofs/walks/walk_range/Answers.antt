@@ -37,8 +37,8 @@ loop-hop-preserved c =
     let n = plain c.loop-hop.at.now in
     let m = plain c.in_ok-below.below.now in
     let r = c.loop-hop.range in
-    let t = c.step-range.result in
-    let e = c.step-range.ensures in (
+    let t = c.child_range-range.result in
+    let e = c.child_range-range.ensures in (
       walk_on hops i d n m c.loop-hop-test.true c.in_ok-below.ensures ∙ c.loop-hop.invariant.0,
       range_on s hops i d r t c.loop-hop-test.true e.range ∙ c.loop-hop.invariant.1,
       stands s (get_or hops i d) r t n m c.loop-hop.invariant.2 c.in_ok-below.ensures e.range e.bounded e.rising,

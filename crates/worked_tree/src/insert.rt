@@ -1,100 +1,16 @@
 //! Of insertion, what no clause says: that rows are placed where there is memory, trees that were walked by hand, and rows of
 //! random conditions beside a plain list of them.
 
-ghost use Rattle.std.specs.Prelude.{◌≡◌, ◌<◌, ◌+◌, true, nat_lt};
-ghost use Rattle.std.specs.List.{list_all};
-ghost use Rattle.std.specs.Arc.{arc_value};
-ghost use Rattle.be_base.specs.declared.limits.TheConstants.{LOG_CHANGES};
-ghost use Rattle.be_model.specs.Lies.{row_lies};
-ghost use Rattle.be_model.specs.Rows.{id_of};
-ghost use Rattle.be_shape.specs.Plain.{plain, contents};
-
 use crate::dice::Dice;
+use crate::grown::{Grown, row_of, schema_of_four};
 use crate::plain_walk::{Seen, look};
-use be_base::{AttrNo, Id, LOG_CHANGES, Name, SessionNo};
-use be_insert::place;
+use be_base::AttrNo;
 use be_match::{cost_of, find_in};
-use be_model::{Conj, Domain, Event, Found, Hop, Names, Op, Path, Pred, Row, Schema, Values};
+use be_model::{Conj, Event, Found, Hop, Op, Path, Pred, Row, Values};
 use be_shape::Tree;
 use std::alloc::Global;
 use std::sync::Arc;
 use std::test::Fail;
-
-/// A tree whose ids are below the next.
-#[derive(Drop)]
-struct Grown {
-    tree: Tree,
-    next: u64,
-    ghost below: { list_all (λ r. nat_lt r.0 next) (contents (plain tree.root)) ≡ true },
-}
-
-impl Grown {
-    fn make(alloc: Global, schema: Arc<Schema>) -> Grown {
-        Grown {
-            tree: Tree::make(alloc, schema, 50),
-            next: 0,
-        }
-    }
-
-    // Places a row that has the next id and lies in the schema, and says whether it stands there then.
-    fn put(&mut self, row: Arc<Row>) -> bool {
-        if row.id.0 != self.next
-            || LOG_CHANGES as u64 <= self.next
-            || !row.lies(&self.tree.schema)
-        {
-            return false;
-        }
-        let next = self.next;
-        self.next += 1;
-        place_next(&mut self.tree, next, row)
-    }
-}
-
-// Places a row of the next id, and says whether it stands there then.
-fn place_next(tree: &mut Tree, next: u64, row: Arc<Row>) -> bool
-    requires below { list_all (λ r. nat_lt r.0 next) (contents (plain tree.old.root)) ≡ true }
-    requires id { id_of (arc_value row) ≡ next }
-    requires few { next < LOG_CHANGES }
-    requires lies { row_lies (arc_value tree.old.schema) (arc_value row) ≡ true }
-    ensures { list_all (λ r. nat_lt r.0 (next + 1)) (contents (plain tree.new.root)) ≡ true }
-{
-    match place(tree, row) {
-        Ok(()) => true,
-        Err(_) => false,
-    }
-}
-
-fn push(schema: &mut Schema, name: &[u8], domain: Domain) -> Result<(), Fail> {
-    let name = Name::read(name)?;
-    if schema.accepts(&name, &domain) {
-        schema.push((name, domain))?;
-    }
-    Ok(())
-}
-
-// The schema `int price 0 1000`, `int qty -5 5`, `sym side buy sell hold`, `int one 7 7`.
-fn schema_of_four(alloc: Global) -> Result<Arc<Schema>, Fail> {
-    let mut words = Names::make(alloc);
-    for word in ["buy", "sell", "hold"] {
-        words.push(Name::read(word.as_bytes())?)?;
-    }
-    let mut schema = Schema::make(alloc);
-    push(&mut schema, b"price", Domain::Int { lo: 0, hi: 1000 })?;
-    push(&mut schema, b"qty", Domain::Int { lo: -5, hi: 5 })?;
-    push(&mut schema, b"side", Domain::Sym { words })?;
-    push(&mut schema, b"one", Domain::Int { lo: 7, hi: 7 })?;
-    Ok(Arc::new(alloc, schema)?)
-}
-
-fn row_of(alloc: Global, id: u64, conj: Conj) -> Result<Arc<Row>, Fail> {
-    let row = Row {
-        id: Id(id),
-        session: SessionNo(1),
-        name: Name::read(b"a")?,
-        conj,
-    };
-    Ok(Arc::new(alloc, row)?)
-}
 
 // Places so many rows that ask for this value of the attribute, and says whether all of them were.
 fn put_equals(
@@ -190,23 +106,20 @@ fn rows_of_an_attribute_of_one_value_stand_in_its_part(rt: HostRuntime) -> Resul
     Ok(())
 }
 
-// Whether the tree has the rows of the ids below the count, each once, and is placed, drawn, pruned and settled.
-fn is_right(alloc: Global, tree: &Tree, count: u64) -> Result<bool, Fail> {
+/// Whether the tree has the rows of the list, whose ids rise, each once, and is placed, drawn, pruned and settled.
+pub(crate) fn has_ids(alloc: Global, tree: &Tree, rows: &[Arc<Row>]) -> Result<bool, Fail> {
     let mut seen = Seen::make(alloc);
     look(&tree.root, &tree.schema, &mut seen)?;
     seen.ids.sort_unstable();
-    let mut next = 0u64;
-    for id in seen.ids.as_slice() {
-        if *id != next {
-            return Ok(false);
-        }
-        next = next.saturating_add(1);
+    let mut want = Vec::new(alloc);
+    for row in rows {
+        want.push(row.id.0)?;
     }
-    Ok(seen.is_right && next == count)
+    Ok(seen.is_right && seen.ids.as_slice() == want.as_slice())
 }
 
-// Whether a search finds the rows that a filter over the list gives.
-fn finds_as_list(
+/// Whether a search finds the rows that a filter over the list gives.
+pub(crate) fn finds_as_list(
     alloc: Global,
     tree: &Tree,
     rows: &[Arc<Row>],
@@ -242,7 +155,7 @@ fn three_thousand_rows_stand_as_they_should(rt: HostRuntime) -> Result<(), Fail>
         rows.push(Arc::try_clone(&row)?)?;
         assert!(rt; grown.put(row), "at {id}");
         if id % 100 == 99 {
-            assert!(rt; is_right(alloc, &grown.tree, grown.next)?, "at {id}");
+            assert!(rt; has_ids(alloc, &grown.tree, rows.as_slice())?, "at {id}");
         }
     }
     assert_eq!(rt; grown.tree.len(), 3000);

@@ -2,8 +2,8 @@ use Rattle.std.proofs.Common.{◌≡◌, ◌+◌, true, false, sym, subst, ap, �
 use Rattle.std.specs.Arc.{arc_value}
 use Rattle.be_model.specs.ByIds.{put_by_id, has_id}
 use Rattle.be_shape.specs.Plain.{plain, contents}
-use Rattle.worked_parts.proofs.Below.{are_below, next_is_new, all_below_next, one_more, in_either}
-use Rattle.worked_parts.proofs.insert.place_next.Goals as goal
+use Rattle.worked_tree.proofs.Below.{are_below, next_is_new, all_below_next, one_more, in_either}
+use Rattle.worked_tree.proofs.grown.place_next.Goals as goal
 
 pub place-requires-clause-new : goal.place-requires-clause-new
 place-requires-clause-new c =

@@ -1,0 +1,6 @@
+pub mod Ways
+pub mod Places
+pub mod Groups
+pub mod Lacking
+pub mod Nodes
+pub mod Roots

@@ -1,0 +1,29 @@
+-- What stands after a row was taken out.
+use Rattle.std.specs.Prelude.{ℕ, zero, suc, Bool, if◌then◌else◌}
+use Rattle.std.specs.List.{list_any, Contains}
+use Rattle.be_model.specs.declared.changes.Row.{Row}
+use Rattle.be_model.specs.declared.paths.Hop.{Hop}
+use Rattle.be_model.specs.Schemas.{Attributes}
+use Rattle.be_shape.specs.Plain.{Plain, Parts, no_part, part, Half, no_half, half, rows_below}
+use Rattle.be_shape.specs.Shape.{NodeRange}
+use Rattle.be_shape.specs.Children.{children, may_pass}
+use Rattle.be_shape.specs.Less.{is_bare}
+
+-- the row may pass to one of the node's children
+abbrev pub has_way : Attributes → NodeRange → Plain → Row → Bool
+has_way s r n row = list_any (λ (x : Hop × Plain). may_pass s x.0 r row) (children n)
+
+-- no leaf has the row
+abbrev pub Lacks : Row → Plain → Type 0
+Lacks row n = Contains (rows_below n) row → ⊥
+
+-- a half that isn't kept where it is bare
+abbrev pub kept_half : Half → Half
+kept_half no_half = no_half
+kept_half (half n) = if is_bare n then no_half else half n
+
+-- parts of which that at a place isn't kept where it is bare
+abbrev pub kept_part : ℕ → Parts → Parts
+kept_part i no_part = no_part
+kept_part zero (part a root more) = if is_bare root then more else part a root more
+kept_part (suc i) (part a root more) = part a root (kept_part i more)

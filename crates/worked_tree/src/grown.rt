@@ -1,0 +1,93 @@
+//! A tree that grows by rows of rising ids.
+
+ghost use Rattle.std.specs.Prelude.{◌≡◌, ◌<◌, ◌+◌, true, nat_lt};
+ghost use Rattle.std.specs.List.{list_all};
+ghost use Rattle.std.specs.Arc.{arc_value};
+ghost use Rattle.be_base.specs.declared.limits.TheConstants.{LOG_CHANGES};
+ghost use Rattle.be_model.specs.Lies.{row_lies};
+ghost use Rattle.be_model.specs.Rows.{id_of};
+ghost use Rattle.be_shape.specs.Plain.{plain, contents};
+
+use be_base::{Id, LOG_CHANGES, Name, SessionNo};
+use be_insert::place;
+use be_model::{Conj, Domain, Names, Row, Schema};
+use be_shape::Tree;
+use std::alloc::Global;
+use std::sync::Arc;
+use std::test::Fail;
+
+/// A tree whose ids are below the next.
+#[derive(Drop)]
+pub(crate) struct Grown {
+    pub(crate) tree: Tree,
+    pub(crate) next: u64,
+    ghost below: { list_all (λ r. nat_lt r.0 next) (contents (plain tree.root)) ≡ true },
+}
+
+impl Grown {
+    pub(crate) fn make(alloc: Global, schema: Arc<Schema>) -> Grown {
+        Grown {
+            tree: Tree::make(alloc, schema, 50),
+            next: 0,
+        }
+    }
+
+    /// Places a row that has the next id and lies in the schema, and says whether it stands there then.
+    pub(crate) fn put(&mut self, row: Arc<Row>) -> bool {
+        if row.id.0 != self.next
+            || LOG_CHANGES as u64 <= self.next
+            || !row.lies(&self.tree.schema)
+        {
+            return false;
+        }
+        let next = self.next;
+        self.next += 1;
+        place_next(&mut self.tree, next, row)
+    }
+}
+
+// Places a row of the next id, and says whether it stands there then.
+fn place_next(tree: &mut Tree, next: u64, row: Arc<Row>) -> bool
+    requires below { list_all (λ r. nat_lt r.0 next) (contents (plain tree.old.root)) ≡ true }
+    requires id { id_of (arc_value row) ≡ next }
+    requires few { next < LOG_CHANGES }
+    requires lies { row_lies (arc_value tree.old.schema) (arc_value row) ≡ true }
+    ensures { list_all (λ r. nat_lt r.0 (next + 1)) (contents (plain tree.new.root)) ≡ true }
+{
+    match place(tree, row) {
+        Ok(()) => true,
+        Err(_) => false,
+    }
+}
+
+fn push(schema: &mut Schema, name: &[u8], domain: Domain) -> Result<(), Fail> {
+    let name = Name::read(name)?;
+    if schema.accepts(&name, &domain) {
+        schema.push((name, domain))?;
+    }
+    Ok(())
+}
+
+/// The schema `int price 0 1000`, `int qty -5 5`, `sym side buy sell hold`, `int one 7 7`.
+pub(crate) fn schema_of_four(alloc: Global) -> Result<Arc<Schema>, Fail> {
+    let mut words = Names::make(alloc);
+    for word in ["buy", "sell", "hold"] {
+        words.push(Name::read(word.as_bytes())?)?;
+    }
+    let mut schema = Schema::make(alloc);
+    push(&mut schema, b"price", Domain::Int { lo: 0, hi: 1000 })?;
+    push(&mut schema, b"qty", Domain::Int { lo: -5, hi: 5 })?;
+    push(&mut schema, b"side", Domain::Sym { words })?;
+    push(&mut schema, b"one", Domain::Int { lo: 7, hi: 7 })?;
+    Ok(Arc::new(alloc, schema)?)
+}
+
+pub(crate) fn row_of(alloc: Global, id: u64, conj: Conj) -> Result<Arc<Row>, Fail> {
+    let row = Row {
+        id: Id(id),
+        session: SessionNo(1),
+        name: Name::read(b"a")?,
+        conj,
+    };
+    Ok(Arc::new(alloc, row)?)
+}
