@@ -1,3 +1,4 @@
 pub mod Fitting
 pub mod Others
 pub mod Merged
+pub mod Finding

@@ -5,6 +5,7 @@
 //! of all steps. Begin with `src/merges.rt`; what a merge leaves of a node is in `proofs/Merged`.
 #![tactic(auto)]
 
+mod finds;
 mod fits;
 mod merges;
 mod moves;
