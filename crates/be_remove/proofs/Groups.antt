@@ -1,5 +1,5 @@
 -- Halves and parts of which one has a row less.
-use Rattle.std.proofs.Common.{◌≡◌, ◌<◌, ℕ, zero, suc, ◌+◌, Bool, true, false, cond, List, [], ◌∷◌, ◌++◌, length, take, get_or, Option, Some, None, OnSome, IfNone, refl, sym, ap, ◌∙◌, subst, arith}
+use Rattle.std.proofs.Common.{◌≡◌, ◌<◌, ℕ, zero, suc, Bool, true, false, cond, List, [], ◌∷◌, ◌++◌, length, take, get_or, Option, Some, None, OnSome, IfNone, refl, sym, ap, ◌∙◌, subst, arith}
 use Rattle.std.specs.Prelude.{IsPermutation}
 use Rattle.std.specs.List.{slice_set, AllByRecursion}
 use Rattle.std.proofs.lemmas.List.{append-nil}
@@ -9,11 +9,11 @@ use Rattle.be_model.specs.declared.paths.Hop.{Hop}
 use Rattle.be_model.specs.declared.paths.Hop.TheVariants.{Part, Low, High}
 use Rattle.be_model.specs.Schemas.{Attributes}
 use Rattle.be_shape.specs.declared.nodes.Part.{Part as PartOf}
-use Rattle.be_shape.specs.Plain.{Plain, node, Parts, no_part, part, Half, no_half, half, part_as, parts_as, rows_below}
+use Rattle.be_shape.specs.Plain.{Plain, node, Parts, part, Half, no_half, half, part_as, parts_as, rows_below}
 use Rattle.be_shape.specs.Shape.{NodeRange, known}
 use Rattle.be_shape.specs.Children.{roots_of, root_of, children, known_below}
 use Rattle.be_shape.specs.Right.{IsRight}
-use Rattle.be_shape.specs.Less.{is_bare, kept, IsLess}
+use Rattle.be_shape.specs.Less.{is_bare, IsLess}
 use Rattle.be_shape.proofs.OneLess.{less_among}
 use Rattle.be_remove.specs.Taken.{kept_half, kept_part}
 
@@ -118,3 +118,7 @@ on_some None p f = tt
 pub if_none : {A : Type 0} {P Q : Type 0} (o : Option A) → IfNone o P → (P → Q) → IfNone o Q
 if_none (Some x) p f = tt
 if_none None p f = f p
+
+pub if_any : {A : Type 0} {P : Type 0} (o : Option A) → P → IfNone o P
+if_any (Some x) p = tt
+if_any None p = p

@@ -4,3 +4,4 @@ pub mod Groups
 pub mod Lacking
 pub mod Nodes
 pub mod Roots
+pub mod FirstParts

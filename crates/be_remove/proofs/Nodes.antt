@@ -1,5 +1,5 @@
 -- A node in memory of which the leaf, the parts or the halves have changed.
-use Rattle.std.proofs.Common.{◌≡◌, List, ◌∷◌, Option, refl, sym, ap, ◌∙◌, subst}
+use Rattle.std.proofs.Common.{◌≡◌, List, ◌∷◌, Option, sym, ap, ◌∙◌, subst}
 use Rattle.std.specs.Prelude.{IsPermutation}
 use Rattle.std.specs.Global.{Box}
 use Rattle.be_base.specs.declared.names.AttrNo.{AttrNo}

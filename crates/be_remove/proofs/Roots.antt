@@ -1,5 +1,5 @@
 -- A tree's root from which a row was taken.
-use Rattle.std.proofs.Common.{◌≡◌, ◌↔◌, ◌<◌, Bool, true, false, not, eqb, ltb, ◌&&◌, List, ◌∷◌, Option, Some, None, OnSome, IfNone, IsSome, refl, sym, ap, ◌∙◌, subst, arith}
+use Rattle.std.proofs.Common.{◌≡◌, ◌↔◌, true, false, not, eqb, ltb, ◌&&◌, List, ◌∷◌, Option, Some, None, OnSome, IfNone, IsSome, refl, sym, ap, ◌∙◌, subst, arith}
 use Rattle.std.specs.Prelude.{IsPermutation}
 use Rattle.std.specs.List.{list_any, Contains}
 use Rattle.std.proofs.lemmas.Bool.{and_parts, false≢true, not-true}
@@ -9,7 +9,7 @@ use Rattle.be_model.specs.declared.changes.Row.{Row}
 use Rattle.be_model.specs.Forms.{is_conj}
 use Rattle.be_model.specs.Lies.{row_lies}
 use Rattle.be_model.specs.Rows.{id_of}
-use Rattle.be_model.specs.ByIds.{row_at, without_id, by_ids, ids_differ}
+use Rattle.be_model.specs.ByIds.{row_at, without_id, ids_differ}
 use Rattle.be_model.specs.Schemas.{Attributes}
 use Rattle.be_model.proofs.RowsByIds.{row_found, found_row, has_by_ids, without_put}
 use Rattle.be_shape.specs.Plain.{Plain, rows_below, contents}
@@ -18,7 +18,6 @@ use Rattle.be_shape.specs.Right.{IsRight}
 use Rattle.be_shape.proofs.Contents.{still_differ, permuted}
 use Rattle.be_shape.proofs.RootPut.{IsRoot}
 use Rattle.be_shape.proofs.Roots.{right_root}
-use Rattle.be_remove.specs.Taken.{Lacks}
 use Rattle.be_remove.proofs.Lacking.{all_contain}
 use Rattle.be_remove.proofs.Groups.{either}
 

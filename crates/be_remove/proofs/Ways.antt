@@ -5,7 +5,7 @@ use Rattle.be_model.specs.declared.changes.Row.{Row}
 use Rattle.be_model.specs.Rows.{has}
 use Rattle.be_model.specs.Schemas.{Attributes}
 use Rattle.be_shape.specs.Plain.{Parts, Half, node}
-use Rattle.be_shape.specs.Shape.{NodeRange, known, lower, upper, in_low, in_high, fits_half, attrs_of}
+use Rattle.be_shape.specs.Shape.{NodeRange, known, lower, upper, in_low, fits_half, attrs_of}
 use Rattle.be_shape.proofs.Levels.{passes_is}
 use Rattle.be_remove.specs.Taken.{has_way}
 

@@ -6,6 +6,8 @@
 #![tactic(auto)]
 
 mod leaves;
+mod parts;
 mod takes;
 
+pub use parts::take_below_part;
 pub use takes::{take, take_below};

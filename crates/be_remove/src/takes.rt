@@ -65,7 +65,7 @@ fn has_way(n: &Node, s: &Schema, range: NodeRange, row: &Row) -> bool
 
 // Takes the row out below a child.
 #[cycle(takes)]
-fn take_from_child(
+pub(crate) fn take_from_child(
     n: &mut Node,
     s: &Schema,
     hop: Hop,

@@ -1,15 +1,14 @@
 -- A node whose leaf has a row less.
-use Rattle.std.proofs.Common.{◌≡◌, ◌<◌, ◌≤◌, Bool, true, false, not, leb, ◌||◌, List, [], ◌∷◌, ◌++◌, length, ◌⊎◌, inl, inr, refl, sym, ap, ◌∙◌, subst, arith}
+use Rattle.std.proofs.Common.{◌≡◌, Bool, true, not, leb, ◌||◌, List, ◌∷◌, ◌++◌, length, ◌⊎◌, inl, inr, sym, ap, ◌∙◌, subst, arith}
 use Rattle.std.specs.Prelude.{IsPermutation}
 use Rattle.std.specs.List.{list_all, AllByRecursion}
 use Rattle.std.proofs.lemmas.Bool.{and_parts, or_cases, or_left, or_right, leb-true, le-leb}
 use Rattle.std.proofs.lemmas.List.Sorted.{IsPermutation-append_left, length_permutation}
 use Rattle.be_base.specs.declared.limits.TheConstants.{LEAF_ROWS}
-use Rattle.be_base.specs.declared.names.AttrNo.{AttrNo}
 use Rattle.be_model.specs.declared.changes.Row.{Row}
 use Rattle.be_model.specs.Schemas.{Attributes}
 use Rattle.be_shape.specs.Plain.{Plain, node, rows_below, leaf_of, rows_in_parts, rows_in_half}
-use Rattle.be_shape.specs.Shape.{NodeRange, Known, known, is_stuck, spans_inside, may_stand}
+use Rattle.be_shape.specs.Shape.{Known, is_stuck, spans_inside, may_stand}
 use Rattle.be_shape.specs.Children.{children, with_leaf}
 use Rattle.be_shape.specs.Right.{is_right_at, IsRight}
 use Rattle.be_shape.proofs.Children.{levels}

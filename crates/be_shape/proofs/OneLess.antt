@@ -1,8 +1,8 @@
 -- A node of which one child has a row less, or is dropped.
-use Rattle.std.proofs.Common.{◌≡◌, ◌<◌, Bool, true, false, not, cond, ltb, leb, ◌&&◌, ◌||◌, List, [], ◌∷◌, ◌++◌, length, refl, sym, ap, ◌∙◌, subst, arith}
+use Rattle.std.proofs.Common.{◌≡◌, ◌<◌, Bool, true, false, not, cond, ltb, leb, ◌||◌, List, [], ◌∷◌, ◌++◌, length, refl, sym, ap, ◌∙◌, subst, arith}
 use Rattle.std.specs.Prelude.{IsPermutation}
 use Rattle.std.specs.List.{list_all, list_any, flat_map, AllByRecursion}
-use Rattle.std.proofs.lemmas.Bool.{and_parts, and_from, not_from_false, not-true, or_parts, or_from, lt-ltb, ltb-true, cases_Bool}
+use Rattle.std.proofs.lemmas.Bool.{and_parts, and_from, not_from_false, not-true, or_parts, or_from, lt-ltb, ltb-true}
 use Rattle.std.proofs.lemmas.List.{append_assoc, append-nil}
 use Rattle.std.proofs.lemmas.List.Concat.{flat_map-append}
 use Rattle.std.proofs.lemmas.List.Folds.{list_any-append}
@@ -16,12 +16,12 @@ use Rattle.be_model.specs.Forms.{attrs_rise}
 use Rattle.be_model.specs.Schemas.{Attributes}
 use Rattle.be_model.proofs.EventItems.{attrs_rise-tail}
 use Rattle.be_shape.specs.Plain.{Plain, node, Parts, no_part, part, Half, no_half, half, rows_below, leaf_of, parts_under}
-use Rattle.be_shape.specs.Shape.{NodeRange, Known, known, is_some, is_stuck, spans_inside, may_stand, attrs_of, is_placed_at, is_drawn_at, is_pruned_at}
+use Rattle.be_shape.specs.Shape.{NodeRange, Known, known, is_some, is_stuck, spans_inside, may_stand, attrs_of, is_pruned_at}
 use Rattle.be_shape.specs.Children.{roots_of, root_of, children, known_below, is_open, may_pass}
 use Rattle.be_shape.specs.Right.{is_right_at, IsRight}
 use Rattle.be_shape.specs.Less.{is_bare, kept, IsRightBelow, IsLess}
-use Rattle.be_shape.proofs.Children.{Each-append, Each-parts, Each-from_test, test_from_Each, levels, below, rows_of, rows_are}
-use Rattle.be_shape.proofs.Placed.{Placed, is_placed_from}
+use Rattle.be_shape.proofs.Children.{Each-append, Each-parts, Each-from_test, test_from_Each, levels, rows_of, rows_are}
+use Rattle.be_shape.proofs.Placed.{is_placed_from}
 use Rattle.be_shape.proofs.Levels.{holds_rows, pruned_is, passes_one, drawn_is}
 use Rattle.be_shape.proofs.Lists.{all_permuted}
 use Rattle.be_shape.proofs.OneLevel.{Each-at, right_here, right_from}

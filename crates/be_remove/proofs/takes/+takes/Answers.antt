@@ -1,4 +1,4 @@
-use Rattle.std.proofs.Common.{◌≡◌, ◌<◌, ◌≤◌, suc, ◌∷◌, ◌++◌, length, take, get_or, refl, sym, ap, ◌∙◌, subst, rules, arith, add-one, length-set}
+use Rattle.std.proofs.Common.{◌≡◌, ◌<◌, suc, ◌∷◌, ◌++◌, length, take, refl, sym, ap, ◌∙◌, subst, rules, arith, add-one, length-set}
 use Rattle.std.specs.Prelude.{IsPermutation}
 use Rattle.std.specs.List.{AllByRecursion}
 use Rattle.std.proofs.lemmas.List.{get_or-set_other}

@@ -1,10 +1,10 @@
-use Rattle.std.proofs.Common.{◌≡◌, Bool, List, true, false, ◌||◌, [], sym, ap, ◌∙◌}
+use Rattle.std.proofs.Common.{Bool, List, false, ◌||◌, [], sym, ap, ◌∙◌}
 use Rattle.std.specs.List.{list_any}
 use Rattle.be_model.specs.Rows.{has}
 use Rattle.be_shape.specs.declared.nodes.Node.TheViews.{out-Node}
 use Rattle.be_shape.specs.declared.nodes.Part.{Part}
 use Rattle.be_shape.specs.Plain.{parts_as, half_as}
-use Rattle.be_shape.specs.Shape.{known, lower, upper, fits_half, attrs_of}
+use Rattle.be_shape.specs.Shape.{known, lower, fits_half, attrs_of}
 use Rattle.be_shape.proofs.Plains.{plain_out}
 use Rattle.be_remove.specs.Taken.{has_way}
 use Rattle.be_remove.proofs.Ways.{way_is, low_way, high_way}

@@ -5,7 +5,6 @@ use Rattle.be_model.specs.Lies.{row_lies}
 use Rattle.be_shape.specs.Plain.{plain, rows_below}
 use Rattle.be_shape.specs.Shape.{nothing}
 use Rattle.be_shape.specs.Right.{IsRight}
-use Rattle.be_shape.specs.Less.{IsRightIn}
 use Rattle.be_shape.proofs.Roots.{root_of, root_right}
 use Rattle.be_remove.proofs.Groups.{on_some}
 use Rattle.be_remove.proofs.Roots.{there_from, by_id, not_there, without_row, root_stays}

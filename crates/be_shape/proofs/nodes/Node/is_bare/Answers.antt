@@ -1,11 +1,11 @@
-use Rattle.std.proofs.Common.{rules, ◌≡◌, eqb, [], length, Bool, true, false, List, ◌∷◌, None, Some, Option, refl, sym, ap, ◌∙◌, arith}
+use Rattle.std.proofs.Common.{◌≡◌, eqb, [], length, List, ◌∷◌, None, Some, Option, refl, sym, ap, ◌∙◌, arith}
 use Rattle.std.specs.Global.{Box}
-use Rattle.std.proofs.lemmas.Bool.{eqb-true, ne_eqb}
+use Rattle.std.proofs.lemmas.Bool.{ne_eqb}
 use Rattle.be_model.specs.declared.changes.Row.{Row}
 use Rattle.be_shape.specs.declared.nodes.Node.{Node}
 use Rattle.be_shape.specs.declared.nodes.Part.{Part}
 use Rattle.be_shape.specs.declared.nodes.Node.TheViews.{out-Node}
-use Rattle.be_shape.specs.Plain.{plain, node, half_as, parts_as}
+use Rattle.be_shape.specs.Plain.{node, half_as, parts_as}
 use Rattle.be_shape.specs.Less.{is_bare}
 use Rattle.be_shape.proofs.Plains.{plain_out}
 use Rattle.be_shape.proofs.nodes.Node.is_bare.Goals as goal
