@@ -9,5 +9,7 @@ mod finds;
 mod fits;
 mod merges;
 mod moves;
+mod shifts;
 
 pub use merges::merge;
+pub use shifts::shift;
