@@ -1,7 +1,8 @@
 //! Shifts of a row from one part of a node to another.
 
-ghost use Rattle.std.specs.Prelude.{◌≡◌, ◌↔◌, false, [], ◌∷◌, IsPermutation, MatchOption, OnOk, OnErr};
+ghost use Rattle.std.specs.Prelude.{◌≡◌, ◌↔◌, true, false, [], ◌∷◌, IsPermutation, MatchOption, OnOk, OnErr};
 ghost use Rattle.std.specs.Arc.{arc_value};
+ghost use Rattle.be_model.specs.ByIds.{ids_differ};
 ghost use Rattle.be_model.specs.Rows.{id_of};
 ghost use Rattle.be_model.specs.Schemas.{IsSchema};
 ghost use Rattle.be_model.specs.declared.paths.Hop.TheVariants.{Part};
@@ -38,13 +39,7 @@ fn find_below<'a>(n: &'a Node, from: AttrNo, to: AttrNo, id: Id) -> Option<&'a A
 }
 
 // The same at the end of a path.
-fn find_at<'a>(
-    t: &'a Tree,
-    hops: &[Hop],
-    from: AttrNo,
-    to: AttrNo,
-    id: Id,
-) -> Option<&'a Arc<Row>>
+fn find_at<'a>(t: &'a Tree, hops: &[Hop], from: AttrNo, to: AttrNo, id: Id) -> Option<&'a Arc<Row>>
     ensures { MatchOption result (at_end (λ k n. can_shift from to id.0 n) (arc_value t.now.schema) hops.now (plain t.now.root) ≡ false) (λ r. MayShiftAt from to id.0 (walk hops.now (plain t.now.root)) (arc_value r.now)) }
 {
     match walk(&t.root, hops) {
@@ -90,6 +85,7 @@ fn shift_row(
 ) -> Result<(), NoMemory>
     requires form { IsSchema s.now }
     requires right { IsRight s.now (known_of k.now) (plain n.old) }
+    requires differ { ids_differ (rows_below (plain n.old)) ≡ true }
     requires below { known_of below.old ≡ known_below s.now (Part to) (known_of k.now) }
     requires may { MayShift from to (id_of (arc_value row)) (plain n.old) (arc_value row) }
     ensures right { IsRight s.now (known_of k.now) (plain n.new) }
@@ -116,6 +112,7 @@ fn shift_at(
 ) -> Result<(), NoMemory>
     requires form { IsSchema s.now }
     requires right { IsRight s.now nothing (plain root.old) }
+    requires differ { ids_differ (rows_below (plain root.old)) ≡ true }
     requires may { MayShiftAt from to (id_of (arc_value row)) (walk hops.now (plain root.old)) (arc_value row) }
     ensures right { IsRight s.now nothing (plain root.new) }
     ensures rows { IsPermutation (rows_below (plain root.old)) (rows_below (plain root.new)) }
