@@ -3,17 +3,19 @@ use Rattle.std.proofs.Common.{◌≡◌, ◌≢◌, ◌<◌, ℕ, zero, suc, ◌
 use Rattle.std.specs.List.{slice_set}
 use Rattle.std.proofs.lemmas.Bool.{and_parts, and_from, not-true, not_from_false, eq-eqb, ne_eqb, ltb-true, lt-ltb}
 use Rattle.be_base.specs.declared.names.AttrNo.{AttrNo}
+use Rattle.be_model.specs.declared.changes.Row.{Row}
+use Rattle.be_model.specs.declared.paths.Hop.TheVariants.{Part}
 use Rattle.be_model.specs.Forms.{attrs_rise}
 use Rattle.be_model.proofs.EventItems.{attrs_rise-tail}
 use Rattle.be_model.proofs.InSchema.{same_attribute}
 use Rattle.be_shape.specs.declared.nodes.Part.{Part as PartOf}
-use Rattle.be_shape.specs.Plain.{Plain, Parts, no_part, part, part_as, parts_as, rows_below}
+use Rattle.be_shape.specs.Plain.{Plain, node, Parts, no_part, part, Half, part_as, parts_as, rows_below}
 use Rattle.be_shape.specs.Shape.{attrs_of}
 use Rattle.be_shape.specs.Paths.{part_on}
-use Rattle.be_shape.specs.Steps.{rows_of_node}
+use Rattle.be_shape.specs.Steps.{rows_of_node, without_part}
 use Rattle.be_shape.specs.Less.{is_bare}
 use Rattle.be_shape.proofs.OneLess.{bare_rows}
-use Rattle.be_remove.specs.Taken.{kept_part, is_first, rows_on}
+use Rattle.be_remove.specs.Taken.{kept_part, is_first, rows_on, is_bare_child, without_bare}
 
 -- the first part of the attribute, in memory
 pub first_within : (a : AttrNo) (ps : List PartOf) (i : ℕ) → is_first a i (parts_as ps) ≡ true → i < length ps
@@ -103,3 +105,27 @@ on_later a ps i q l e h = ap (λ n. part_on a (parts_as (drop n ps))) (add-one i
     by_list (p ∷ xs) zero l e =
         sym (ap (λ b. cond b (Some (part_as p).1) (part_on a (parts_as xs))) (ap (λ z. eqb (part_as z).0.0 a.0) (sym e) ∙ h))
     by_list (p ∷ xs) (suc j) l e = by_list xs j (omega arith) e
+
+-- the first part of the attribute is kept, or the parts are without it
+pub first_kept : (a : AttrNo) (parts : Parts) (i : ℕ) → is_first a i parts ≡ true → kept_part i parts ≡ cond (is_bare_child (part_on a parts)) (without_part a parts) parts
+first_kept a no_part i h = absurd (cc)
+first_kept a (part b root more) zero h =
+    ap (λ t. cond (is_bare root) t (part b root more)) (sym (ap (λ t. cond t more (part b root (without_part a more))) h)) ∙ ap (λ t. cond (is_bare_child (cond t (Some root) (part_on a more))) (cond (eqb b.0 a.0) more (part b root (without_part a more))) (part b root more)) (sym h)
+first_kept a (part b root more) (suc i) h =
+    let k = and_parts (not (eqb b.0 a.0)) (is_first a i more) h in
+    let no = not-true (eqb b.0 a.0) k.0 in
+    ap (λ z. part b root z) (first_kept a more i k.1) ∙ by_test (is_bare_child (part_on a more))
+    ∙ ap (λ t. cond (is_bare_child (part_on a more)) (cond t more (part b root (without_part a more))) (part b root more)) (sym no) ∙ ap (λ t. cond (is_bare_child (cond t (Some root) (part_on a more))) (cond (eqb b.0 a.0) more (part b root (without_part a more))) (part b root more)) (sym no)
+  where
+    by_test : (t : Bool) → part b root (cond t (without_part a more) more) ≡ cond t (part b root (without_part a more)) (part b root more)
+    by_test true = refl
+    by_test false = refl
+
+-- the same of a node
+pub part_without : (a : AttrNo) (rows : List Row) (parts : Parts) (low high : Half) (i : ℕ) → is_first a i parts ≡ true → node rows (kept_part i parts) low high ≡ without_bare (Part a) (node rows parts low high)
+part_without a rows parts low high i h =
+    ap (λ z. node rows z low high) (first_kept a parts i h) ∙ by_test (is_bare_child (part_on a parts))
+  where
+    by_test : (t : Bool) → node rows (cond t (without_part a parts) parts) low high ≡ cond t (node rows (without_part a parts) low high) (node rows parts low high)
+    by_test true = refl
+    by_test false = refl

@@ -1,5 +1,5 @@
 -- What stands after a row was taken out.
-use Rattle.std.specs.Prelude.{ℕ, zero, suc, ◌==◌, ◌&&◌, Bool, false, not, List, if◌then◌else◌}
+use Rattle.std.specs.Prelude.{ℕ, zero, suc, ◌==◌, ◌&&◌, Bool, false, not, List, Option, Some, None, if◌then◌else◌}
 use Rattle.std.specs.List.{list_any, Contains}
 use Rattle.be_base.specs.declared.names.AttrNo.{AttrNo}
 use Rattle.be_model.specs.declared.changes.Row.{Row}
@@ -8,8 +8,8 @@ use Rattle.be_model.specs.Schemas.{Attributes}
 use Rattle.be_shape.specs.Plain.{Plain, Parts, no_part, part, Half, no_half, half, rows_below}
 use Rattle.be_shape.specs.Shape.{NodeRange}
 use Rattle.be_shape.specs.Children.{children, may_pass}
-use Rattle.be_shape.specs.Paths.{part_on}
-use Rattle.be_shape.specs.Steps.{rows_of_node}
+use Rattle.be_shape.specs.Paths.{part_on, child}
+use Rattle.be_shape.specs.Steps.{rows_of_node, without_child}
 use Rattle.be_shape.specs.Less.{is_bare}
 
 -- the row may pass to one of the node's children
@@ -40,3 +40,11 @@ is_first a (suc i) (part b root more) = not (b.0 == a.0) && is_first a i more
 -- the rows below the part of an attribute
 abbrev pub rows_on : AttrNo → Parts → List Row
 rows_on a parts = rows_of_node (part_on a parts)
+
+abbrev pub is_bare_child : Option Plain → Bool
+is_bare_child None = false
+is_bare_child (Some n) = is_bare n
+
+-- a node without the child at the end of a step, where that is bare
+abbrev pub without_bare : Hop → Plain → Plain
+without_bare hop n = if is_bare_child (child hop n) then without_child hop n else n

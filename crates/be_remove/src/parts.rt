@@ -16,9 +16,9 @@ ghost use Rattle.be_shape.specs.Spots.{known_of};
 ghost use Rattle.be_shape.specs.Steps.{rows_at};
 ghost use Rattle.be_shape.specs.Children.{roots_of};
 ghost use Rattle.be_shape.specs.Less.{IsRightBelow, IsLess};
-ghost use Rattle.be_remove.specs.Taken.{is_first, rows_on};
+ghost use Rattle.be_remove.specs.Taken.{is_first, rows_on, without_bare};
 
-use crate::leaves::drop_part;
+use crate::leaves::{drop_half, drop_part};
 use crate::takes::take_from_child;
 use be_base::AttrNo;
 use be_model::{Hop, Row, Schema};
@@ -81,4 +81,19 @@ pub fn take_below_part(n: &mut Node, s: &Schema, k: &Spot, a: AttrNo, row: &Row)
     ensures right { IsRight s.now (known_of k.now) (plain n.new) }
 {
     take_from_part(&mut n.parts, s, a, k.range, row)
+}
+
+/// Drops the child at the end of a step where it has no rows, parts or halves, and so none below. It takes no memory.
+pub fn drop_bare(n: &mut Node, hop: Hop)
+    ensures { plain n.new ≡ without_bare hop (plain n.old) }
+{
+    match hop {
+        Hop::Part(a) => {
+            if let Some(place) = place_of(n.parts.as_slice(), a) {
+                drop_part(&mut n.parts, place);
+            }
+        }
+        Hop::Low => drop_half(&mut n.low),
+        Hop::High => drop_half(&mut n.high),
+    }
 }

@@ -11,6 +11,7 @@ ghost use Rattle.be_shape.specs.Plain.{plain, contents};
 use be_base::{Id, LOG_CHANGES, Name, SessionNo};
 use be_insert::place;
 use be_model::{Conj, Domain, Names, Row, Schema};
+use be_remove::take;
 use be_shape::Tree;
 use std::alloc::Global;
 use std::sync::Arc;
@@ -44,6 +45,19 @@ impl Grown {
         self.next += 1;
         place_next(&mut self.tree, next, row)
     }
+
+    /// Takes the row, where it is there.
+    pub(crate) fn take(&mut self, row: &Row) -> Option<Arc<Row>> {
+        take_below(&mut self.tree, self.next, row)
+    }
+}
+
+// Takes the row, where it is there; the ids are still below the next.
+fn take_below(tree: &mut Tree, next: u64, row: &Row) -> Option<Arc<Row>>
+    requires { list_all (λ r. nat_lt r.0 next) (contents (plain tree.old.root)) ≡ true }
+    ensures { list_all (λ r. nat_lt r.0 next) (contents (plain tree.new.root)) ≡ true }
+{
+    take(tree, row)
 }
 
 // Places a row of the next id, and says whether it stands there then.

@@ -6,7 +6,6 @@ use crate::insert::{finds_as_list, has_ids};
 use be_base::{AttrNo, Id, Name, SessionNo};
 use be_expr::read_expr;
 use be_model::{Conj, Event, Hop, Path, Row, Values};
-use be_remove::take;
 use be_shape::Tree;
 use std::alloc::Global;
 use std::process::Abort;
@@ -44,14 +43,14 @@ fn put(rt: &impl Abort, alloc: Global, grown: &mut Grown, text: &str) -> Result<
 }
 
 // Takes the row, which is there, and then isn't.
-fn take_once(rt: &impl Abort, tree: &mut Tree, row: &Row) {
-    let before = tree.len();
-    match take(tree, row) {
+fn take_once(rt: &impl Abort, grown: &mut Grown, row: &Row) {
+    let before = grown.tree.len();
+    match grown.take(row) {
         Some(taken) => assert_eq!(rt; taken.id.0, row.id.0),
         None => panic!(rt; "{} isn't there", row.id.0),
     }
-    assert_eq!(rt; tree.len().checked_add(1), Some(before));
-    assert!(rt; take(tree, row).is_none(), "{} is there twice", row.id.0);
+    assert_eq!(rt; grown.tree.len().checked_add(1), Some(before));
+    assert!(rt; grown.take(row).is_none(), "{} is there twice", row.id.0);
 }
 
 fn is_there(tree: &Tree, path: &Path) -> bool {
@@ -66,22 +65,27 @@ fn rows_of_one_price_leave_no_node_behind(rt: HostRuntime) -> Result<(), Fail> {
     for _ in 0..17 {
         rows.push(put(&rt, alloc, &mut grown, "price = 5")?)?;
     }
-    let tree = &mut grown.tree;
     let mut path = Path::make(alloc);
     path.push(Hop::Part(AttrNo(0)))?;
     for _ in 0..7 {
         path.push(Hop::Low)?;
     }
-    assert!(rt; is_there(tree, &path));
+    assert!(rt; is_there(&grown.tree, &path));
     for place in 0..17 {
         // Every row is taken once: 7 and 17 have no common divisor.
         let place = place * 7 % 17;
         if let Some(row) = rows.get(place) {
-            take_once(&rt, tree, row);
+            take_once(&rt, &mut grown, row);
         }
     }
-    assert_eq!(rt; (tree.len(), is_there(tree, &path)), (0, false));
-    assert_eq!(rt; (tree.root.parts.len(), tree.root.leaf.len()), (0, 0));
+    assert_eq!(rt;
+        (grown.tree.len(), is_there(&grown.tree, &path)),
+        (0, false)
+    );
+    assert_eq!(rt;
+        (grown.tree.root.parts.len(), grown.tree.root.leaf.len()),
+        (0, 0)
+    );
     Ok(())
 }
 
@@ -105,7 +109,7 @@ fn a_row_that_differs_is_not_taken(rt: HostRuntime) -> Result<(), Fail> {
             conj: conj_of(&rt, alloc, &grown.tree, text)?,
         };
         assert!(rt;
-            take(&mut grown.tree, &other).is_none(),
+            grown.take(&other).is_none(),
             "{id} {session} {name} {text}"
         );
     }
@@ -132,7 +136,7 @@ fn four_hundred_rows_are_taken_in_mixed_order(rt: HostRuntime) -> Result<(), Fai
         let place = number * 149 % rows.len().max(1);
         if place < rows.len() {
             let row = rows.remove(place);
-            take_once(&rt, &mut grown.tree, &row);
+            take_once(&rt, &mut grown, &row);
         }
         if number % 50 == 49 {
             assert!(rt;
