@@ -1,3 +1,6 @@
 pub mod Fitting
 pub mod Others
 pub mod Merged
+pub mod Finding
+pub mod Cancelled
+pub mod Shifted

@@ -1,1 +1,4 @@
 pub mod Fits
+pub mod Finds
+pub mod Shifts
+pub mod Kinds

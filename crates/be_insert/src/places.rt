@@ -113,8 +113,8 @@ fn place_here(
     }
 }
 
-// Puts the row below the node, or hands it back where memory is wanting.
-fn place_below(
+/// Puts the row below the node, or hands it back where memory is wanting. Where the spot is left is open.
+pub fn place_below(
     n: &mut Node,
     s: &Schema,
     alpha: u8,

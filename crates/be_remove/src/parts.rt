@@ -7,7 +7,7 @@ ghost use Rattle.be_base.specs.declared.names.AttrNo.{AttrNo};
 ghost use Rattle.be_model.specs.declared.paths.Hop.{Hop};
 ghost use Rattle.be_model.specs.Forms.{attrs_rise};
 ghost use Rattle.be_model.specs.Lies.{row_lies};
-ghost use Rattle.be_shape.specs.Plain.{plain, parts_as, leaf_of};
+ghost use Rattle.be_shape.specs.Plain.{plain, parts_as, rows_below, leaf_of};
 ghost use Rattle.be_shape.specs.Shape.{attrs_of};
 ghost use Rattle.be_shape.specs.Paths.{child, part_on};
 ghost use Rattle.be_shape.specs.Ranges.{is_bounded, is_rising};
@@ -74,6 +74,7 @@ pub fn take_below_part(n: &mut Node, s: &Schema, k: &Spot, a: AttrNo, row: &Row)
     ensures there { IsSome result ↔ Contains (rows_at (Hop.Part a) (plain n.old)) row.now }
     ensures same { IfSome result (λ r. arc_value r ≡ row.now) }
     ensures taken { OnSome result (IsPermutation (rows_at (Hop.Part a) (plain n.old)) (row.now ∷ rows_at (Hop.Part a) (plain n.new))) }
+    ensures rows { OnSome result (IsPermutation (rows_below (plain n.old)) (row.now ∷ rows_below (plain n.new))) }
     ensures others { (hop : Hop) → hop ≢ Hop.Part a → child hop (plain n.new) ≡ child hop (plain n.old) }
     ensures leaf { leaf_of (plain n.new) ≡ leaf_of (plain n.old) }
     ensures none { IfNone result (plain n.new ≡ plain n.old) }

@@ -2,7 +2,7 @@
 use Rattle.std.proofs.Common.{◌≡◌, ◌<◌, Bool, true, false, not, cond, eqb, leb, ◌&&◌, ◌||◌, List, [], ◌∷◌, ◌++◌, length, Option, Some, None, option_and_then, refl, sym, ap, ◌∙◌, subst, arith}
 use Rattle.std.specs.Prelude.{IsPermutation}
 use Rattle.std.specs.List.{list_all, AllByRecursion}
-use Rattle.std.proofs.lemmas.Bool.{eqb-true}
+use Rattle.std.proofs.lemmas.Bool.{eqb-true, and_from}
 use Rattle.std.proofs.lemmas.List.Folds.{list_any-append}
 use Rattle.std.proofs.lemmas.List.{append_assoc}
 use Rattle.std.proofs.lemmas.List.Sorted.{IsPermutation-append_right, IsPermutation-trans, IsPermutation-sym, length_permutation}
@@ -18,7 +18,7 @@ use Rattle.be_shape.specs.Shape.{Known, is_used, is_stuck, spans_inside, may_sta
 use Rattle.be_shape.specs.Children.{roots_of, root_of, children, known_below, is_open, may_pass}
 use Rattle.be_shape.specs.Paths.{part_on, child, walk, range_below, range_along, is_used_on}
 use Rattle.be_shape.specs.Right.{is_right_at, IsRight}
-use Rattle.be_shape.specs.NodeList.{known_along}
+use Rattle.be_shape.specs.NodeList.{known_along, are_open}
 use Rattle.be_shape.specs.Steps.{is_node, other_part, other_child, change_child, replaced}
 use Rattle.be_shape.specs.Swaps.{node_or}
 use Rattle.be_shape.proofs.Children.{Each-from_test, test_from_Each, levels}
@@ -27,7 +27,7 @@ use Rattle.be_shape.proofs.Levels.{holds_rows, pruned_is, passes_one, drawn_is}
 use Rattle.be_shape.proofs.Lists.{all_permuted}
 use Rattle.be_shape.proofs.OneLevel.{Each-middle, Each-without, Each-at, others, child_last, right_here, right_from}
 use Rattle.be_shape.proofs.NodeSteps.{IsBelow, placed_by, settled_is, some_rows, some_length}
-use Rattle.be_shape.proofs.Among.{Among, child_right, behind_parts}
+use Rattle.be_shape.proofs.Among.{Among, is_open_at, child_right, behind_parts}
 
 -- a node whose children are those of another but for one
 pub record OneOther (n w m o : Plain) (hop : Hop) : Type 0 where
@@ -283,3 +283,11 @@ used_known s (hop ∷ hops) k a = used_known s hops (known_below s hop k) a ∙ 
     one (Part b) = last (is_used_on hops a) (eqb b.0 a.0) (is_used k.used a)
     one Low = refl
     one High = refl
+
+-- each step of a path that is there may be made
+pub open_on : (s : Attributes) (hops : List Hop) (k : Known) (n m : Plain) → IsRight s k n → walk hops n ≡ Some m → are_open s hops k ≡ true
+open_on s [] k n m r h = refl
+open_on s (hop ∷ hops) k n m r h =
+    let z = stepped hops (child hop n) m h in
+    let a = among_of n (other_child hop z.0 n) z.0 z.0 hop (one_other hop n z.0 z.0 z.1) in
+    and_from (is_open hop k) (are_open s hops (known_below s hop k)) (is_open_at s k n z.0 hop r a) (open_on s hops (known_below s hop k) z.0 m (child_right s k n z.0 hop r a) z.2)

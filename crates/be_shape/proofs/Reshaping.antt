@@ -72,9 +72,6 @@ ended test s hops n h = by_node (walk hops n) refl h
 pub ends_at : (test : Known → Plain → Bool) (s : Attributes) (hops : List Hop) (n m : Plain) → walk hops n ≡ Some m → at_end test s hops n ≡ test (known_along s hops nothing) m
 ends_at test s hops n m h = ap (test_at test (known_along s hops nothing)) h
 
-pub ends_nowhere : (test : Known → Plain → Bool) (s : Attributes) (hops : List Hop) (n : Plain) → walk hops n ≡ None → at_end test s hops n ≡ false
-ends_nowhere test s hops n h = ap (test_at test (known_along s hops nothing)) h
-
 pub changed_is : (change : Known → Plain → Plain) (s : Attributes) (hops : List Hop) (n m : Plain) → walk hops n ≡ Some m → changed_at change s hops n ≡ replaced hops (change (known_along s hops nothing) m) n
 changed_is change s hops n m h = ap (λ o. change_node change (known_along s hops nothing) hops o n) h
 

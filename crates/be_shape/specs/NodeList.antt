@@ -1,5 +1,5 @@
 -- All nodes of a tree, in order, each with its path.
-use Rattle.std.specs.Prelude.{◌≡◌, ◌≢◌, Bool, true, List, [], ◌∷◌, ◌++◌, Some}
+use Rattle.std.specs.Prelude.{◌≡◌, ◌≢◌, ◌&&◌, Bool, true, List, [], ◌∷◌, ◌++◌, Some}
 use Rattle.std.specs.List.{list_all, All, Contains}
 use Rattle.be_model.specs.declared.paths.Hop.{Hop}
 use Rattle.be_model.specs.declared.paths.Hop.TheVariants.{Part, Low, High}
@@ -7,7 +7,7 @@ use Rattle.be_model.specs.Schemas.{Attributes}
 use Rattle.be_shape.specs.Plain.{Plain, node, Parts, no_part, part, Half, no_half, half}
 use Rattle.be_shape.specs.Shape.{Known, nothing, in_part, in_low, in_high, everywhere, is_settled_at}
 use Rattle.be_shape.specs.Paths.{walk}
-use Rattle.be_shape.specs.Children.{known_below}
+use Rattle.be_shape.specs.Children.{known_below, is_open}
 
 -- a node, the path to it, and what the path says of it
 pub record NodeAt : Type 0 where
@@ -42,6 +42,11 @@ nodes s n = nodes_from s [] nothing n
 abbrev pub known_along : Attributes → List Hop → Known → Known
 known_along s [] k = k
 known_along s (hop ∷ hops) k = known_along s hops (known_below s hop k)
+
+-- each step of a path may be made
+abbrev pub are_open : Attributes → List Hop → Known → Bool
+are_open s [] k = true
+are_open s (hop ∷ hops) k = is_open hop k && are_open s hops (known_below s hop k)
 
 -- a test holds everywhere exactly where it holds of each node in the list
 abbrev pub HoldsAtNodes : Attributes → Plain → Type 0

@@ -1,9 +1,10 @@
 //! Where a node stands in its tree.
 
-ghost use Rattle.std.specs.Prelude.{◌≡◌, true, OnOk, OnErr};
+ghost use Rattle.std.specs.Prelude.{◌≡◌, true, OnOk, OnErr, IfOk};
 ghost use Rattle.be_shape.specs.Shape.{nothing, known};
 ghost use Rattle.be_shape.specs.Ranges.{is_bounded, is_rising};
 ghost use Rattle.be_shape.specs.Children.{is_open, known_below};
+ghost use Rattle.be_shape.specs.NodeList.{known_along, are_open};
 
 use crate::ranges::{NodeRange, lower_range, upper_range, whole_range};
 use be_base::{AttrNo, NoMemory};
@@ -60,5 +61,17 @@ impl Spot {
             let _ = self.used.remove(0);
         }
         self.range = range;
+    }
+
+    /// Of the node at the end of a path.
+    pub fn along(alloc: Global, s: &Schema, hops: &[Hop]) -> Result<Spot, NoMemory>
+        requires { are_open s.now hops.now nothing ≡ true }
+        ensures { IfOk result (λ k. known_of k ≡ known_along s.now hops.now nothing) }
+    {
+        let mut spot = Spot::root(alloc);
+        for hop in hops {
+            spot.enter(s, *hop)?;
+        }
+        Ok(spot)
     }
 }

@@ -15,8 +15,8 @@ use Rattle.be_shape.proofs.Children.{Each-parts}
 use Rattle.be_shape.proofs.Plains.{plain_out}
 use Rattle.be_shape.proofs.OneLess.{right_below}
 use Rattle.be_remove.specs.Taken.{rows_on}
-use Rattle.be_remove.proofs.Groups.{either}
-use Rattle.be_remove.proofs.Nodes.{level, right_at, same_at, parts_at}
+use Rattle.be_remove.proofs.Groups.{either, on_some}
+use Rattle.be_remove.proofs.Nodes.{level, taken_at, right_at, same_at, parts_at}
 use Rattle.be_remove.proofs.Roots.{there_from}
 use Rattle.be_remove.proofs.parts.take_below_part.Goals as goal
 
@@ -49,3 +49,9 @@ returns-clause-right c =
     let y : Node-F Node PartOf = record x { parts = c.take_from_part.new.parts } in
     either c.take_from_part.result c.take_from_part.ensures.less c.take_from_part.ensures.none (λ l. right_at s k.range c.args.row.now n y refl (parts_at s k.range c.args.row.now n y refl refl l) k.used.items c.requires.right)
     (λ e. subst (IsRight s (known_of k)) (sym (same_at n y refl e refl refl)) c.requires.right)
+
+pub returns-clause-rows : goal.returns-clause-rows
+returns-clause-rows c =
+    let n = c.args.n.now in
+    let y : Node-F Node PartOf = record (out-Node n) { parts = c.take_from_part.new.parts } in
+    on_some c.take_from_part.result c.take_from_part.ensures.less (λ l. taken_at c.args.s.now c.args.k.now.range c.args.row.now n y refl (parts_at c.args.s.now c.args.k.now.range c.args.row.now n y refl refl l))
