@@ -5,11 +5,13 @@ ghost use Rattle.std.specs.Arc.{arc_value};
 ghost use Rattle.be_shape.specs.Plain.{plain, contents};
 
 use crate::gathers::gather;
+use be_adjust::apply;
 use be_base::{NoMemory, SessionNo};
 use be_index::Index;
 use be_insert::place;
 use be_match::{cost_of, find_in};
 use be_model::{Cost, Event, Found, Row, Schema, Step, StepDone};
+use be_plan::{plan, plan_is_whole};
 use be_remove::take;
 use be_shape::Tree;
 use std::alloc::Global;
@@ -33,9 +35,11 @@ impl BeTree {
 }
 
 impl Index for BeTree {
-    ghost use Rattle.std.specs.Prelude.{true, false, None};
+    ghost use Rattle.std.specs.Prelude.{true};
     ghost use Rattle.be_model.specs.Costs.{cost};
+    ghost use Rattle.be_plan.specs.Plan.{plan};
     ghost use Rattle.be_shape.specs.Search.{visits, tested};
+    ghost use Rattle.be_shape.specs.Steps.{stands};
 
     ghost schema = { λ t. arc_value t.0.schema };
 
@@ -45,7 +49,9 @@ impl Index for BeTree {
 
     ghost cost_of = { λ t e. cost (visits (arc_value t.0.schema) e (plain t.0.root)) (tested (arc_value t.0.schema) e (plain t.0.root)) };
 
-    ghost can_step = { λ t step. false };
+    ghost can_step = { λ t step. stands (arc_value t.0.schema) step (plain t.0.root) };
+
+    ghost planned = { λ t. plan (arc_value t.0.schema) t.0.alpha (plain t.0.root) };
 
     fn lies(&self, row: &Row) -> bool {
         row.lies(&self.0.schema)
@@ -75,18 +81,17 @@ impl Index for BeTree {
         gather(&self.0, None, found)
     }
 
-    // TEMPORARY until be_remove, be_adjust and be_plan are here
-    ghost planned = { λ t. None };
-
     fn remove(&mut self, row: &Row) -> bool {
         take(&mut self.0, row).is_some()
     }
 
-    fn step(&mut self, _step: &Step) -> StepDone {
-        StepDone::NotHere
+    fn step(&mut self, step: &Step) -> StepDone {
+        apply(&mut self.0, step)
     }
 
     fn plan(&self) -> Result<Option<Step>, NoMemory> {
-        Ok(None)
+        // What is planned stands.
+        plan_is_whole(&self.0);
+        plan(&self.0)
     }
 }
