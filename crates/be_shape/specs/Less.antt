@@ -15,7 +15,7 @@ abbrev pub is_bare : Plain → Bool
 is_bare (node [] no_part no_half no_half) = true
 is_bare _ = false
 
--- a node stands right in a range, whatever was used on the path to it
+-- a node stands right in a range, with some attributes used on the path to it
 abbrev pub IsRightIn : Attributes → NodeRange → Plain → Type 0
 IsRightIn s r n = (used : List AttrNo) × IsRight s (known r used) n
 
