@@ -34,8 +34,8 @@ fn put_equals(
     Ok(true)
 }
 
-// The visits and the tested rows of a search for these values of attributes, which rise.
-fn cost(alloc: Global, tree: &Tree, values: &[(u16, i64)]) -> Result<(u64, u64), Fail> {
+/// The visits and the tested rows of a search for these values of attributes, which rise.
+pub(crate) fn cost(alloc: Global, tree: &Tree, values: &[(u16, i64)]) -> Result<(u64, u64), Fail> {
     let mut event = Event::make(alloc);
     for (attr, value) in values {
         let attr = AttrNo(*attr);

@@ -11,3 +11,5 @@ mod insert;
 mod plain_walk;
 #[cfg(test)]
 mod remove;
+#[cfg(test)]
+mod steps;
