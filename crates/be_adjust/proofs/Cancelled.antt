@@ -1,7 +1,7 @@
 -- Rows of different ids, with a row more: without it they are the same too.
-use Rattle.std.proofs.Common.{◌≡◌, ◌<◌, ◌≤◌, ◌+◌, ℕ, zero, suc, Bool, true, false, not, cond, eqb, ◌&&◌, ◌||◌, List, [], ◌∷◌, ◌++◌, length, get_or, Option, None, Some, ◌⊎◌, inl, inr, refl, sym, ap, ◌∙◌, subst, arith, length-append}
+use Rattle.std.proofs.Common.{◌≡◌, ◌<◌, ◌≤◌, ℕ, zero, suc, Bool, true, false, not, cond, List, [], ◌∷◌, ◌++◌, length, get_or, Some, ◌⊎◌, inl, inr, refl, sym, ap, ◌∙◌, subst, arith, length-append}
 use Rattle.std.specs.Prelude.{IsPermutation}
-use Rattle.std.specs.List.{list_any, list_all, count_by, Contains, remove}
+use Rattle.std.specs.List.{list_any, count_by, Contains, remove}
 use Rattle.std.proofs.lemmas.Bool.{and_parts, not-true, eq-eqb, eqb-true, false≢true}
 use Rattle.std.proofs.lemmas.List.Sums.{sum_by-cons, sum_by-append}
 use Rattle.std.proofs.lemmas.List.Folds.{list_any_at}
@@ -10,7 +10,7 @@ use Rattle.std.proofs.lemmas.List.Sorted.{IsPermutation-refl, IsPermutation-cons
 use Rattle.be_model.specs.declared.changes.Row.{Row}
 use Rattle.be_model.specs.Rows.{id_of}
 use Rattle.be_model.specs.ByIds.{row_at, by_ids, ids_differ}
-use Rattle.be_model.proofs.RowsByIds.{row_found, found_row}
+use Rattle.be_model.proofs.RowsByIds.{row_found}
 use Rattle.be_shape.proofs.Contents.{with_id, present, once, from_once, still_differ}
 
 -- the first of a list, or one of the others

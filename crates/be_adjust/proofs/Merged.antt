@@ -1,9 +1,9 @@
 -- A merge: where it stands, and what it leaves.
-use Rattle.std.proofs.Common.{◌≡◌, ◌<◌, ◌≤◌, ◌+◌, ◌-◌, ℕ, zero, suc, Bool, true, false, not, cond, eqb, leb, ◌&&◌, ◌||◌, List, [], ◌∷◌, ◌++◌, length, get_or, Option, None, Some, option_map, refl, sym, ap, ◌∙◌, subst, arith, length-append}
+use Rattle.std.proofs.Common.{◌≡◌, ◌≤◌, ◌+◌, ℕ, suc, Bool, true, false, not, cond, eqb, leb, ◌&&◌, List, [], ◌∷◌, ◌++◌, length, Option, None, Some, option_map, refl, sym, ap, ◌∙◌, subst, arith, length-append}
 use Rattle.std.specs.Prelude.{IsPermutation}
 use Rattle.std.specs.List.{list_all, remove, flat_map, AllByRecursion}
 use Rattle.std.specs.Arc.{arc_value}
-use Rattle.std.proofs.lemmas.Bool.{and_parts, and_from, eqb-true, leb-true, leb-false, le-leb, lt-leb, or_left, not-true, not_from_false, or_parts, or_from}
+use Rattle.std.proofs.lemmas.Bool.{and_parts, and_from, eqb-true, leb-true, le-leb, or_left, not-true, not_from_false, or_parts, or_from}
 use Rattle.std.proofs.lemmas.List.{append_assoc}
 use Rattle.std.proofs.lemmas.List.Folds.{list_any-append}
 use Rattle.std.proofs.lemmas.List.Sorted.{IsPermutation-trans}
@@ -16,24 +16,24 @@ use Rattle.be_model.specs.Forms.{attrs_rise}
 use Rattle.be_model.specs.Schemas.{Attributes, numbered}
 use Rattle.be_shape.specs.declared.nodes.Part.{Part as PartOf}
 use Rattle.be_shape.specs.declared.trees.Tree.{Tree}
-use Rattle.be_shape.specs.Plain.{Plain, plain, node, Parts, no_part, part, Half, no_half, half, parts_of, parts_as, part_as, rows_below, leaf_of, parts_under}
+use Rattle.be_shape.specs.Plain.{Plain, plain, node, Parts, no_part, part, no_half, half, parts_as, part_as, rows_below, leaf_of, parts_under}
 use Rattle.be_shape.specs.Shape.{Known, nothing, is_stuck, spans_inside, may_stand, attrs_of}
 use Rattle.be_shape.specs.Children.{roots_of, root_of, children, is_open, may_pass, with_leaf}
 use Rattle.be_shape.specs.Paths.{part_on, child, walk}
 use Rattle.be_shape.specs.Right.{is_right_at, IsRight}
 use Rattle.be_shape.specs.NodeList.{known_along}
-use Rattle.be_shape.specs.Steps.{is_node, rows_at, rows_of_node, without_part, without_child, may_merge, can_merge, merged, front, last, can_merge_at, merged_at, at_end, changed_at}
+use Rattle.be_shape.specs.Steps.{rows_at, rows_of_node, without_part, without_child, may_merge, can_merge, merged, front, last, can_merge_at, merged_at, at_end, changed_at}
 use Rattle.be_shape.specs.Swaps.{place_on}
 use Rattle.be_shape.proofs.Children.{Each-from_test, test_from_Each, levels, rows_of, rows_are}
-use Rattle.be_shape.proofs.Placed.{Placed, is_placed_from}
+use Rattle.be_shape.proofs.Placed.{is_placed_from}
 use Rattle.be_shape.proofs.Levels.{holds_rows, pruned_is, passes_one, drawn_is}
 use Rattle.be_shape.proofs.Lists.{all_permuted, all_back, all_both, swap_last}
 use Rattle.be_shape.proofs.OneLevel.{Each-without, others, child_last, right_here, right_from}
 use Rattle.be_shape.proofs.NodeSteps.{IsBelow, placed_by, settled_is, leaf_children, leaf_parts, leaf_leaf}
 use Rattle.be_shape.proofs.Among.{behind_parts}
-use Rattle.be_shape.proofs.Replacements.{Reshaped, OneOther, one_other}
+use Rattle.be_shape.proofs.Replacements.{Reshaped, one_other}
 use Rattle.be_shape.proofs.Reshaping.{SameRows, right_at, reshaped_at, ended, changed_is}
-use Rattle.be_adjust.specs.Fits.{stays, fit, HasRows, MayMerge}
+use Rattle.be_adjust.specs.Fits.{stays, HasRows, MayMerge}
 use Rattle.be_adjust.proofs.Others.{rise_without}
 
 -- the rows below a child are rows of the node

@@ -1,5 +1,5 @@
 -- Children of a node but one, and whether a row may pass to one of them.
-use Rattle.std.proofs.Common.{◌≡◌, ◌<◌, ℕ, Bool, true, false, not, cond, eqb, ltb, ◌&&◌, ◌||◌, List, [], ◌∷◌, refl, sym, ap, ◌∙◌, arith}
+use Rattle.std.proofs.Common.{◌≡◌, Bool, true, false, not, cond, eqb, ltb, ◌&&◌, ◌||◌, List, [], ◌∷◌, refl, sym, ap, ◌∙◌, arith}
 use Rattle.std.specs.List.{list_any}
 use Rattle.std.proofs.lemmas.Bool.{and_parts, and_from, eqb-true, ne_eqb, ltb-true, lt-ltb}
 use Rattle.be_base.specs.declared.names.AttrNo.{AttrNo}
@@ -9,9 +9,9 @@ use Rattle.be_model.specs.declared.paths.Hop.TheVariants.{Part, Low, High}
 use Rattle.be_model.specs.Forms.{attrs_rise}
 use Rattle.be_model.specs.Rows.{has}
 use Rattle.be_model.specs.Schemas.{Attributes}
-use Rattle.be_shape.specs.Plain.{Plain, node, Parts, no_part, part, Half, no_half, half, parts_under}
+use Rattle.be_shape.specs.Plain.{Plain, node, Parts, no_part, part, no_half, parts_under}
 use Rattle.be_shape.specs.Shape.{NodeRange, known, lower, upper, fits_half, attrs_of}
-use Rattle.be_shape.specs.Steps.{without_part, without_child}
+use Rattle.be_shape.specs.Steps.{without_part}
 use Rattle.be_shape.proofs.Levels.{passes_is}
 use Rattle.be_adjust.specs.Fits.{stays, passes_others}
 

@@ -1,11 +1,10 @@
 -- A shift: where it stands, and what it leaves.
-use Rattle.std.proofs.Common.{◌≡◌, ◌≢◌, ◌<◌, ◌≤◌, ℕ, zero, suc, Bool, true, false, not, cond, eqb, ◌&&◌, List, [], ◌∷◌, ◌++◌, length, get_or, Option, None, Some, MatchOption, option_map, option_and_then, refl, sym, ap, ◌∙◌, subst, arith}
+use Rattle.std.proofs.Common.{◌≡◌, ◌≢◌, ◌≤◌, ℕ, zero, suc, Bool, true, false, not, cond, eqb, ◌&&◌, List, [], ◌∷◌, ◌++◌, length, Option, None, Some, MatchOption, option_map, option_and_then, refl, sym, ap, ◌∙◌, subst, arith}
 use Rattle.std.specs.Prelude.{IsPermutation}
 use Rattle.std.specs.List.{list_all, list_any, Contains}
 use Rattle.std.proofs.lemmas.Bool.{and_parts, and_from, not-true, not_from_false, eqb-true, eq-eqb, ne_eqb}
 use Rattle.std.proofs.lemmas.List.{append-nil}
-use Rattle.std.proofs.lemmas.List.Sorted.{IsPermutation-append_comm, IsPermutation-trans, IsPermutation-sym, IsPermutation-append_left, Contains-permutation}
-use Rattle.std.proofs.lemmas.List.Elements.{Contains-append_left}
+use Rattle.std.proofs.lemmas.List.Sorted.{IsPermutation-append_comm, IsPermutation-trans}
 use Rattle.be_base.specs.declared.names.AttrNo.{AttrNo}
 use Rattle.be_model.specs.declared.changes.Row.{Row}
 use Rattle.be_model.specs.declared.paths.Hop.{Hop}
@@ -13,19 +12,16 @@ use Rattle.be_model.specs.declared.paths.Hop.TheVariants.{Part, Low, High}
 use Rattle.be_model.specs.ByIds.{ids_differ}
 use Rattle.be_model.specs.Rows.{id_of, has}
 use Rattle.be_model.specs.Schemas.{Attributes, IsSchema, numbered}
-use Rattle.be_shape.specs.Plain.{Plain, node, Parts, no_part, part, Half, no_half, half, rows_below, leaf_of, parts_under}
-use Rattle.be_shape.specs.Shape.{Known, nothing, spans_inside, may_stand, attrs_of}
-use Rattle.be_shape.specs.Children.{known_below, is_open, may_pass}
+use Rattle.be_shape.specs.Plain.{Plain, node, Parts, no_part, part, rows_below, leaf_of}
+use Rattle.be_shape.specs.Shape.{Known, spans_inside, may_stand}
+use Rattle.be_shape.specs.Children.{known_below, is_open}
 use Rattle.be_shape.specs.Paths.{part_on, child, walk}
-use Rattle.be_shape.specs.Right.{is_right_at, IsRight}
-use Rattle.be_shape.specs.NodeList.{known_along}
-use Rattle.be_shape.specs.Steps.{is_node, rows_at, rows_of_node, other_part, other_half, other_child, change_child, replaced, can_shift, IsShifted}
-use Rattle.be_shape.proofs.Lists.{all_permuted, all_back}
+use Rattle.be_shape.specs.Right.{IsRight}
+use Rattle.be_shape.specs.Steps.{is_node, rows_at, rows_of_node, other_part, other_child, can_shift, IsShifted}
 use Rattle.be_shape.proofs.OneLevel.{others, child_last}
-use Rattle.be_shape.proofs.Placed.{Placed}
 use Rattle.be_shape.proofs.Among.{Among, placed_at, is_open_at, child_right, row_inside}
 use Rattle.be_shape.proofs.Contents.{still_differ}
-use Rattle.be_shape.proofs.Replacements.{OneOther, one_other, child_set}
+use Rattle.be_shape.proofs.Replacements.{one_other, child_set}
 use Rattle.be_insert.proofs.Steps.{Leaves, deeper}
 use Rattle.be_adjust.specs.Finds.{may_shift, first_of}
 use Rattle.be_adjust.specs.Shifts.{MayShift, MayShiftAt, PlacedBelow, TakesRow, PartTakes}

@@ -8,9 +8,10 @@ ghost use Rattle.be_model.specs.Lies.{row_lies};
 ghost use Rattle.be_model.specs.Rows.{id_of};
 ghost use Rattle.be_shape.specs.Plain.{plain, contents};
 
+use be_adjust::apply;
 use be_base::{Id, LOG_CHANGES, Name, SessionNo};
 use be_insert::place;
-use be_model::{Conj, Domain, Names, Row, Schema};
+use be_model::{Conj, Domain, Names, Row, Schema, Step, StepDone};
 use be_remove::take;
 use be_shape::Tree;
 use std::alloc::Global;
@@ -44,6 +45,11 @@ impl Grown {
         let next = self.next;
         self.next += 1;
         place_next(&mut self.tree, next, row)
+    }
+
+    /// Makes a step.
+    pub(crate) fn apply(&mut self, step: &Step) -> StepDone {
+        apply(&mut self.tree, step)
     }
 
     /// Takes the row, where it is there.

@@ -11,3 +11,5 @@ mod plain_walk;
 mod plan;
 #[cfg(test)]
 mod remove;
+#[cfg(test)]
+mod steps;

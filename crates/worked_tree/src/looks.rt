@@ -1,12 +1,29 @@
 //! Looks at a tree, beside a plain list.
 
 use crate::plain_walk::{Seen, look};
-use be_match::find_in;
-use be_model::{Event, Found, Row};
+use be_base::AttrNo;
+use be_match::{cost_of, find_in};
+use be_model::{Event, Found, Row, Values};
 use be_shape::Tree;
 use std::alloc::Global;
 use std::sync::Arc;
 use std::test::Fail;
+
+/// The visits and the tested rows of a search for these values of attributes, which rise.
+pub(crate) fn cost(alloc: Global, tree: &Tree, values: &[(u16, i64)]) -> Result<(u64, u64), Fail> {
+    let mut event = Event::make(alloc);
+    for (attr, value) in values {
+        let attr = AttrNo(*attr);
+        if event.accepts(attr) {
+            event.push((attr, Values::one(alloc, *value)?))?;
+        }
+    }
+    if !event.lies(&tree.schema) {
+        return Ok((0, 0));
+    }
+    let cost = cost_of(tree, &event);
+    Ok((cost.visits, cost.tested))
+}
 
 /// Whether the tree has the rows of the list, whose ids rise, each once, and is placed, drawn, pruned and settled.
 pub(crate) fn has_ids(alloc: Global, tree: &Tree, rows: &[Arc<Row>]) -> Result<bool, Fail> {

@@ -1,4 +1,4 @@
-use Rattle.std.proofs.Common.{◌≡◌, ◌+◌, ◌++◌, ◌∷◌, [], None, Some, option_map, drop, sym, ap, ◌∙◌, arith}
+use Rattle.std.proofs.Common.{◌≡◌, ◌+◌, ◌++◌, ◌∷◌, [], option_map, drop, sym, ap, ◌∙◌, arith}
 use Rattle.std.specs.Arc.{arc_value}
 use Rattle.be_shape.specs.declared.nodes.Node.TheViews.{out-Node}
 use Rattle.be_shape.specs.Plain.{plain, part_as, parts_of, parts_as, half_as, rows_below, rows_in_parts, rows_in_half}

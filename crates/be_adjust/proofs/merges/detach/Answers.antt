@@ -1,6 +1,6 @@
 use Rattle.std.proofs.Common.{Some, option_map, sym, ap, ◌∙◌, arith}
 use Rattle.be_model.specs.declared.paths.Hop.TheVariants.{Part}
-use Rattle.be_shape.specs.declared.nodes.Node.TheViews.{out-Node, out-Part}
+use Rattle.be_shape.specs.declared.nodes.Node.TheViews.{out-Node}
 use Rattle.be_shape.specs.Plain.{plain, node, parts_as, half_as}
 use Rattle.be_shape.specs.Paths.{child}
 use Rattle.be_shape.specs.Steps.{without_child}

@@ -1,4 +1,4 @@
-use Rattle.std.proofs.Common.{◌≡◌, false, eqb, sym, ap, ◌∙◌}
+use Rattle.std.proofs.Common.{sym}
 use Rattle.std.proofs.lemmas.Bool.{ne_eqb}
 use Rattle.std.specs.Arc.{arc_value}
 use Rattle.be_shape.specs.Plain.{plain}

@@ -1,4 +1,4 @@
-use Rattle.std.proofs.Common.{◌≡◌, true, Some, sym, ap, ◌∙◌, subst}
+use Rattle.std.proofs.Common.{◌≡◌, true, sym, ap, ◌∙◌, subst}
 use Rattle.std.specs.Prelude.{IsPermutation}
 use Rattle.std.specs.Arc.{arc_value}
 use Rattle.be_model.specs.declared.paths.Hop.TheVariants.{Part}
@@ -10,7 +10,6 @@ use Rattle.be_shape.specs.Children.{is_open, known_below}
 use Rattle.be_shape.specs.Paths.{walk}
 use Rattle.be_shape.specs.NodeList.{known_along}
 use Rattle.be_shape.specs.Right.{IsRight}
-use Rattle.be_shape.specs.Spots.{known_of}
 use Rattle.be_shape.specs.Steps.{replaced, IsShifted}
 use Rattle.be_shape.proofs.Replacements.{right_along, open_on, replaced_right}
 use Rattle.be_shape.proofs.Reshaping.{taken_out, put_back, on_ok}
