@@ -52,7 +52,7 @@ pub trait Index: Drop {
         requires lies { row_lies (schema self.old) (arc_value row) ≡ true }
         ensures put { OnOk result (rows self.new ≡ put_by_id (arc_value row) (rows self.old)) }
         ensures refused { OnErr result (rows self.new ≡ rows self.old) }
-        ensures back { IfErr result (λ e. e.0 ≡ row) }
+        ensures back { IfErr result (λ e. arc_value e.0 ≡ arc_value row) }
         ensures schema { schema self.new ≡ schema self.old }
         ensures bounded { is_bounded self.new ≡ is_bounded self.old };
 
