@@ -37,10 +37,10 @@ find_at p (x ∷ xs) id row up there wanted none = step (x.0 == id) refl there (
     step false is e more =
         ap (λ (b : Bool). cond b (Some x) (find p xs)) (none x.0 x.1 (row_at-above x.0 id xs row up.0 e) (row_at-first x xs x.0 refl)) ∙ more e
 
-abbrev no_pair : Option (ℕ × Row)
+abbrev pub no_pair : Option (ℕ × Row)
 no_pair = None
 
-abbrev nothing : Option Row
+abbrev pub nothing : Option Row
 nothing = None
 
 -- where no row passes there is no first

@@ -1,20 +1,23 @@
 -- What the type of a copy keeps, as its list grows.
-use Rattle.std.proofs.Common.{◌≡◌, ℕ, ◌==◌, true, false, List, [], ◌∷◌, ◌++◌, length, Result, Ok, Err, OnOk, refl, sym, ap, ◌∙◌, subst}
+use Rattle.std.proofs.Common.{◌≡◌, ℕ, ◌==◌, true, false, List, [], ◌∷◌, ◌++◌, length, Result, Ok, Err, OnOk, Bool, Option, Some, None, option_map, find, cond, ◌||◌, refl, sym, ap, ◌∙◌, subst}
 use Rattle.std.proofs.lemmas.Bool.{and_parts, and_from}
 use Rattle.std.proofs.lemmas.List.Folds.{list_all-append}
+use Rattle.std.specs.Option.{IfNone}
+use Rattle.be_base.specs.Text.{Text}
 use Rattle.be_model.specs.declared.changes.Row.{Row}
 use Rattle.be_model.specs.Rows.{id_of}
 use Rattle.be_model.specs.ByIds.{ByIds, AllBelow, has_id, row_at, put_by_id}
 use Rattle.be_model.specs.Schemas.{Attributes}
 use Rattle.be_model.specs.Lies.{row_lies, entry_lies}
 use Rattle.be_model.proofs.RisingIds.{above_is_new, put_greatest}
-use Rattle.be_change.specs.History.{Entry, subscribed, unsubscribed, left, live, after_entry}
+use Rattle.be_change.specs.History.{Entry, subscribed, unsubscribed, left, live, after_entry, has_name, is_live_name}
 use Rattle.be_change.specs.Sound.{all_lie}
 use Rattle.be_change.proofs.Grows.{live-append, live_below}
 use Rattle.be_change.proofs.Listed.{live_listed}
 use Rattle.be_copy.specs.declared.register.Register.{Register}
 use Rattle.be_copy.specs.Edits.{fits}
 use Rattle.be_copy.specs.Registers.{IsRegister, AreOfList, IsKept}
+use Rattle.be_copy.proofs.Firsts.{no_pair, unmapped}
 
 -- live rows are rows of the list
 pub kept_listed : (h : List Entry) (rows : ByIds) → rows ≡ live h → AreOfList h rows
@@ -48,3 +51,18 @@ kept_after s s' h h' rows rows' r r' e kept fit same grown become filed = record
       ∙ and_from (all_lie s h) (all_lie s (e ∷ [])) kept.lies (and_from (entry_lies s e) true (fits_lies s h e fit) refl);
   filed = filed;
 }
+
+-- no row has the name
+not_live : (name : Text) (l : ByIds) → find (has_name name) l ≡ no_pair → is_live_name name l ≡ false
+not_live name [] e = refl
+not_live name (x ∷ xs) e = step (has_name name x) e (λ rest. not_live name xs rest)
+  where
+    step : (b : Bool) → cond b (Some x) (find (has_name name) xs) ≡ no_pair → (find (has_name name) xs ≡ no_pair → is_live_name name xs ≡ false) → (b || is_live_name name xs) ≡ false
+    step true e more = absurd cc
+    step false e more = more e
+
+-- where none is lent the name isn't live
+pub none_named : {X : Type 0} (f : X → Row) (o : Option X) (rows l : ByIds) (name : Text) → rows ≡ l → option_map f o ≡ option_map (λ (x : ℕ × Row). x.1) (find (has_name name) rows)
+    → IfNone o (is_live_name name l ≡ false)
+none_named f None rows l name is e = ap (is_live_name name) (sym is) ∙ not_live name rows (unmapped (find (has_name name) rows) e)
+none_named f (Some x) rows l name is e = tt

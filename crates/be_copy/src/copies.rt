@@ -1,12 +1,14 @@
 //! A list of changes and an index of what is live in it.
 
-ghost use Rattle.std.specs.Prelude.{◌≡◌, ◌<◌, ◌++◌, ◌∷◌, [], true, length, find, option_map, OnOk, OnErr, IfOk, IsOk, if◌then◌else◌};
+ghost use Rattle.std.specs.Prelude.{◌≡◌, ◌<◌, ◌++◌, ◌∷◌, [], true, false, length, find, option_map, IfSome, OnOk, OnErr, IfOk, if◌then◌else◌};
 ghost use Rattle.std.specs.Arc.{arc_value};
+ghost use Rattle.std.specs.Option.{IfNone};
 ghost use Rattle.be_model.specs.declared.paths.StepDone.TheVariants.{Done, NotHere};
 ghost use Rattle.be_model.specs.Rows.{id_of};
 ghost use Rattle.be_model.specs.Lies.{row_lies};
 ghost use Rattle.be_change.specs.Entries.{entry_of, HasIdAt};
-ghost use Rattle.be_change.specs.History.{live, after_entry, has_name};
+ghost use Rattle.be_change.specs.History.{live, after_entry, has_name, is_live_name};
+ghost use Rattle.be_change.specs.Walk.{HasNameAt};
 ghost use Rattle.be_change.specs.Sound.{all_lie};
 ghost use Rattle.be_copy.specs.Edits.{fits, with_entry};
 ghost use Rattle.be_copy.specs.Registers.{IsKept, IsRegister};
@@ -75,7 +77,9 @@ impl<I: Index> Copy2<I> {
 
     /// The live row of a name: of several, which no well formed list has, that of the lowest id.
     pub fn named(&self, name: &Name) -> Option<&Arc<Row>>
-        ensures { option_map (λ row. arc_value row.now) result ≡ option_map (λ r. r.1) (find (has_name name.now) (live self.now.list)) }
+        ensures first { option_map (λ row. arc_value row.now) result ≡ option_map (λ r. r.1) (find (has_name name.now) (live self.now.list)) }
+        ensures there { IfSome result (λ row. HasNameAt (live self.now.list) (id_of (arc_value row.now)) name.now) }
+        ensures none { IfNone result (is_live_name name.now (live self.now.list) ≡ false) }
     {
         first(&self.log, &self.index, &self.register, Wanted::Named(name))
     }

@@ -119,7 +119,7 @@ fn put_row(rows: &mut BTreeMap<u64, Arc<Row>>, row: Arc<Row>) -> Result<(), (Arc
     requires { has_id (id_of (arc_value row)) (map_in rows.old.entries) ≡ false }
     ensures put { OnOk result (map_in rows.new.entries ≡ put_by_id (arc_value row) (map_in rows.old.entries)) }
     ensures refused { OnErr result (map_in rows.new.entries ≡ map_in rows.old.entries) }
-    ensures back { IfErr result (λ e. e.0 ≡ row) }
+    ensures back { IfErr result (λ e. arc_value e.0 ≡ arc_value row) }
 {
     let id = row.id.0;
     match rows.insert(id, row) {

@@ -1,6 +1,13 @@
--- Live rows are rows of the list.
-use Rattle.be_copy.proofs.Kept.{kept_listed}
+-- The wanted row is that of the name; live rows are rows of the list.
+use Rattle.std.specs.Arc.{arc_value}
+use Rattle.be_change.specs.History.{live}
+use Rattle.be_copy.proofs.Kept.{kept_listed, none_named}
 use Rattle.be_copy.proofs.copies.Copy2.named.Goals as goal
 
 pub first-requires-clause-listed : goal.first-requires-clause-listed
 first-requires-clause-listed g c = kept_listed c.self.inside.log.list (g.I.Index.rows c.self.inside.index) c.self.invariant.live
+
+pub returns-clause-none : goal.returns-clause-none
+returns-clause-none g c =
+    rw (← c.self.view_is)
+    (none_named (λ row. arc_value row.now) c.first.result (g.I.Index.rows c.self.inside.index) (live c.self.inside.log.list) c.args.name.now c.self.invariant.live c.first.ensures.first)
