@@ -52,13 +52,7 @@ fn look_at_merge(
     Ok(())
 }
 
-fn look_at_shift(
-    t: &Tree,
-    n: &Node,
-    k: &Spot,
-    path: &Path,
-    best: &mut Best,
-) -> Result<(), NoMemory>
+fn look_at_shift(t: &Tree, n: &Node, k: &Spot, path: &Path, best: &mut Best) -> Result<(), NoMemory>
     requires { IsAt (arc_value t.now.schema) (plain t.now.root) path.now (known_of k.now) (plain n.now) }
     ensures { OnOk result (best.new ≡ better SHIFTS (first (arc_value t.now.schema) (plain t.now.root) (shifts (arc_value t.now.schema) (node_at path.now (known_of k.now) (plain n.now)))) best.old) }
 {

@@ -31,13 +31,7 @@ fn lower_id(best: Option<(Id, AttrNo)>, next: Option<(Id, AttrNo)>) -> Option<(I
     match (best, next) {
         (None, _) => next,
         (_, None) => best,
-        (Some(first), Some(second)) => {
-            if first.0.0 < second.0.0 {
-                best
-            } else {
-                next
-            }
-        }
+        (Some(first), Some(second)) => { if first.0.0 < second.0.0 { best } else { next } }
     }
 }
 
@@ -66,7 +60,12 @@ fn gain_of(row: &Row, from: &From, s: &Schema) -> Option<(Id, AttrNo)>
 
 // The gain of the lowest id among the rows below a node and the best so far.
 #[cycle(gains)]
-fn least_below(n: &Node, from: &From, s: &Schema, best: Option<(Id, AttrNo)>) -> Option<(Id, AttrNo)>
+fn least_below(
+    n: &Node,
+    from: &From,
+    s: &Schema,
+    best: Option<(Id, AttrNo)>,
+) -> Option<(Id, AttrNo)>
     requires { Movable s.now from.now.attr (rows_below (plain n.now)) }
     ensures { result ≡ lower_id best (least_gain s.now (attrs_of (parts_as from.now.parts.now)) from.now.attr (rows_below (plain n.now))) }
 {
@@ -77,7 +76,12 @@ fn least_below(n: &Node, from: &From, s: &Schema, best: Option<(Id, AttrNo)>) ->
 }
 
 #[cycle(gains)]
-fn least_in_parts(parts: &[Part], from: &From, s: &Schema, best: Option<(Id, AttrNo)>) -> Option<(Id, AttrNo)>
+fn least_in_parts(
+    parts: &[Part],
+    from: &From,
+    s: &Schema,
+    best: Option<(Id, AttrNo)>,
+) -> Option<(Id, AttrNo)>
     requires { Movable s.now from.now.attr (rows_in_parts (parts_as parts.now)) }
     ensures { result ≡ lower_id best (least_gain s.now (attrs_of (parts_as from.now.parts.now)) from.now.attr (rows_in_parts (parts_as parts.now))) }
 {
@@ -89,7 +93,12 @@ fn least_in_parts(parts: &[Part], from: &From, s: &Schema, best: Option<(Id, Att
 }
 
 #[cycle(gains)]
-fn least_in_part(part: &Part, from: &From, s: &Schema, best: Option<(Id, AttrNo)>) -> Option<(Id, AttrNo)>
+fn least_in_part(
+    part: &Part,
+    from: &From,
+    s: &Schema,
+    best: Option<(Id, AttrNo)>,
+) -> Option<(Id, AttrNo)>
     requires { Movable s.now from.now.attr (rows_in_parts (parts_of (part_as part.now ∷ []))) }
     ensures { result ≡ lower_id best (least_gain s.now (attrs_of (parts_as from.now.parts.now)) from.now.attr (rows_in_parts (parts_of (part_as part.now ∷ [])))) }
 {
@@ -97,7 +106,12 @@ fn least_in_part(part: &Part, from: &From, s: &Schema, best: Option<(Id, AttrNo)
 }
 
 #[cycle(gains)]
-fn least_in_half(half: &Option<Box<Node>>, from: &From, s: &Schema, best: Option<(Id, AttrNo)>) -> Option<(Id, AttrNo)>
+fn least_in_half(
+    half: &Option<Box<Node>>,
+    from: &From,
+    s: &Schema,
+    best: Option<(Id, AttrNo)>,
+) -> Option<(Id, AttrNo)>
     requires { Movable s.now from.now.attr (rows_in_half (half_as half.now)) }
     ensures { result ≡ lower_id best (least_gain s.now (attrs_of (parts_as from.now.parts.now)) from.now.attr (rows_in_half (half_as half.now))) }
 {
@@ -107,7 +121,12 @@ fn least_in_half(half: &Option<Box<Node>>, from: &From, s: &Schema, best: Option
     }
 }
 
-fn least_in_leaf(leaf: &Leaf, from: &From, s: &Schema, best: Option<(Id, AttrNo)>) -> Option<(Id, AttrNo)>
+fn least_in_leaf(
+    leaf: &Leaf,
+    from: &From,
+    s: &Schema,
+    best: Option<(Id, AttrNo)>,
+) -> Option<(Id, AttrNo)>
     requires { Movable s.now from.now.attr leaf.now }
     ensures { result ≡ lower_id best (least_gain s.now (attrs_of (parts_as from.now.parts.now)) from.now.attr leaf.now) }
 {

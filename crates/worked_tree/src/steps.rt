@@ -11,7 +11,9 @@ use std::sync::Arc;
 use std::test::Fail;
 
 const PRICE: AttrNo = AttrNo(0);
+
 const QTY: AttrNo = AttrNo(1);
+
 const SIDE: AttrNo = AttrNo(2);
 
 #[derive(Clone, Copy)]

@@ -27,8 +27,7 @@ seek-seek_part-requires t c =
     let k = known_of c.args.k.now in
     let items = c.as_slice-part-items.result.now in
     let under = ap parts_under (plain_out c.args.n.now) ∙ sym (ap parts_as c.as_slice-part-items.ensures.value) in
-    let each = subst (λ ps. AllByRecursion (λ (x : Hop × Plain). child x.0 n ≡ Some x.1) (roots_of ps)) under (roots_there s k n c.requires.right) in
-    (
+    let each = subst (λ ps. AllByRecursion (λ (x : Hop × Plain). child x.0 n ≡ Some x.1) (roots_of ps)) under (roots_there s k n c.requires.right) in (
       search (rules, the_lemmas),
       (
         at_moved s root c.args.path.now c.loop-part.path k (known_of c.loop-part.k) n c.requires c.loop-part.invariant.0 c.loop-part.invariant.1,
