@@ -174,7 +174,7 @@ building="justmeadow: building the program, which proves its 3 crates. The log: 
 building+='justmeadow: 1 of 3: low\njustmeadow: 2 of 3: high\n'
 script --help; cp out usage
 same 'the usage' 0 "$(sed 's/%/%%/g' usage)\n" ''
-for words in 'run SCHEMA' 'SUB name condition' 'UNSUB name' 'PUB event' LIST QUIT --help --version --build --unproved; do
+for words in 'run SCHEMA' 'SUB name condition' 'UNSUB name' 'PUB event' 'COST event' LIST QUIT --help --version --build --unproved; do
     grep -q -- "^    \(./justmeadow \)\?$words" usage || { echo "FAILED: the usage lacks $words"; exit 1; }
 done
 script; same 'the script alone' 2 '' "$(cat usage)\n"

@@ -4,7 +4,7 @@ ghost use Rattle.std.specs.Prelude.{◌≡◌, ◌++◌, ◌∷◌, [], length, 
 ghost use Rattle.be_model.specs.Rows.{rows_in};
 ghost use Rattle.be_change.specs.History.{live};
 ghost use Rattle.be_transcript.specs.Replies.{number, names_text, last_line, with_lf};
-ghost use Rattle.be_server.specs.Naming.{is_wanted, names_in, names_wanted, naming, head_of};
+ghost use Rattle.be_server.specs.Naming.{names_in, names_wanted, naming, head_of};
 ghost use Rattle.be_server.specs.Subscriptions.{wanted_lies};
 
 use crate::subscriptions::{SESSION, Subscriptions};
@@ -24,15 +24,6 @@ pub enum Wanted<'a> {
 }
 
 impl Wanted<'_> {
-    pub fn takes(self, row: &Row) -> bool
-        ensures { result ≡ is_wanted self.entry row.now }
-    {
-        match self {
-            Wanted::SatisfiedBy(event) => row.conj.satisfied_by(event),
-            Wanted::Own => row.session.0 == SESSION.0,
-        }
-    }
-
     // The first word of the reply.
     fn head(self) -> &'static str
         ensures { result.now ≡ head_of self.entry }
