@@ -9,7 +9,9 @@ use be_event::read_schema;
 use be_io::{MemSink, MemSource, Sink, SinkFault};
 use be_model::Change;
 use be_server::{Session, SessionEnd};
+use be_tree::BeTree;
 use std::alloc::Global;
+use std::sync::Arc;
 
 const SCRIPT: &[u8] = b"SUB a price >= 10\nPUB price=10\nPUB price=9\n";
 
@@ -43,10 +45,11 @@ fn leaves<S: Sink>(
     out: &mut S,
     wanted: SessionEnd,
 ) -> Option<bool> {
-    let schema = read_schema(alloc, SCHEMA).ok()?;
+    let schema = Arc::new(alloc, read_schema(alloc, SCHEMA).ok()?).ok()?;
     let script = Vec::from_slice(alloc, script).ok()?;
     let mut input = MemSource::make(script, 18, vec![in alloc; failing_read].ok()?);
-    let mut session = Session::make(alloc);
+    let index = BeTree::make(alloc, Arc::try_clone(&schema).ok()?);
+    let mut session = Session::make(alloc, index);
     let end = session.serve(alloc, &schema, &mut input, out);
     Some(end == wanted && is_left(session.subscriptions.changes()))
 }

@@ -8,6 +8,8 @@ mod left;
 #[cfg(test)]
 mod limits;
 #[cfg(test)]
+mod plainly;
+#[cfg(test)]
 mod refusals;
 #[cfg(test)]
 mod rows;

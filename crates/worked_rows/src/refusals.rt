@@ -131,9 +131,6 @@ const FAULTY: &[(&str, u64, SchemaKind)] = &[
     ),
 ];
 
-// Words that name the file that is there, with a separator.
-const SERVED: &[&[&str]] = &[&["run", "S", "--"], &["run", "--", "S"]];
-
 // Words that name a file that isn't there.
 const MISSING: &[&[&str]] = &[
     &["run", "missing"],
@@ -143,6 +140,100 @@ const MISSING: &[&[&str]] = &[
     &["run", "--", "-x"],
     &["run", "--", "--"],
     &["run", "-", "--"],
+];
+
+// Words that are served.
+const SERVED: &[&[&str]] = &[&["run", "S", "--"], &["run", "--", "S"]];
+
+// One file is asked for.
+#[test]
+fn files_without_a_schema(rt: HostRuntime) {
+    let alloc = rt.alloc();
+    for (schema, line, kind) in FAULTY {
+        let setting = refused(RUN, schema.as_bytes(), 2);
+        let ends = ends(&rt, alloc, &setting, faulty(*line, *kind));
+        assert!(rt; ends == Some(true), "{schema:?}");
+    }
+}
+
+#[test]
+fn files_that_are_missing(rt: HostRuntime) {
+    let alloc = rt.alloc();
+    for words in MISSING {
+        let ends = ends(&rt, alloc, &refused(words, SCHEMA, 2), Status::ReadFault);
+        assert!(rt; ends == Some(true), "{words:?}");
+    }
+    let once = ends(&rt, alloc, &refused(RUN, SCHEMA, 1), Status::ReadFault);
+    assert!(rt; once == Some(false), "the shelf failed once");
+}
+
+#[test]
+fn words_that_are_served(rt: HostRuntime) {
+    let alloc = rt.alloc();
+    let replies = b"ATTR price\nATTR price\nATTR price\n";
+    for words in SERVED {
+        assert!(rt;
+            answers(&rt, alloc, &refused(words, b"", 2), replies),
+            "{words:?}"
+        );
+    }
+}
+
+#[test]
+fn a_schema_without_attributes(rt: HostRuntime) {
+    let replies = b"ATTR price\nATTR price\nATTR price\n";
+    let is_right = answers(&rt, rt.alloc(), &refused(RUN, b"", 2), replies);
+    assert!(rt; is_right);
+}
+
+const STATUSES: &[(Status, u8, &str)] = &[
+    (Status::Done, 0, ""),
+    (Status::Words, 2, "words refused"),
+    (
+        Status::SchemaBad {
+            line: 1,
+            kind: SchemaKind::Form,
+        },
+        3,
+        "schema line 1: Form",
+    ),
+    (
+        Status::SchemaBad {
+            line: 3,
+            kind: SchemaKind::Reserved,
+        },
+        3,
+        "schema line 3: Reserved",
+    ),
+    (
+        Status::SchemaBad {
+            line: 4,
+            kind: SchemaKind::Twice,
+        },
+        3,
+        "schema line 4: Twice",
+    ),
+    (
+        Status::SchemaBad {
+            line: 5,
+            kind: SchemaKind::Range,
+        },
+        3,
+        "schema line 5: Range",
+    ),
+    (
+        Status::SchemaBad {
+            line: 6,
+            kind: SchemaKind::Many,
+        },
+        3,
+        "schema line 6: Many",
+    ),
+    (Status::ReadFault, 4, "read fault"),
+    (Status::LongFile, 4, "file over 67108864 bytes"),
+    (Status::WriteFault, 5, "write fault"),
+    (Status::NoMemory, 6, "out of memory"),
+    (Status::Spent, 8, "input over 1099511627776 bytes"),
 ];
 
 fn has(alloc: Global, status: Status, code: u8, text: &str) -> Option<bool> {

@@ -31,7 +31,7 @@ const COSTS: &[(&str, &str)] = &[
     ),
 ];
 
-const SESSIONS: &[(&str, &str)] = &[
+pub(crate) const SESSIONS: &[(&str, &str)] = &[
     ("", ""),
     (
         "SUB a price >= 10\nPUB price=10\nPUB price=9\n",

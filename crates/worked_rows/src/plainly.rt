@@ -1,0 +1,40 @@
+//! The plain program: the same session over the index that tests each live row. Its transcripts are those of the tree.
+
+use crate::rows::SESSIONS;
+use crate::setting::SCHEMA;
+use be_event::read_schema;
+use be_index::ListIndex;
+use be_io::{MemSink, MemSource};
+use be_server::{Session, SessionEnd};
+use std::alloc::Global;
+use std::sync::Arc;
+
+// Whether the plain program has this transcript.
+fn is_plain_session(alloc: Global, script: &str, want: &str) -> Option<bool> {
+    let schema = Arc::new(alloc, read_schema(alloc, SCHEMA).ok()?).ok()?;
+    let index = ListIndex::make(alloc, Arc::try_clone(&schema).ok()?);
+    let mut session = Session::make(alloc, index);
+    let script = Vec::from_slice(alloc, script.as_bytes()).ok()?;
+    let mut input = MemSource::make(script, 18, Vec::new(alloc));
+    let mut out = MemSink::make(alloc, Vec::new(alloc));
+    let end = session.serve(alloc, &schema, &mut input, &mut out);
+    Some(end != SessionEnd::NoMemory && out.bytes() == want.as_bytes())
+}
+
+#[test]
+fn transcripts_of_the_plain_index(rt: HostRuntime) {
+    let alloc = rt.alloc();
+    for (script, want) in SESSIONS {
+        assert!(rt;
+            is_plain_session(alloc, script, want) == Some(true),
+            "{script}"
+        );
+    }
+    // One visit, and each live row tested that has no other attributes.
+    let costs = is_plain_session(
+        alloc,
+        "SUB a price = 5\nSUB b side = buy\nCOST price=6\n",
+        "OK 1\nOK 2\nCOST 2 1 1\n",
+    );
+    assert!(rt; costs == Some(true));
+}
