@@ -6,9 +6,13 @@ use be_model::Step;
 
 /// The kinds of step, the most wanted first, and how many there are.
 pub(crate) const MERGES: usize = 0;
+
 pub(crate) const SHIFTS: usize = 1;
+
 pub(crate) const PART_SPLITS: usize = 2;
+
 pub(crate) const HALF_SPLITS: usize = 3;
+
 pub(crate) const KINDS: usize = 4;
 
 /// The best step so far, and how many kinds are still looked for: those before its own.

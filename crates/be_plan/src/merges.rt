@@ -21,7 +21,11 @@ use be_shape::{Leaf, Node, NodeRange, Part, has_attr, may_pass};
 fn left(room: usize, rows: usize) -> Option<usize>
     ensures { result ≡ left_after room rows }
 {
-    if rows <= room { Some(room - rows) } else { None }
+    if rows <= room {
+        Some(room - rows)
+    } else {
+        None
+    }
 }
 
 // What the rows below a node leave of so much room. It looks no further than the room goes.

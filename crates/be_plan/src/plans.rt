@@ -18,6 +18,12 @@ pub fn plan(t: &Tree) -> Result<Option<Step>, NoMemory>
 {
     let alloc = *t.root.parts.allocator();
     let mut best = Best::none();
-    seek(t, &t.root, &mut Spot::root(alloc), &mut Path::make(alloc), &mut best)?;
+    seek(
+        t,
+        &t.root,
+        &mut Spot::root(alloc),
+        &mut Path::make(alloc),
+        &mut best,
+    )?;
     Ok(best.step)
 }

@@ -52,13 +52,7 @@ fn look_at_merge(
     Ok(())
 }
 
-fn look_at_shift(
-    t: &Tree,
-    n: &Node,
-    k: &Spot,
-    path: &Path,
-    best: &mut Best,
-) -> Result<(), NoMemory>
+fn look_at_shift(t: &Tree, n: &Node, k: &Spot, path: &Path, best: &mut Best) -> Result<(), NoMemory>
     requires { IsAt (arc_value t.now.schema) (plain t.now.root) path.now (known_of k.now) (plain n.now) }
     ensures { OnOk result (best.new ≡ better SHIFTS (first (arc_value t.now.schema) (plain t.now.root) (shifts (arc_value t.now.schema) (node_at path.now (known_of k.now) (plain n.now)))) best.old) }
 {
@@ -173,6 +167,10 @@ pub(crate) fn seek(
     ensures path { OnOk result (path.new ≡ path.old) }
     ensures known { OnOk result (known_of k.new ≡ known_of k.old) }
 {
+    // A merge was found: nothing is better.
+    if best.sought == MERGES {
+        return Ok(());
+    }
     look(t, n, k, path, best)?;
     for part in n.parts.as_slice() {
         seek_part(t, part, n, k, path, best)?;

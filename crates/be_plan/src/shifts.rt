@@ -31,13 +31,7 @@ fn lower_id(best: Option<(Id, AttrNo)>, next: Option<(Id, AttrNo)>) -> Option<(I
     match (best, next) {
         (None, _) => next,
         (_, None) => best,
-        (Some(first), Some(second)) => {
-            if first.0.0 < second.0.0 {
-                best
-            } else {
-                next
-            }
-        }
+        (Some(first), Some(second)) => { if first.0.0 < second.0.0 { best } else { next } }
     }
 }
 
@@ -50,12 +44,12 @@ fn gains(row: &Row, s: &Schema, own: i64, to: AttrNo) -> bool
     has_attr(row, to) && SHIFT_GAIN as i64 <= weight(s, row, to) - own
 }
 
-// The first part in which the row weighs enough more, with the row's id.
-fn gain_of(row: &Row, from: &From, s: &Schema) -> Option<(Id, AttrNo)>
-    requires { Movable s.now from.now.attr (row.now ∷ []) }
+// The first part in which the row weighs so much more than this, with the row's id.
+fn first_gain(row: &Row, from: &From, s: &Schema, own: i64) -> Option<(Id, AttrNo)>
+    requires lies { row_lies s.now row.now ≡ true }
+    requires own { own ≡ pos (weight s.now from.now.attr row.now) }
     ensures { result ≡ gain_of s.now (attrs_of (parts_as from.now.parts.now)) from.now.attr row.now }
 {
-    let own = weight(s, row, from.attr);
     for part in from.parts {
         if gains(row, s, own, part.attr) {
             return Some((row.id, part.attr));
@@ -64,9 +58,26 @@ fn gain_of(row: &Row, from: &From, s: &Schema) -> Option<(Id, AttrNo)>
     None
 }
 
+// The first part in which the row weighs enough more, with the row's id. A row that weighs more than 500 gains nowhere.
+fn gain_of(row: &Row, from: &From, s: &Schema) -> Option<(Id, AttrNo)>
+    requires { Movable s.now from.now.attr (row.now ∷ []) }
+    ensures { result ≡ gain_of s.now (attrs_of (parts_as from.now.parts.now)) from.now.attr row.now }
+{
+    let own = weight(s, row, from.attr);
+    if own > 1000 - SHIFT_GAIN as i64 {
+        return None;
+    }
+    first_gain(row, from, s, own)
+}
+
 // The gain of the lowest id among the rows below a node and the best so far.
 #[cycle(gains)]
-fn least_below(n: &Node, from: &From, s: &Schema, best: Option<(Id, AttrNo)>) -> Option<(Id, AttrNo)>
+fn least_below(
+    n: &Node,
+    from: &From,
+    s: &Schema,
+    best: Option<(Id, AttrNo)>,
+) -> Option<(Id, AttrNo)>
     requires { Movable s.now from.now.attr (rows_below (plain n.now)) }
     ensures { result ≡ lower_id best (least_gain s.now (attrs_of (parts_as from.now.parts.now)) from.now.attr (rows_below (plain n.now))) }
 {
@@ -77,7 +88,12 @@ fn least_below(n: &Node, from: &From, s: &Schema, best: Option<(Id, AttrNo)>) ->
 }
 
 #[cycle(gains)]
-fn least_in_parts(parts: &[Part], from: &From, s: &Schema, best: Option<(Id, AttrNo)>) -> Option<(Id, AttrNo)>
+fn least_in_parts(
+    parts: &[Part],
+    from: &From,
+    s: &Schema,
+    best: Option<(Id, AttrNo)>,
+) -> Option<(Id, AttrNo)>
     requires { Movable s.now from.now.attr (rows_in_parts (parts_as parts.now)) }
     ensures { result ≡ lower_id best (least_gain s.now (attrs_of (parts_as from.now.parts.now)) from.now.attr (rows_in_parts (parts_as parts.now))) }
 {
@@ -89,7 +105,12 @@ fn least_in_parts(parts: &[Part], from: &From, s: &Schema, best: Option<(Id, Att
 }
 
 #[cycle(gains)]
-fn least_in_part(part: &Part, from: &From, s: &Schema, best: Option<(Id, AttrNo)>) -> Option<(Id, AttrNo)>
+fn least_in_part(
+    part: &Part,
+    from: &From,
+    s: &Schema,
+    best: Option<(Id, AttrNo)>,
+) -> Option<(Id, AttrNo)>
     requires { Movable s.now from.now.attr (rows_in_parts (parts_of (part_as part.now ∷ []))) }
     ensures { result ≡ lower_id best (least_gain s.now (attrs_of (parts_as from.now.parts.now)) from.now.attr (rows_in_parts (parts_of (part_as part.now ∷ [])))) }
 {
@@ -97,7 +118,12 @@ fn least_in_part(part: &Part, from: &From, s: &Schema, best: Option<(Id, AttrNo)
 }
 
 #[cycle(gains)]
-fn least_in_half(half: &Option<Box<Node>>, from: &From, s: &Schema, best: Option<(Id, AttrNo)>) -> Option<(Id, AttrNo)>
+fn least_in_half(
+    half: &Option<Box<Node>>,
+    from: &From,
+    s: &Schema,
+    best: Option<(Id, AttrNo)>,
+) -> Option<(Id, AttrNo)>
     requires { Movable s.now from.now.attr (rows_in_half (half_as half.now)) }
     ensures { result ≡ lower_id best (least_gain s.now (attrs_of (parts_as from.now.parts.now)) from.now.attr (rows_in_half (half_as half.now))) }
 {
@@ -107,7 +133,12 @@ fn least_in_half(half: &Option<Box<Node>>, from: &From, s: &Schema, best: Option
     }
 }
 
-fn least_in_leaf(leaf: &Leaf, from: &From, s: &Schema, best: Option<(Id, AttrNo)>) -> Option<(Id, AttrNo)>
+fn least_in_leaf(
+    leaf: &Leaf,
+    from: &From,
+    s: &Schema,
+    best: Option<(Id, AttrNo)>,
+) -> Option<(Id, AttrNo)>
     requires { Movable s.now from.now.attr leaf.now }
     ensures { result ≡ lower_id best (least_gain s.now (attrs_of (parts_as from.now.parts.now)) from.now.attr leaf.now) }
 {

@@ -16,7 +16,9 @@ pub use laws::{
     rows_are_found, rows_are_of_leaves,
 };
 pub use leaves::Leaf;
-pub use looks::{can_split, count_passing, fits_a_half, has_attr, is_inside, is_stuck, is_used, may_pass};
+pub use looks::{
+    can_split, count_passing, fits_a_half, has_attr, is_inside, is_stuck, is_used, may_pass,
+};
 pub use nodes::{Node, Part};
 pub use ranges::{NodeRange, holds_value, lower_range, upper_range, whole_range};
 pub use spots::Spot;

@@ -124,13 +124,29 @@ fn rows_of_one_price_have_the_plans_that_were_worked_out(rt: HostRuntime) -> Res
     let mut grown = Grown::make(alloc, schema_of_two(alloc)?);
     assert_eq!(rt; told(&plan(&grown.tree)?), (0, 0, 0, 0, 0), "no row");
     assert!(rt; put_rows(alloc, &mut grown, 7, &[(0, 5, 5)])?);
-    assert_eq!(rt; told(&plan(&grown.tree)?), (0, 0, 0, 0, 0), "fewer than 8 have it");
+    assert_eq!(rt;
+        told(&plan(&grown.tree)?),
+        (0, 0, 0, 0, 0),
+        "fewer than 8 have it"
+    );
     assert!(rt; put_rows(alloc, &mut grown, 1, &[(0, 5, 5)])?);
-    assert_eq!(rt; told(&plan(&grown.tree)?), (3, 0, 0, 0, 0), "a part of the price");
+    assert_eq!(rt;
+        told(&plan(&grown.tree)?),
+        (3, 0, 0, 0, 0),
+        "a part of the price"
+    );
     assert!(rt; put_rows(alloc, &mut grown, 9, &[(0, 5, 5)])?);
-    assert_eq!(rt; told(&plan(&grown.tree)?), (0, 0, 0, 0, 0), "17 rows in the range of that price");
+    assert_eq!(rt;
+        told(&plan(&grown.tree)?),
+        (0, 0, 0, 0, 0),
+        "17 rows in the range of that price"
+    );
     assert!(rt; put_rows(alloc, &mut grown, 1, &[(0, 900, 900)])?);
-    assert_eq!(rt; told(&plan(&grown.tree)?), (0, 0, 0, 0, 0), "one row in the part's leaf");
+    assert_eq!(rt;
+        told(&plan(&grown.tree)?),
+        (0, 0, 0, 0, 0),
+        "one row in the part's leaf"
+    );
     Ok(())
 }
 
@@ -156,7 +172,11 @@ fn a_row_that_gains_moves_to_another_part(rt: HostRuntime) -> Result<(), Fail> {
     assert!(rt; put_rows(alloc, &mut grown, 3, &[(0, 0, 1000)])?);
     assert!(rt; put_rows(alloc, &mut grown, 1, &[(0, 0, 1000), (1, 0, 0)])?);
     assert!(rt; put_rows(alloc, &mut grown, 13, &[(0, 0, 1000)])?);
-    assert_eq!(rt; told(&plan(&grown.tree)?), (0, 0, 0, 0, 0), "there is one part");
+    assert_eq!(rt;
+        told(&plan(&grown.tree)?),
+        (0, 0, 0, 0, 0),
+        "there is one part"
+    );
     assert!(rt; put_rows(alloc, &mut grown, 17, &[(1, 0, 0)])?);
     // Row 3 weighs 0 on the price and 910 on the quantity.
     assert_eq!(rt; told(&plan(&grown.tree)?), (2, 0, 0, 1, 3));
