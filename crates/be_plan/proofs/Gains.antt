@@ -1,5 +1,5 @@
 -- A row gains only on an attribute that it has.
-use Rattle.std.proofs.Common.{◌≡◌, ℕ, ◌+◌, ◌<◌, ◌≤◌, leb, Bool, true, false, true≢false, List, [], ◌∷◌, Option, Some, None, refl, sym, ap, ◌∙◌, arith}
+use Rattle.std.proofs.Common.{◌≡◌, ℕ, ◌+◌, ◌<◌, ◌≤◌, leb, Bool, true, false, true≢false, cond, List, [], ◌∷◌, Option, Some, None, refl, sym, ap, ◌∙◌, arith}
 use Rattle.std.specs.Prelude.{is_some, option_map, option_and_then}
 use Rattle.std.specs.List.{find, list_any}
 use Rattle.std.proofs.lemmas.Bool.{leb-true, lt-leb}
@@ -8,7 +8,7 @@ use Rattle.be_base.specs.declared.limits.TheConstants.{SHIFT_GAIN}
 use Rattle.be_model.specs.declared.changes.Row.{Row}
 use Rattle.be_model.specs.declared.preds.Pred.{Pred}
 use Rattle.be_model.specs.Domains.{Range}
-use Rattle.be_model.specs.Hulls.{is_on, hull}
+use Rattle.be_model.specs.Hulls.{is_on, hull, span_in}
 use Rattle.be_model.specs.Schemas.{Attributes, range_of}
 use Rattle.be_model.specs.Rows.{has}
 use Rattle.be_model.proofs.Lists.{is_some-find}
@@ -44,3 +44,18 @@ gain_differs s from to row h e =
 
 pub no_self : (s : Attributes) (a : AttrNo) (row : Row) → gains s a row a ≡ false
 no_self s a row = lt-leb (weight s a row + SHIFT_GAIN) (weight s a row) (omega arith)
+
+pub weight_most : (s : Attributes) (a : AttrNo) (row : Row) → weight s a row ≤ 1000
+weight_most s a row = by_parts (range_of s a) (span_in s a row.conj)
+  where
+    by_parts : (d r : Option Range) → weight_in d r ≤ 1000
+    by_parts None r = omega arith
+    by_parts (Some d) None = omega arith
+    by_parts (Some d) (Some r) = omega arith
+
+-- a row that weighs more than 500 gains nowhere
+pub heavy : (s : Attributes) (from : AttrNo) (row : Row) (attrs : List AttrNo) → 1000 < weight s from row + SHIFT_GAIN → find (gains s from row) attrs ≡ None
+heavy s from row [] l = refl
+heavy s from row (to ∷ attrs) l =
+    let m = weight_most s to row in
+    ap (λ b. cond b (Some to) (find (gains s from row) attrs)) (lt-leb (weight s from row + SHIFT_GAIN) (weight s to row) (omega arith)) ∙ heavy s from row attrs l

@@ -64,6 +64,23 @@ module _ (s : Attributes) (alpha : ℕ) (root : Plain) where
   pub child_step : (path : List Hop) (k : Known) (n : Plain) (b c : Best) → c ≡ better 0 (first s root (Merge path ∷ [])) b → below_after s alpha root (nodes_from s path k n) c ≡ best_after s alpha root (nodes_from s path k n) b
   child_step path k (node rows parts low high) b c e = ap (below_after s alpha root (nodes_from s path k (node rows parts low high))) e
 
+  -- where no kind is looked for any more
+  others_shut_here : (x : NodeAt) (b : Best) → b.sought ≡ 0 → after_others s alpha root x b ≡ b
+  others_shut_here x b e =
+      let o = first s root (shifts s x) in
+      let p = first s root (part_splits s alpha x) in
+      let q = first s root (half_splits s x) in
+      ap (λ c. better 3 q (better 2 p c)) (sym (closed 1 o b (omega arith))) ∙ ap (better 3 q) (sym (closed 2 p b (omega arith))) ∙ sym (closed 3 q b (omega arith))
+
+  all_shut : (xs : List NodeAt) (b : Best) → b.sought ≡ 0 → best_after s alpha root xs b ≡ b
+  all_shut [] b e = refl
+  all_shut (x ∷ xs) b e =
+      ap (λ c. after xs (after_others s alpha root x c)) (sym (closed 0 (first s root (merges x)) b (omega arith))) ∙ ap (after xs) (others_shut_here x b e) ∙ all_shut xs b e
+
+  pub below_shut : (xs : List NodeAt) (b : Best) → b.sought ≡ 0 → b ≡ below_after s alpha root xs b
+  below_shut [] b e = refl
+  below_shut (x ∷ xs) b e = sym (ap (after xs) (others_shut_here x b e) ∙ all_shut xs b e)
+
   abbrev at : ℕ → Option Step → Best
   at sought step = record { sought = sought; step = step }
 

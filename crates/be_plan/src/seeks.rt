@@ -167,6 +167,10 @@ pub(crate) fn seek(
     ensures path { OnOk result (path.new ≡ path.old) }
     ensures known { OnOk result (known_of k.new ≡ known_of k.old) }
 {
+    // A merge was found: nothing is better.
+    if best.sought == MERGES {
+        return Ok(());
+    }
     look(t, n, k, path, best)?;
     for part in n.parts.as_slice() {
         seek_part(t, part, n, k, path, best)?;

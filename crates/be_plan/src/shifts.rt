@@ -44,18 +44,30 @@ fn gains(row: &Row, s: &Schema, own: i64, to: AttrNo) -> bool
     has_attr(row, to) && SHIFT_GAIN as i64 <= weight(s, row, to) - own
 }
 
-// The first part in which the row weighs enough more, with the row's id.
-fn gain_of(row: &Row, from: &From, s: &Schema) -> Option<(Id, AttrNo)>
-    requires { Movable s.now from.now.attr (row.now ∷ []) }
+// The first part in which the row weighs so much more than this, with the row's id.
+fn first_gain(row: &Row, from: &From, s: &Schema, own: i64) -> Option<(Id, AttrNo)>
+    requires lies { row_lies s.now row.now ≡ true }
+    requires own { own ≡ pos (weight s.now from.now.attr row.now) }
     ensures { result ≡ gain_of s.now (attrs_of (parts_as from.now.parts.now)) from.now.attr row.now }
 {
-    let own = weight(s, row, from.attr);
     for part in from.parts {
         if gains(row, s, own, part.attr) {
             return Some((row.id, part.attr));
         }
     }
     None
+}
+
+// The first part in which the row weighs enough more, with the row's id. A row that weighs more than 500 gains nowhere.
+fn gain_of(row: &Row, from: &From, s: &Schema) -> Option<(Id, AttrNo)>
+    requires { Movable s.now from.now.attr (row.now ∷ []) }
+    ensures { result ≡ gain_of s.now (attrs_of (parts_as from.now.parts.now)) from.now.attr row.now }
+{
+    let own = weight(s, row, from.attr);
+    if own > 1000 - SHIFT_GAIN as i64 {
+        return None;
+    }
+    first_gain(row, from, s, own)
 }
 
 // The gain of the lowest id among the rows below a node and the best so far.

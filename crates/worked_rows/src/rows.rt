@@ -381,7 +381,7 @@ const MIXED: &str =
     "SUB a price >= 10 and side in {buy,hold}\r\nSUB a all\n\r\n  SUB b\tprice between 5 and 15 and qty != 0\nSUB x volume = 1\nPUB side=buy price=12 qty=3\r\nPUB price=1001\nLIST\nUNSUB a\r\nUNSUB a\nPUB price=12 price=13\nPUB -\nPUB qty=-5 price=5\nSUB a not in {1}\nSUB c one in {7,7} and side not in {sell}\nPUB one=7 side=hold price=7 qty=-1\nLIST\nCOST -\nQUIT\nLIST\n";
 
 const MIXED_REPLIES: &str =
-    "OK 1\nDUP 1 0\nBAD\nOK 2\nATTR volume\nHIT 2 2 a b\nDOM price\nLIST 2 2 a b\nOK 3\nNONE 3\nTWICE price\nHIT 3 0\nHIT 3 1 b\nBAD\nOK 4\nHIT 4 2 b c\nLIST 4 2 b c\nBAD\nBYE 5\n";
+    "OK 1\nDUP 1 0\nBAD\nOK 2\nATTR volume\nHIT 2 2 a b\nDOM price\nLIST 2 2 a b\nOK 3\nNONE 3\nTWICE price\nHIT 3 0\nHIT 3 1 b\nBAD\nOK 4\nHIT 4 2 b c\nLIST 4 2 b c\nCOST 4 1 2\nBYE 5\n";
 
 // A first line as long as the script makes each piece that ends within the script the first of two reads.
 fn mixed_script(alloc: Global) -> Option<Vec<u8>> {

@@ -16,7 +16,7 @@ use Rattle.be_shape.proofs.Plains.{plain_out, part_out}
 use Rattle.be_plan.specs.Best.{IsAt, after_others, best_after, below_after}
 use Rattle.be_plan.proofs.Places.{at_below, part_there, at_moved, can_leave}
 use Rattle.be_plan.proofs.Firsts.{roots_there}
-use Rattle.be_plan.proofs.Seeking.{part_step, node_step, child_step}
+use Rattle.be_plan.proofs.Seeking.{part_step, node_step, below_shut}
 use Rattle.be_plan.proofs.seeks.+seeks.Goals as goal
 
 pub seek-seek_part-requires : goal.seek-seek_part-requires
@@ -101,3 +101,7 @@ seek-returns-clause-best t c =
     let first = c.in_ok-look.ensures ∙ ap (λ m. after_others s alpha root (node_at path k m) c.args.best.now) (plain_out c.args.n.now) in
     node_step s alpha root path k x.leaf (parts_as x.parts.items) (half_as x.low) (half_as x.high) c.args.best.now c.look.new.best c.loop-part.best c.seek_half.new.best c.seek_half-2.new.best first done low high
     ∙ ap (λ m. below_after s alpha root (nodes_from s path k m) c.args.best.now) (sym (plain_out c.args.n.now))
+
+pub seek-returns-then-best-eq-MERGES-clause-best : goal.seek-returns-then-best-eq-MERGES-clause-best
+seek-returns-then-best-eq-MERGES-clause-best t c =
+    below_shut (arc_value c.args.t.now.schema) c.args.t.now.alpha (plain c.args.t.now.root) (nodes_from (arc_value c.args.t.now.schema) c.args.path.now (known_of c.args.k.now) (plain c.args.n.now)) c.args.best.now c.if-best-eq-MERGES.true

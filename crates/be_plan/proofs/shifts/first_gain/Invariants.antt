@@ -2,7 +2,7 @@ use Rattle.std.proofs.Common.{◌≡◌, drop}
 use Rattle.be_shape.specs.Plain.{parts_as}
 use Rattle.be_shape.specs.Shape.{attrs_of}
 use Rattle.be_plan.specs.Shifts.{gain_of}
-use Rattle.be_plan.proofs.shifts.gain_of.Given as goal
+use Rattle.be_plan.proofs.shifts.first_gain.Given as goal
 
 -- the first gain is among the parts that are left
 abbrev pub invariant-loop-part : goal.invariant-loop-part
