@@ -1,30 +1,20 @@
 -- A row goes below a child of a node.
-use Rattle.std.proofs.Common.{◌≡◌, ◌<◌, ◌≤◌, ℕ, zero, suc, true, List, [], ◌∷◌, ◌++◌, length, slice_get, get_or, Some, Result, Ok, Err, refl, sym, ap, ◌∙◌, subst, arith}
+use Rattle.std.proofs.Common.{◌≡◌, ◌≤◌, ℕ, true, List, [], ◌∷◌, ◌++◌, length, Result, Ok, Err, subst, arith}
 use Rattle.std.specs.Prelude.{IsPermutation}
 use Rattle.std.specs.declared.sync.Arc.{Arc}
-use Rattle.std.specs.List.{slice_set, AllByRecursion}
-use Rattle.std.proofs.lemmas.Bool.{and_from, and_parts}
-use Rattle.std.proofs.lemmas.List.{append_assoc}
-use Rattle.be_base.specs.declared.names.AttrNo.{AttrNo}
 use Rattle.be_base.specs.declared.names.NoMemory.{NoMemory}
 use Rattle.be_model.specs.declared.changes.Row.{Row}
 use Rattle.be_model.specs.declared.paths.Hop.{Hop}
 use Rattle.be_model.specs.declared.paths.Hop.TheVariants.{Part, Low, High}
-use Rattle.be_model.specs.Schemas.{Attributes, IsSchema}
-use Rattle.be_shape.specs.declared.nodes.Part.{Part as PartOf}
-use Rattle.be_shape.specs.Plain.{Plain, node, Parts, no_part, part, Half, half, part_as, parts_as, rows_below, leaf_of, parts_under}
+use Rattle.be_model.specs.Schemas.{Attributes}
+use Rattle.be_shape.specs.Plain.{Plain, rows_below, leaf_of, parts_under}
 use Rattle.be_shape.specs.Shape.{Known, attrs_of, spans_inside, may_stand}
-use Rattle.be_shape.specs.Children.{roots_of, root_of, children, known_below, is_open, may_pass}
-use Rattle.be_shape.proofs.Children.{Each-parts, levels, below}
-use Rattle.be_shape.proofs.Placed.{Placed, at_child}
-use Rattle.be_shape.specs.Right.{is_right_at, IsRight}
+use Rattle.be_shape.specs.Children.{children, known_below, is_open, may_pass}
+use Rattle.be_shape.proofs.Placed.{at_child}
+use Rattle.be_shape.specs.Right.{IsRight}
 use Rattle.be_insert.specs.Refusals.{back}
 use Rattle.be_insert.specs.Ways.{IsWay}
-use Rattle.be_shape.proofs.Lists.{all_permuted, all_back}
-use Rattle.be_shape.proofs.OneLevel.{Each-at, others, child_last, right_here}
-use Rattle.be_shape.proofs.NodeSteps.{placed_by}
 use Rattle.be_insert.proofs.Steps.{Leaves, deeper}
-use Rattle.be_shape.proofs.LeafSteps.{inside_below}
 use Rattle.be_shape.proofs.Among.{placed_at, open_part}
 
 pub few_back : {A Z : Type 0} (result : Result A (Arc Row Z × NoMemory)) → length (back result) ≤ 1

@@ -1,41 +1,26 @@
 -- A leaf that has a row more, and what may pass from it.
-use Rattle.std.proofs.Common.{◌≡◌, ◌<◌, ◌≤◌, ◌+◌, ◌-◌, suc, Bool, true, false, not, cond, leb, ltb, ◌&&◌, ◌||◌, List, [], ◌∷◌, ◌++◌, length, take, slice_get, None, Some, Option, IfSome, option_map, refl, sym, ap, ◌∙◌, subst, arith, length-append}
+use Rattle.std.proofs.Common.{◌≡◌, ◌<◌, ◌≤◌, ◌+◌, ◌-◌, suc, Bool, true, false, not, cond, leb, ◌&&◌, ◌||◌, List, [], ◌∷◌, ◌++◌, length, take, slice_get, None, Some, Option, refl, sym, ap, ◌∙◌, subst, arith, length-append}
 use Rattle.std.specs.Prelude.{IsPermutation}
-use Rattle.std.specs.Option.{is_some}
-use Rattle.std.specs.Int.Signed.{le_z}
-use Rattle.std.specs.List.{list_all, list_any, filter, flat_map, AllByRecursion}
+use Rattle.std.specs.List.{list_all, list_any, filter, AllByRecursion}
 use Rattle.std.proofs.lemmas.Bool.{and_parts, and_from, not_from_false, not-true, or_parts, or_from, leb-true, le-leb, or_left, or_right, false≢true}
 use Rattle.std.proofs.lemmas.List.{append-nil}
 use Rattle.std.proofs.lemmas.List.Elements.{filter-append}
 use Rattle.std.proofs.lemmas.List.Folds.{list_any-append}
-use Rattle.std.proofs.lemmas.List.Sorted.{IsPermutation-append_left, IsPermutation-trans, IsPermutation-sym, IsPermutation-refl}
-use Rattle.be_base.specs.declared.limits.TheConstants.{LEAF_ROWS, LOG_CHANGES}
-use Rattle.be_base.specs.declared.names.AttrNo.{AttrNo}
-use Rattle.be_model.specs.declared.preds.Pred.{Pred}
+use Rattle.std.proofs.lemmas.List.Sorted.{IsPermutation-sym, IsPermutation-refl}
+use Rattle.be_base.specs.declared.limits.TheConstants.{LEAF_ROWS}
 use Rattle.be_model.specs.declared.changes.Row.{Row}
 use Rattle.be_model.specs.declared.paths.Hop.{Hop}
-use Rattle.be_model.specs.declared.paths.Hop.TheVariants.{Part, Low, High}
-use Rattle.be_model.specs.Domains.{Range}
-use Rattle.be_model.specs.Forms.{is_conj}
-use Rattle.be_model.specs.Hulls.{is_on, span_in}
-use Rattle.be_model.specs.Laws.{IsPart}
-use Rattle.be_model.specs.Lies.{row_lies}
-use Rattle.be_model.specs.Rows.{id_of, has}
-use Rattle.be_model.specs.Schemas.{Attributes, IsSchema, range_of}
-use Rattle.be_model.proofs.FormTests.{IsConj-from_is_conj}
-use Rattle.be_model.proofs.InSchema.{same_attribute}
-use Rattle.be_model.proofs.Spans.{spans_lie, spans_are}
+use Rattle.be_model.specs.Schemas.{Attributes}
 use Rattle.be_shape.specs.Plain.{Plain, node, no_part, no_half, rows_below, leaf_of, with_row}
-use Rattle.be_shape.specs.Shape.{Known, lower, upper, whole, is_drawn_at, is_pruned_at, is_settled_at, is_stuck, is_between, is_used, can_split, is_inside, spans_inside, may_stand}
-use Rattle.be_shape.specs.Children.{children, known_below, is_open, may_pass, with_leaf}
+use Rattle.be_shape.specs.Shape.{Known, is_drawn_at, is_settled_at, is_stuck, spans_inside, may_stand}
+use Rattle.be_shape.specs.Children.{children, is_open, may_pass, with_leaf}
 use Rattle.be_shape.specs.Paths.{child}
-use Rattle.be_shape.proofs.Children.{Each-from_test, test_from_Each, levels, below, rows_of, rows_are}
-use Rattle.be_shape.proofs.Placed.{Placed, is_placed_from, at_child}
+use Rattle.be_shape.proofs.Children.{Each-from_test, test_from_Each, levels, below}
+use Rattle.be_shape.proofs.Placed.{is_placed_from, at_child}
 use Rattle.be_shape.proofs.Levels.{passes_one, drawn_is}
-use Rattle.be_shape.proofs.WholeRanges.{le_test}
 use Rattle.be_shape.specs.Right.{is_right_at, IsRight}
 use Rattle.be_insert.specs.Filled.{is_filled, IsFilled}
-use Rattle.be_shape.proofs.Lists.{all_permuted, all_front, all_both, filter_whole, filter_empty, filter_some, lengths, swap_last}
+use Rattle.be_shape.proofs.Lists.{all_permuted, all_front, all_both, filter_whole, filter_empty, filter_some, lengths}
 use Rattle.be_shape.proofs.OneLevel.{right_here, right_from}
 use Rattle.be_insert.proofs.Steps.{Leaves}
 use Rattle.be_shape.proofs.NodeSteps.{placed_by, settled_is}

@@ -1,10 +1,9 @@
 -- A part put among parts that rise.
-use Rattle.std.proofs.Common.{◌≡◌, ◌+◌, ◌<◌, ℕ, zero, suc, Bool, true, false, cond, ltb, List, [], ◌∷◌, length, slice_get, get_or, Some, refl, sym, ap, ◌∙◌, arith}
+use Rattle.std.proofs.Common.{◌≡◌, ◌+◌, suc, Bool, true, false, cond, ltb, List, [], ◌∷◌, refl, ap, ◌∙◌, arith}
 use Rattle.std.specs.List.{insert}
 use Rattle.be_base.specs.declared.names.AttrNo.{AttrNo}
 use Rattle.be_shape.specs.declared.nodes.Part.{Part}
 use Rattle.be_shape.specs.Plain.{Plain, part, part_as, parts_of, parts_as}
-use Rattle.be_shape.specs.Shape.{attrs_of}
 use Rattle.be_shape.specs.Children.{with_part}
 use Rattle.be_insert.specs.Rooms.{part_place}
 

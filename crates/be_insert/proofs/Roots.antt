@@ -1,10 +1,10 @@
 -- A tree's root, and what its type keeps.
-use Rattle.std.proofs.Common.{◌≡◌, Bool, true, false, eqb, ◌&&◌, List, [], ◌∷◌, ◌++◌, Result, Ok, Err, OnOk, OnErr, IfErr, sym, ◌∙◌, subst}
+use Rattle.std.proofs.Common.{◌≡◌, true, false, eqb, [], ◌∷◌, ◌++◌, Result, Ok, Err, OnOk, OnErr, IfErr, sym, ◌∙◌, subst}
 use Rattle.std.specs.Prelude.{IsPermutation}
-use Rattle.std.specs.List.{list_any, AllByRecursion}
+use Rattle.std.specs.List.{list_any}
 use Rattle.std.specs.Arc.{arc_value}
 use Rattle.std.specs.declared.sync.Arc.{Arc}
-use Rattle.std.proofs.lemmas.Bool.{and_parts, and_from}
+use Rattle.std.proofs.lemmas.Bool.{and_parts}
 use Rattle.std.proofs.lemmas.List.{append-nil}
 use Rattle.be_base.specs.declared.names.NoMemory.{NoMemory}
 use Rattle.be_model.specs.declared.changes.Row.{Row}
@@ -12,16 +12,10 @@ use Rattle.be_model.specs.Rows.{id_of}
 use Rattle.be_model.specs.ByIds.{put_by_id, has_id, ids_differ}
 use Rattle.be_model.specs.Schemas.{Attributes}
 use Rattle.be_model.proofs.RowsByIds.{put_last, has_by_ids}
-use Rattle.be_shape.specs.declared.trees.Tree.{Tree}
-use Rattle.be_shape.specs.Plain.{Plain, plain, rows_below, contents}
-use Rattle.be_shape.specs.Shape.{Known, nothing, everywhere, is_placed_at, is_drawn_at, is_pruned_at, is_settled_at}
-use Rattle.be_shape.proofs.Children.{where_known, levels, from_levels, below}
-use Rattle.be_model.specs.declared.paths.Hop.{Hop}
-use Rattle.be_shape.specs.Children.{children}
-use Rattle.be_shape.specs.Right.{is_right_at, IsRight}
+use Rattle.be_shape.specs.Plain.{Plain, rows_below, contents}
+use Rattle.be_shape.specs.Shape.{nothing, everywhere, is_placed_at}
+use Rattle.be_shape.specs.Right.{IsRight}
 use Rattle.be_insert.specs.Refusals.{back}
-use Rattle.be_shape.proofs.OneLevel.{right_here}
-use Rattle.be_shape.proofs.NodeSteps.{everywhere_weaker}
 use Rattle.be_shape.proofs.Contents.{still_differ, permuted, front_differ, less_permuted}
 use Rattle.be_shape.proofs.RootPut.{IsRoot, differ_put}
 use Rattle.be_shape.proofs.Roots.{right_root}

@@ -1,30 +1,29 @@
 -- Steps of an insertion at one node: a row goes below a child, is put into the leaf, is taken out again, or a child is made.
-use Rattle.std.proofs.Common.{◌≡◌, ◌<◌, ◌≤◌, Bool, true, false, not, leb, ◌&&◌, ◌||◌, List, [], ◌∷◌, ◌++◌, length, None, refl, sym, ap, ◌∙◌, subst, arith, length-append}
+use Rattle.std.proofs.Common.{◌≡◌, ◌<◌, ◌≤◌, Bool, true, not, leb, ◌&&◌, ◌||◌, List, [], ◌∷◌, ◌++◌, length, None, refl, sym, ap, ◌∙◌, subst, arith, length-append}
 use Rattle.std.specs.Prelude.{IsPermutation}
-use Rattle.std.specs.List.{list_all, list_any, filter, flat_map, AllByRecursion}
-use Rattle.std.proofs.lemmas.Bool.{and_parts, and_from, not_from_false, not-true, or_parts, or_from}
+use Rattle.std.specs.List.{list_all, filter, flat_map, AllByRecursion}
+use Rattle.std.proofs.lemmas.Bool.{and_from}
 use Rattle.std.proofs.lemmas.List.{append_assoc}
 use Rattle.std.proofs.lemmas.List.Folds.{list_any-append}
 use Rattle.std.proofs.lemmas.List.Sorted.{IsPermutation-append_comm, IsPermutation-append_left, IsPermutation-append_right, IsPermutation-trans, IsPermutation-sym, length_permutation}
 use Rattle.be_base.specs.declared.limits.TheConstants.{LEAF_ROWS}
 use Rattle.be_model.specs.declared.changes.Row.{Row}
 use Rattle.be_model.specs.declared.paths.Hop.{Hop}
-use Rattle.be_model.specs.declared.paths.Hop.TheVariants.{Part, Low, High}
 use Rattle.be_model.specs.Forms.{attrs_rise}
 use Rattle.be_model.specs.Schemas.{Attributes}
-use Rattle.be_shape.specs.Plain.{Plain, node, rows_below, leaf_of, parts_under}
-use Rattle.be_shape.specs.Shape.{Known, everywhere, is_placed_at, is_settled_at, is_stuck, is_some, spans_inside, may_stand, attrs_of}
+use Rattle.be_shape.specs.Plain.{Plain, rows_below, leaf_of, parts_under}
+use Rattle.be_shape.specs.Shape.{Known, is_stuck, spans_inside, may_stand, attrs_of}
 use Rattle.be_shape.specs.Children.{children, known_below, is_open, may_pass, with_child, with_leaf}
 use Rattle.be_shape.specs.Paths.{child}
-use Rattle.be_shape.proofs.Children.{Each-from_test, test_from_Each, Each-weaker, where_known, levels, from_levels, below, rows_of, rows_are}
-use Rattle.be_shape.proofs.Placed.{Placed, placed, is_placed_from}
+use Rattle.be_shape.proofs.Children.{Each-from_test, test_from_Each, levels, below, rows_of, rows_are}
+use Rattle.be_shape.proofs.Placed.{is_placed_from}
 use Rattle.be_shape.proofs.Levels.{holds_rows, pruned_is, passes_one, drawn_is}
 use Rattle.be_shape.specs.Right.{is_right_at, IsRight}
 use Rattle.be_insert.specs.Filled.{IsFilled}
 use Rattle.be_shape.proofs.Lists.{all_permuted, all_front, all_both, filter_keeps, filter_passes, kept_and_left}
 use Rattle.be_shape.proofs.OneLevel.{child_more, child_rise, child_leaf, Each-middle, Each-without, Each-at, others, child_last, right_here, right_from}
 use Rattle.be_shape.proofs.NodeSteps.{IsBelow, placed_by, settled_is, still_drawn, some_rows, some_length, leaf_children, leaf_child, leaf_parts, leaf_leaf}
-use Rattle.be_shape.proofs.LeafSteps.{same_drawn, same_leaf}
+use Rattle.be_shape.proofs.LeafSteps.{same_leaf}
 
 -- what a step leaves of a node, and the rows that it hands back
 pub record Leaves (s : Attributes) (k : Known) (rows : List Row) (n : Plain) (back : List Row) : Type 0 where

@@ -7,7 +7,7 @@ use Rattle.be_model.specs.declared.paths.Hop.{Hop}
 use Rattle.be_model.specs.declared.paths.Hop.TheVariants.{Low, High}
 use Rattle.be_model.specs.Schemas.{Attributes}
 use Rattle.be_shape.specs.Plain.{Plain, leaf_of, rows_below}
-use Rattle.be_shape.specs.Shape.{NodeRange, can_split, Known, everywhere, is_placed_at, is_drawn_at, is_pruned_at, is_settled_at, is_stuck, may_stand}
+use Rattle.be_shape.specs.Shape.{NodeRange, can_split, Known, everywhere, is_placed_at, is_drawn_at, is_pruned_at, is_stuck, may_stand}
 use Rattle.be_shape.specs.Children.{children, known_below, may_pass}
 use Rattle.be_shape.specs.Right.{is_right_at}
 

@@ -1,7 +1,6 @@
 -- A node in the place of another: what is at the end of a path then, and what is the same.
-use Rattle.std.proofs.Common.{◌≡◌, ◌<◌, ℕ, zero, suc, Bool, true, false, cond, eqb, ◌+◌, List, [], ◌∷◌, length, slice_get, get_or, drop, Option, Some, None, option_map, option_and_then, refl, sym, ap, ◌∙◌, subst, arith}
+use Rattle.std.proofs.Common.{◌≡◌, ◌<◌, ℕ, suc, Bool, true, false, cond, eqb, ◌+◌, List, [], ◌∷◌, length, get_or, Option, Some, None, option_map, option_and_then, refl, sym, ap, ◌∙◌, subst, arith}
 use Rattle.std.specs.List.{slice_set}
-use Rattle.std.proofs.lemmas.List.{drop_more}
 use Rattle.be_base.specs.declared.names.AttrNo.{AttrNo}
 use Rattle.be_model.specs.declared.paths.Hop.{Hop}
 use Rattle.be_shape.specs.declared.nodes.Part.{Part as PartOf}

@@ -13,16 +13,15 @@ use Rattle.be_model.specs.declared.paths.Hop.{Hop}
 use Rattle.be_model.specs.declared.paths.Hop.TheVariants.{Part, Low, High}
 use Rattle.be_model.specs.Forms.{attrs_rise}
 use Rattle.be_model.specs.Schemas.{Attributes, numbered}
-use Rattle.be_shape.specs.Plain.{Plain, node, Parts, no_part, part, Half, no_half, half, rows_below, leaf_of, parts_under}
+use Rattle.be_shape.specs.Plain.{Plain, node, Parts, no_part, part, no_half, half, rows_below, leaf_of, parts_under}
 use Rattle.be_shape.specs.Shape.{Known, is_used, is_stuck, spans_inside, may_stand, attrs_of}
 use Rattle.be_shape.specs.Children.{roots_of, root_of, children, known_below, is_open, may_pass}
 use Rattle.be_shape.specs.Paths.{part_on, child, walk, range_below, range_along, is_used_on}
 use Rattle.be_shape.specs.Right.{is_right_at, IsRight}
 use Rattle.be_shape.specs.NodeList.{known_along, are_open}
-use Rattle.be_shape.specs.Steps.{is_node, other_part, other_child, change_child, replaced}
-use Rattle.be_shape.specs.Swaps.{node_or}
+use Rattle.be_shape.specs.Steps.{other_part, other_child, change_child, replaced}
 use Rattle.be_shape.proofs.Children.{Each-from_test, test_from_Each, levels}
-use Rattle.be_shape.proofs.Placed.{Placed, is_placed_from}
+use Rattle.be_shape.proofs.Placed.{is_placed_from}
 use Rattle.be_shape.proofs.Levels.{holds_rows, pruned_is, passes_one, drawn_is}
 use Rattle.be_shape.proofs.Lists.{all_permuted}
 use Rattle.be_shape.proofs.OneLevel.{Each-middle, Each-without, Each-at, others, child_last, right_here, right_from}

@@ -1,5 +1,5 @@
 -- A tree of which the node at the end of a path is reshaped: what its type keeps holds, and its contents are the same.
-use Rattle.std.proofs.Common.{◌≡◌, Bool, true, false, List, [], Option, None, Some, Result, Ok, Err, OnOk, OnErr, option_and_then, refl, sym, ap, ◌∙◌, subst}
+use Rattle.std.proofs.Common.{◌≡◌, Bool, true, List, [], Option, None, Some, Result, Ok, Err, OnOk, OnErr, option_and_then, refl, sym, ap, ◌∙◌, subst}
 use Rattle.std.specs.Arc.{arc_value}
 use Rattle.std.proofs.lemmas.Bool.{and_parts}
 use Rattle.be_model.specs.declared.paths.Hop.{Hop}

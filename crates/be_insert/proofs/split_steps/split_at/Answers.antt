@@ -1,11 +1,10 @@
-use Rattle.std.proofs.Common.{◌≡◌, true, [], length, Some, option_map, sym, ap, ◌∙◌, subst, arith}
+use Rattle.std.proofs.Common.{◌≡◌, true, [], length, sym, ap, ◌∙◌, subst, arith}
 use Rattle.std.specs.List.{list_all}
 use Rattle.be_model.specs.Lies.{row_lies}
-use Rattle.be_base.specs.declared.limits.TheConstants.{LEAF_ROWS}
 use Rattle.be_shape.specs.Plain.{plain, leaf_of}
 use Rattle.be_shape.specs.Shape.{known, nothing}
 use Rattle.be_shape.specs.NodeList.{known_along}
-use Rattle.be_shape.specs.Steps.{can_split_off, split_off, changed_at, replaced}
+use Rattle.be_shape.specs.Steps.{can_split_off, split_off, replaced}
 use Rattle.be_shape.proofs.Replacements.{right_along}
 use Rattle.be_shape.proofs.Reshaping.{stands_in, ended, changed_is, range_there, taken_out, put_back, put_own, on_ok, on_err}
 use Rattle.be_insert.proofs.Settled.{row_lie, leaf_may}

@@ -1,5 +1,4 @@
-use Rattle.std.proofs.Common.{◌≡◌, length, sym, ap, ◌∙◌, arith}
-use Rattle.std.specs.List.{filter}
+use Rattle.std.proofs.Common.{length, ap, arith}
 use Rattle.be_shape.specs.Plain.{plain, leaf_of}
 use Rattle.be_shape.specs.Children.{may_pass}
 use Rattle.be_insert.proofs.SplitOff.{fewer_moved}

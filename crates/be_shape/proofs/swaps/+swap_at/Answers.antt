@@ -10,7 +10,7 @@ use Rattle.be_shape.specs.Paths.{child, walk}
 use Rattle.be_shape.specs.Steps.{is_node, other_child, other_part, replaced}
 use Rattle.be_shape.specs.Swaps.{place_on, node_or}
 use Rattle.be_shape.proofs.Plains.{plain_out, part_out, plain_roll}
-use Rattle.be_shape.proofs.Exchanges.{Found, found, missing, walk_first, walk_none, put_first, put_none}
+use Rattle.be_shape.proofs.Exchanges.{found, missing, walk_first, walk_none, put_first, put_none}
 use Rattle.be_shape.proofs.swaps.+swap_at.Goals as goal
 
 pub index_mut-requires : goal.index_mut-requires
