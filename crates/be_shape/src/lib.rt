@@ -22,12 +22,8 @@ pub use laws::{
 };
 pub use leaves::Leaf;
 pub use looks::{
-<<<<<<< HEAD
     can_split, count_passing, fits_a_half, has_attr, is_inside, is_stuck, is_used, is_used_on,
     may_pass, takes,
-=======
-    can_split, count_passing, fits_a_half, has_attr, is_inside, is_stuck, is_used, may_pass,
->>>>>>> d3994497a8939c1c3be102a097074baea9baf2d4
 };
 pub use nodes::{Node, Part};
 pub use ranges::{NodeRange, holds_value, lower_range, upper_range, whole_range};
