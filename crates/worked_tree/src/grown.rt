@@ -47,6 +47,19 @@ impl Grown {
         place_next(&mut self.tree, next, row)
     }
 
+    /// The same, tried a second time with the row that comes back, where memory was wanting.
+    pub(crate) fn put_again(&mut self, row: Arc<Row>) -> bool {
+        if row.id.0 != self.next
+            || LOG_CHANGES as u64 <= self.next
+            || !row.lies(&self.tree.schema)
+        {
+            return false;
+        }
+        let next = self.next;
+        self.next += 1;
+        place_again(&mut self.tree, next, row)
+    }
+
     /// Makes a step.
     pub(crate) fn apply(&mut self, step: &Step) -> StepDone {
         apply(&mut self.tree, step)
@@ -77,6 +90,20 @@ fn place_next(tree: &mut Tree, next: u64, row: Arc<Row>) -> bool
     match place(tree, row) {
         Ok(()) => true,
         Err(_) => false,
+    }
+}
+
+// Places a row of the next id, a second time where memory was wanting, and says whether it stands there then.
+fn place_again(tree: &mut Tree, next: u64, row: Arc<Row>) -> bool
+    requires below { list_all (λ r. nat_lt r.0 next) (contents (plain tree.old.root)) ≡ true }
+    requires id { id_of (arc_value row) ≡ next }
+    requires few { next < LOG_CHANGES }
+    requires lies { row_lies (arc_value tree.old.schema) (arc_value row) ≡ true }
+    ensures { list_all (λ r. nat_lt r.0 (next + 1)) (contents (plain tree.new.root)) ≡ true }
+{
+    match place(tree, row) {
+        Ok(()) => true,
+        Err((row, _)) => place_next(tree, next, row),
     }
 }
 

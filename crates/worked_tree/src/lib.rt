@@ -10,6 +10,8 @@ mod plain_walk;
 #[cfg(test)]
 mod plan;
 #[cfg(test)]
+mod refused;
+#[cfg(test)]
 mod remove;
 #[cfg(test)]
 mod steps;
