@@ -1,8 +1,8 @@
 //! Scores: which attribute divides the rows of a leaf best.
 //!
 //! `weight` says how much a row is narrowed by its predicates on an attribute. `pick_attr` chooses the attribute of the
-//! highest score among rows that are handed in as any list of rows; its contract is `IsPick`. Both stand on the spans of
-//! be_model. Begin with `specs/Scores`.
+//! highest score among rows that are handed in as any list of rows; its contract is `IsPick`, and the same choice computed is
+//! `pick`. Both stand on the spans of be_model. Begin with `specs/Scores`.
 #![tactic(auto)]
 
 mod scores;
