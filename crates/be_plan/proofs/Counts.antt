@@ -1,5 +1,5 @@
 -- How many pass a test, and whether enough do.
-use Rattle.std.proofs.Common.{◌≡◌, ℕ, ◌<◌, ◌≤◌, leb, eqb, Bool, true, false, true≢false, not, cond, ◌||◌, List, [], ◌∷◌, length, refl, sym, ap, ◌∙◌, arith}
+use Rattle.std.proofs.Common.{◌≡◌, ◌<◌, leb, eqb, Bool, true, false, not, cond, List, [], ◌∷◌, length, refl, ap, ◌∙◌, arith}
 use Rattle.std.specs.List.{list_all, list_any, count_by}
 use Rattle.std.proofs.lemmas.Bool.{eqb-true, lt-leb, leb-true, or_parts, and_from}
 use Rattle.std.proofs.lemmas.List.Folds.{sum_by-zero}

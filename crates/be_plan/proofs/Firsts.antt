@@ -1,5 +1,5 @@
 -- The first steps at a node that stand.
-use Rattle.std.proofs.Common.{◌≡◌, ◌≢◌, ℕ, ◌+◌, ◌<◌, ◌≤◌, leb, eqb, Bool, true, false, true≢false, not, cond, ◌&&◌, ◌||◌, List, [], ◌∷◌, ◌++◌, Option, Some, None, option_map, refl, sym, ap, ◌∙◌, subst, arith}
+use Rattle.std.proofs.Common.{◌≡◌, ℕ, eqb, Bool, true, false, true≢false, not, cond, ◌&&◌, List, [], ◌∷◌, ◌++◌, Option, Some, None, option_map, refl, sym, ap, ◌∙◌}
 use Rattle.std.specs.Prelude.{map, filter}
 use Rattle.std.specs.Option.{option_or, option_to_list}
 use Rattle.std.specs.List.{list_all, list_any, find, flat_map, AllByRecursion}
@@ -13,18 +13,17 @@ use Rattle.be_model.specs.declared.paths.Hop.{Hop}
 use Rattle.be_model.specs.declared.paths.Hop.TheVariants.{Part, Low, High}
 use Rattle.be_model.specs.declared.paths.Step.{Step}
 use Rattle.be_model.specs.declared.paths.Step.TheVariants.{SplitPart, SplitHalf, Merge, Shift}
-use Rattle.be_model.specs.Schemas.{Attributes, numbered}
-use Rattle.be_model.specs.Lies.{row_lies}
+use Rattle.be_model.specs.Schemas.{Attributes}
 use Rattle.be_model.specs.Rows.{id_of, has}
 use Rattle.be_model.specs.ByIds.{by_ids, rows_of, ids_differ}
 use Rattle.be_model.proofs.RowsByIds.{rows_permuted}
 use Rattle.be_score.specs.Picks.{pick}
 use Rattle.be_score.proofs.Picks.{picked}
-use Rattle.be_shape.specs.Plain.{Plain, node, Parts, no_part, part, Half, rows_below, leaf_of, parts_under}
-use Rattle.be_shape.specs.Shape.{NodeRange, Known, nothing, attrs_of, can_split, is_used}
-use Rattle.be_shape.specs.Paths.{part_on, child, walk}
+use Rattle.be_shape.specs.Plain.{Plain, node, Parts, no_part, part, rows_below, leaf_of, parts_under}
+use Rattle.be_shape.specs.Shape.{Known, attrs_of, can_split, is_used}
+use Rattle.be_shape.specs.Paths.{child, walk}
 use Rattle.be_shape.specs.Children.{roots_of, root_of, children, is_open, may_pass}
-use Rattle.be_shape.specs.NodeList.{NodeAt, node_at, known_along}
+use Rattle.be_shape.specs.NodeList.{NodeAt, node_at}
 use Rattle.be_shape.specs.Steps.{is_node, rows_of_node, rows_at, test_at, at_end, can_split_off, can_merge, front, last, can_merge_at, can_shift, stands}
 use Rattle.be_shape.proofs.Children.{Each-weaker, Each-parts, levels}
 use Rattle.be_shape.proofs.NodeList.{children_there}

@@ -1,7 +1,7 @@
 -- A row gains only on an attribute that it has.
-use Rattle.std.proofs.Common.{◌≡◌, ℕ, ◌+◌, ◌<◌, ◌≤◌, leb, Bool, true, false, true≢false, cond, List, [], ◌∷◌, Option, Some, None, refl, sym, ap, ◌∙◌, arith}
+use Rattle.std.proofs.Common.{◌≡◌, ℕ, ◌+◌, ◌<◌, ◌≤◌, Bool, true, false, true≢false, cond, List, [], ◌∷◌, Option, Some, None, refl, sym, ap, ◌∙◌, arith}
 use Rattle.std.specs.Prelude.{is_some, option_map, option_and_then}
-use Rattle.std.specs.List.{find, list_any}
+use Rattle.std.specs.List.{find}
 use Rattle.std.proofs.lemmas.Bool.{leb-true, lt-leb}
 use Rattle.be_base.specs.declared.names.AttrNo.{AttrNo}
 use Rattle.be_base.specs.declared.limits.TheConstants.{SHIFT_GAIN}

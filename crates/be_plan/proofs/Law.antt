@@ -1,5 +1,5 @@
 -- What the plan's definition comes to.
-use Rattle.std.proofs.Common.{◌≡◌, ℕ, zero, suc, ◌<◌, ◌≤◌, leb, eqb, Bool, true, false, true≢false, not, cond, ◌&&◌, ◌||◌, List, [], ◌∷◌, ◌++◌, length, Option, Some, None, option_and_then, refl, sym, ap, ◌∙◌, subst, arith}
+use Rattle.std.proofs.Common.{◌≡◌, ℕ, zero, suc, ◌≤◌, eqb, Bool, true, false, true≢false, not, cond, ◌&&◌, ◌||◌, List, [], ◌∷◌, ◌++◌, Option, Some, None, option_and_then, refl, sym, ap, ◌∙◌, subst, arith}
 use Rattle.std.specs.Prelude.{map, filter, count_by}
 use Rattle.std.specs.Option.{option_to_list}
 use Rattle.std.specs.List.{find, flat_map, list_any, Contains}
@@ -24,11 +24,11 @@ use Rattle.be_shape.specs.Shape.{Known, nothing, attrs_of}
 use Rattle.be_shape.specs.Paths.{part_on, child, walk}
 use Rattle.be_shape.specs.Children.{may_pass}
 use Rattle.be_shape.specs.NodeList.{NodeAt, node_at, nodes, known_along}
-use Rattle.be_shape.specs.Steps.{is_node, rows_at, test_at, at_end, may_merge, can_merge, front, last, can_merge_at, can_shift, stands}
+use Rattle.be_shape.specs.Steps.{is_node, rows_at, test_at, may_merge, can_merge, front, last, can_merge_at, can_shift, stands}
 use Rattle.be_shape.proofs.NodeList.{are_listed}
 use Rattle.be_plan.specs.Plan.{gains, merges, shifts_of, shifts, is_early, part_splits, half_splits, steps, plan}
 use Rattle.be_plan.specs.Law.{NothingStands}
-use Rattle.be_plan.proofs.Firsts.{In, each_in}
+use Rattle.be_plan.proofs.Firsts.{In}
 use Rattle.be_plan.proofs.Places.{walk_on}
 
 pub found_stands : (p : Step → Bool) (xs : List Step) (step : Step) → find p xs ≡ Some step → p step ≡ true

@@ -1,6 +1,6 @@
 -- Rows that lie in the schema and have an attribute, level by level, and the first shift, part by part.
 use Rattle.std.proofs.lemmas.List.{at_drop_all}
-use Rattle.std.proofs.Common.{◌≡◌, ℕ, zero, suc, ◌+◌, ◌<◌, ◌≤◌, Bool, true, cond, List, [], ◌∷◌, ◌++◌, length, get_or, drop, slice_get, Option, Some, None, option_map, refl, sym, ap, ◌∙◌, arith}
+use Rattle.std.proofs.Common.{◌≡◌, ℕ, zero, suc, ◌+◌, ◌<◌, ◌≤◌, true, cond, List, [], ◌∷◌, ◌++◌, length, get_or, drop, slice_get, Option, Some, None, option_map, refl, sym, ap, ◌∙◌, arith}
 use Rattle.std.specs.List.{list_all}
 use Rattle.std.specs.Option.{option_or}
 use Rattle.std.proofs.lemmas.Bool.{and_parts, and_from}
@@ -16,7 +16,6 @@ use Rattle.be_shape.specs.declared.nodes.Node.TheViews.{out-Part}
 use Rattle.be_shape.specs.Plain.{Plain, plain, part_as, parts_of, parts_as, rows_below, rows_in_parts}
 use Rattle.be_shape.specs.Shape.{attrs_of, parts_fit}
 use Rattle.be_shape.proofs.Plains.{part_out}
-use Rattle.be_plan.specs.Plan.{gains}
 use Rattle.be_plan.specs.Shifts.{Movable, lower_id, least_gain, first_shift}
 use Rattle.be_plan.proofs.Gains.{no_self}
 use Rattle.be_plan.proofs.Rows.{all_four, all_in_part, rows_of_part, parts_left}

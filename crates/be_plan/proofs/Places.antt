@@ -1,18 +1,16 @@
 -- Where a node stands in its tree: at the root, and one step further.
-use Rattle.std.proofs.Common.{◌≡◌, ℕ, zero, suc, ◌+◌, ◌-◌, ◌<◌, Bool, true, false, not, eqb, ltb, leb, length, get_or, take, length-append, ◌&&◌, ◌||◌, List, [], ◌∷◌, ◌++◌, Option, Some, None, option_and_then, refl, sym, ap, ◌∙◌, subst, arith}
+use Rattle.std.proofs.Common.{◌≡◌, ℕ, zero, suc, ◌-◌, ◌<◌, Bool, true, false, not, eqb, ltb, leb, length, get_or, take, length-append, ◌&&◌, ◌||◌, List, [], ◌∷◌, ◌++◌, Option, Some, None, option_and_then, refl, sym, ap, ◌∙◌, subst, arith}
 use Rattle.std.specs.List.{list_all, list_any, flat_map, AllByRecursion}
 use Rattle.std.proofs.Math.Seq.{take-append_seam}
 use Rattle.std.proofs.lemmas.Bool.{and_parts, and_from}
 use Rattle.be_model.specs.declared.changes.Row.{Row}
-use Rattle.be_base.specs.declared.names.AttrNo.{AttrNo}
 use Rattle.be_model.specs.declared.paths.Hop.{Hop}
 use Rattle.be_model.specs.declared.paths.Hop.TheVariants.{Part, Low, High}
 use Rattle.be_shape.specs.declared.nodes.Part.{Part as PartOf}
 use Rattle.be_model.specs.Schemas.{Attributes}
 use Rattle.be_model.specs.Rows.{id_of}
 use Rattle.be_model.specs.ByIds.{ids_differ}
-use Rattle.be_shape.specs.declared.trees.Tree.{Tree}
-use Rattle.be_shape.specs.Plain.{Plain, node, plain, rows_below, leaf_of, parts_under, part_as, parts_as}
+use Rattle.be_shape.specs.Plain.{Plain, node, rows_below, leaf_of, parts_under, part_as, parts_as}
 use Rattle.be_base.specs.declared.limits.TheConstants.{LEAF_ROWS, LOG_CHANGES}
 use Rattle.be_model.specs.Lies.{row_lies}
 use Rattle.be_model.specs.Forms.{is_conj}

@@ -1,10 +1,9 @@
 -- The best step after a look at nodes, and the first of all steps.
-use Rattle.std.proofs.Common.{◌≡◌, ℕ, ◌+◌, ◌<◌, ◌≤◌, ltb, Bool, true, false, cond, List, [], ◌∷◌, ◌++◌, length, drop, get_or, Option, Some, None, refl, sym, ap, ◌∙◌, subst, arith}
+use Rattle.std.proofs.Common.{◌≡◌, ℕ, ◌+◌, ◌<◌, ◌≤◌, Bool, cond, List, [], ◌∷◌, ◌++◌, length, drop, get_or, Option, Some, None, refl, sym, ap, ◌∙◌, arith}
 use Rattle.std.specs.Option.{option_or}
 use Rattle.std.specs.List.{find, flat_map}
-use Rattle.std.proofs.lemmas.Bool.{le-ltb, lt-ltb}
+use Rattle.std.proofs.lemmas.Bool.{le-ltb}
 use Rattle.std.proofs.lemmas.List.Folds.{find-append}
-use Rattle.be_base.specs.declared.names.AttrNo.{AttrNo}
 use Rattle.be_model.specs.declared.changes.Row.{Row}
 use Rattle.be_model.specs.declared.paths.Hop.{Hop}
 use Rattle.be_model.specs.declared.paths.Hop.TheVariants.{Part as PartHop, Low, High}
@@ -18,7 +17,7 @@ use Rattle.be_shape.specs.Paths.{child}
 use Rattle.be_shape.specs.NodeList.{NodeAt, node_at, nodes_from, nodes_in_parts, nodes_in_half, nodes}
 use Rattle.be_shape.specs.Steps.{stands, may_merge, can_merge}
 use Rattle.be_plan.specs.declared.bests.Best.{Best}
-use Rattle.be_plan.specs.Plan.{merges, shifts, part_splits, half_splits, steps, plan}
+use Rattle.be_plan.specs.Plan.{merges, shifts, part_splits, half_splits, plan}
 use Rattle.be_plan.specs.Best.{first, better, after_merges, after_others, best_after, below_after}
 use Rattle.be_plan.proofs.Rows.{parts_left}
 

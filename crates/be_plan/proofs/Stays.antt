@@ -1,6 +1,6 @@
 -- Rows that may pass to another child.
-use Rattle.std.proofs.Common.{◌≡◌, ◌≢◌, ℕ, ◌+◌, ◌<◌, ◌≤◌, eqb, Bool, true, false, not, cond, ◌&&◌, ◌||◌, List, [], ◌∷◌, ◌++◌, refl, sym, ap, ◌∙◌, arith}
-use Rattle.std.specs.List.{list_all, list_any}
+use Rattle.std.proofs.Common.{◌≡◌, ◌≢◌, ℕ, ◌+◌, ◌≤◌, eqb, Bool, true, false, not, cond, ◌&&◌, ◌||◌, List, [], ◌∷◌, ◌++◌, refl, sym, ap, ◌∙◌, arith}
+use Rattle.std.specs.List.{list_any}
 use Rattle.std.proofs.lemmas.Bool.{eqb-true, ne_eqb}
 use Rattle.std.proofs.lemmas.List.Folds.{list_all-append, list_any-append}
 use Rattle.be_base.specs.declared.names.AttrNo.{AttrNo}
@@ -12,8 +12,8 @@ use Rattle.be_model.specs.Rows.{has}
 use Rattle.be_model.specs.Forms.{attrs_rise}
 use Rattle.be_shape.specs.Plain.{Plain, node, Parts, no_part, part, Half, no_half, half}
 use Rattle.be_shape.specs.Shape.{NodeRange, attrs_of, is_here}
-use Rattle.be_shape.specs.Children.{roots_of, root_of, children, may_pass}
-use Rattle.be_shape.specs.Steps.{without_part, without_child}
+use Rattle.be_shape.specs.Children.{roots_of, root_of, may_pass}
+use Rattle.be_shape.specs.Steps.{without_part}
 use Rattle.be_shape.proofs.NodeList.{RisesFrom, rises_from}
 use Rattle.be_plan.specs.Merges.{passes_elsewhere, all_stay, is_to, is_same}
 

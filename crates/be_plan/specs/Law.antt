@@ -6,7 +6,6 @@ use Rattle.be_base.specs.declared.limits.TheConstants.{EARLY_ROWS}
 use Rattle.be_model.specs.declared.changes.Row.{Row}
 use Rattle.be_model.specs.declared.paths.Hop.{Hop}
 use Rattle.be_model.specs.declared.paths.Hop.TheVariants.{Part}
-use Rattle.be_model.specs.declared.paths.Step.{Step}
 use Rattle.be_model.specs.declared.paths.Step.TheVariants.{SplitPart, SplitHalf, Merge, Shift}
 use Rattle.be_model.specs.Schemas.{Attributes}
 use Rattle.be_model.specs.Rows.{has}

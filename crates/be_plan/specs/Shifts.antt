@@ -8,7 +8,7 @@ use Rattle.be_model.specs.declared.changes.Row.{Row}
 use Rattle.be_model.specs.Schemas.{Attributes}
 use Rattle.be_model.specs.Lies.{row_lies}
 use Rattle.be_model.specs.Rows.{has}
-use Rattle.be_shape.specs.Plain.{Plain, Parts, no_part, part, rows_below}
+use Rattle.be_shape.specs.Plain.{Parts, no_part, part, rows_below}
 use Rattle.be_plan.specs.Plan.{gains}
 
 -- the first attribute on which the row weighs enough more, with the row's id

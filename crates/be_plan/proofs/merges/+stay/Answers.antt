@@ -1,12 +1,11 @@
-use Rattle.std.proofs.Common.{rules, ◌≡◌, ◌<◌, ◌∷◌, [], ◌+◌, true, false, drop, length, sym, ap, ◌∙◌, subst, arith}
+use Rattle.std.proofs.Common.{rules, ◌≡◌, true, sym, ap, ◌∙◌, subst}
 use Rattle.std.specs.List.{list_all}
 use Rattle.be_model.specs.Lies.{row_lies}
 use Rattle.be_shape.specs.declared.nodes.Node.TheViews.{out-Node, the_lemmas}
-use Rattle.be_shape.specs.Plain.{plain, parts_as, half_as, part_as, parts_of, rows_in_parts, rows_in_half}
-use Rattle.be_shape.proofs.Lists.{all_front, all_back}
+use Rattle.be_shape.specs.Plain.{plain, parts_as, half_as, rows_in_parts, rows_in_half}
 use Rattle.be_plan.specs.Merges.{all_stay}
 use Rattle.be_plan.proofs.Rows.{rows_out, all_four, all_in_part}
-use Rattle.be_plan.proofs.Stays.{stay_append, stay_four, and_four}
+use Rattle.be_plan.proofs.Stays.{stay_four, and_four}
 use Rattle.be_plan.proofs.merges.+stay.Goals as goal
 
 pub node_stays-half_stays-requires : goal.node_stays-half_stays-requires

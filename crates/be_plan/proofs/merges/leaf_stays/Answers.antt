@@ -1,4 +1,4 @@
-use Rattle.std.proofs.Common.{◌≡◌, true, not, ◌&&◌, ◌+◌, drop, sym, ap, ◌∙◌, subst}
+use Rattle.std.proofs.Common.{◌≡◌, true, not, ◌&&◌, ◌+◌, drop, sym, ap, ◌∙◌}
 use Rattle.std.specs.Arc.{arc_value}
 use Rattle.be_model.specs.Lies.{row_lies}
 use Rattle.be_model.proofs.Attributes.{all_at}

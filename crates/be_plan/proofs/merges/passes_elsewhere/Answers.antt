@@ -1,10 +1,10 @@
-use Rattle.std.proofs.Common.{◌≡◌, Bool, true, false, not, ◌&&◌, ◌||◌, sym, ap, ◌∙◌, subst}
+use Rattle.std.proofs.Common.{◌≡◌, true, not, ◌&&◌, ◌||◌, sym, ap, ◌∙◌, subst}
 use Rattle.std.specs.List.{list_any}
 use Rattle.be_model.specs.declared.paths.Hop.TheVariants.{Low, High}
 use Rattle.be_model.specs.Forms.{attrs_rise}
 use Rattle.be_model.specs.Rows.{has}
 use Rattle.be_shape.specs.declared.nodes.Node.TheViews.{out-Node}
-use Rattle.be_shape.specs.Plain.{plain, parts_as, half_as, parts_under}
+use Rattle.be_shape.specs.Plain.{parts_as, half_as, parts_under}
 use Rattle.be_shape.specs.Shape.{attrs_of, is_here}
 use Rattle.be_shape.specs.Children.{may_pass}
 use Rattle.be_shape.proofs.Plains.{plain_out}

@@ -1,4 +1,4 @@
-use Rattle.std.proofs.Common.{◌≡◌, [], sym, ap, ◌∙◌, subst}
+use Rattle.std.proofs.Common.{[], ap, ◌∙◌}
 use Rattle.std.specs.Arc.{arc_value}
 use Rattle.be_shape.specs.Plain.{plain}
 use Rattle.be_shape.specs.Shape.{nothing}

@@ -14,7 +14,7 @@ use Rattle.be_shape.specs.NodeList.{node_at, nodes_from, nodes_in_parts, nodes_i
 use Rattle.be_shape.specs.Spots.{known_of}
 use Rattle.be_shape.proofs.Plains.{plain_out, part_out}
 use Rattle.be_plan.specs.Best.{IsAt, after_others, best_after, below_after}
-use Rattle.be_plan.proofs.Places.{at_below, part_there, at_moved, can_leave}
+use Rattle.be_plan.proofs.Places.{at_below, part_there, at_moved}
 use Rattle.be_plan.proofs.Firsts.{roots_there}
 use Rattle.be_plan.proofs.Seeking.{part_step, node_step, below_shut}
 use Rattle.be_plan.proofs.seeks.+seeks.Goals as goal

@@ -1,4 +1,3 @@
-use Rattle.std.proofs.Common.{◌≡◌, ap, ◌∙◌}
 use Rattle.std.specs.Arc.{arc_value}
 use Rattle.be_shape.specs.Plain.{plain}
 use Rattle.be_shape.specs.Spots.{known_of}

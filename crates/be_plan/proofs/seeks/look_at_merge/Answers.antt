@@ -1,4 +1,4 @@
-use Rattle.std.proofs.Common.{◌≡◌, ◌++◌, ◌∷◌, [], cond, true, Some, None, sym, ap, ◌∙◌, subst}
+use Rattle.std.proofs.Common.{◌++◌, ◌∷◌, [], cond, Some, None, sym, ap, ◌∙◌}
 use Rattle.std.specs.List.{list_all}
 use Rattle.std.specs.Arc.{arc_value}
 use Rattle.be_model.specs.Lies.{row_lies}
@@ -8,7 +8,7 @@ use Rattle.be_shape.specs.Shape.{known}
 use Rattle.be_shape.specs.Spots.{known_of}
 use Rattle.be_shape.specs.Children.{known_below}
 use Rattle.be_shape.specs.Steps.{can_merge}
-use Rattle.be_plan.specs.Best.{first, better}
+use Rattle.be_plan.specs.Best.{better}
 use Rattle.be_plan.proofs.Places.{rows_lie, at_below}
 use Rattle.be_plan.proofs.Firsts.{first_merge}
 use Rattle.be_plan.proofs.Seeking.{closed, merge_range}

@@ -1,4 +1,4 @@
-use Rattle.std.proofs.Common.{◌≡◌, ◌||◌, leb, length, true, Some, None, option_map, sym, ap, ◌∙◌, subst}
+use Rattle.std.proofs.Common.{◌||◌, leb, length, Some, option_map, sym, ap, ◌∙◌}
 use Rattle.std.specs.List.{list_all}
 use Rattle.std.specs.Arc.{arc_value}
 use Rattle.be_base.specs.declared.names.AttrNo.{AttrNo}

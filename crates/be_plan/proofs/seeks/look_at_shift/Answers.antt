@@ -1,4 +1,4 @@
-use Rattle.std.proofs.Common.{◌≡◌, true, Some, None, option_map, sym, ap, ◌∙◌, subst}
+use Rattle.std.proofs.Common.{◌≡◌, Some, None, option_map, sym, ap, ◌∙◌}
 use Rattle.std.specs.List.{list_all}
 use Rattle.std.specs.Arc.{arc_value}
 use Rattle.be_base.specs.declared.names.AttrNo.{AttrNo}
@@ -7,10 +7,8 @@ use Rattle.be_model.specs.declared.paths.Step.TheVariants.{Shift}
 use Rattle.be_model.specs.Lies.{row_lies}
 use Rattle.be_shape.specs.Plain.{plain, parts_under, rows_below}
 use Rattle.be_shape.specs.Shape.{attrs_of}
-use Rattle.be_shape.specs.NodeList.{node_at}
 use Rattle.be_shape.specs.Spots.{known_of}
-use Rattle.be_plan.specs.Plan.{shifts}
-use Rattle.be_plan.specs.Best.{first, better}
+use Rattle.be_plan.specs.Best.{better}
 use Rattle.be_plan.specs.Shifts.{first_shift}
 use Rattle.be_plan.proofs.Places.{rows_lie, parts_are_fit}
 use Rattle.be_plan.proofs.Firsts.{first_shift_is}

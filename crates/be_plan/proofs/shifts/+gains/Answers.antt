@@ -1,12 +1,9 @@
-use Rattle.std.proofs.Common.{rules, ◌≡◌, ◌<◌, ◌∷◌, [], ◌+◌, true, drop, length, sym, ap, ◌∙◌, subst, arith}
-use Rattle.std.specs.List.{list_all}
-use Rattle.be_model.specs.Lies.{row_lies}
-use Rattle.be_model.specs.Rows.{has}
+use Rattle.std.proofs.Common.{rules, ◌∷◌, [], ◌+◌, drop, sym, ap, ◌∙◌, subst}
 use Rattle.be_shape.specs.declared.nodes.Node.TheViews.{out-Node, the_lemmas}
-use Rattle.be_shape.specs.Plain.{plain, parts_as, half_as, part_as, parts_of, rows_in_parts, rows_in_half}
+use Rattle.be_shape.specs.Plain.{parts_as, half_as, part_as, parts_of, rows_in_parts, rows_in_half}
 use Rattle.be_shape.specs.Shape.{attrs_of}
 use Rattle.be_plan.specs.Shifts.{Movable, lower_id, least_gain}
-use Rattle.be_plan.proofs.Rows.{rows_out, rows_left, all_in_part}
+use Rattle.be_plan.proofs.Rows.{rows_out, rows_left}
 use Rattle.be_plan.proofs.Moves.{movable_four, movable_part}
 use Rattle.be_plan.proofs.Ids.{least_on, least_four}
 use Rattle.be_plan.proofs.shifts.+gains.Goals as goal

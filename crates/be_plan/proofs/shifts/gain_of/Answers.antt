@@ -1,4 +1,4 @@
-use Rattle.std.proofs.Common.{◌≡◌, ◌+◌, ◌<◌, pos, sym, ap, arith}
+use Rattle.std.proofs.Common.{◌+◌, ◌<◌, sym, ap, arith}
 use Rattle.std.specs.Prelude.{option_map}
 use Rattle.std.proofs.lemmas.Int.{ints}
 use Rattle.be_base.specs.declared.names.AttrNo.{AttrNo}
