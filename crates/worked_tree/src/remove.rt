@@ -35,7 +35,12 @@ fn conj_of(rt: &impl Abort, alloc: Global, tree: &Tree, text: &str) -> Result<Co
 }
 
 /// Puts a row of this condition, and gives it back too.
-pub(crate) fn put(rt: &impl Abort, alloc: Global, grown: &mut Grown, text: &str) -> Result<Arc<Row>, Fail> {
+pub(crate) fn put(
+    rt: &impl Abort,
+    alloc: Global,
+    grown: &mut Grown,
+    text: &str,
+) -> Result<Arc<Row>, Fail> {
     let conj = conj_of(rt, alloc, &grown.tree, text)?;
     let row = row_of(alloc, grown.next, conj)?;
     assert!(rt; grown.put(Arc::try_clone(&row)?), "{text}");

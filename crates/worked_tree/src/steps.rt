@@ -11,7 +11,9 @@ use std::sync::Arc;
 use std::test::Fail;
 
 const PRICE: AttrNo = AttrNo(0);
+
 const QTY: AttrNo = AttrNo(1);
+
 const SIDE: AttrNo = AttrNo(2);
 
 #[derive(Clone, Copy)]
@@ -48,12 +50,11 @@ fn make_all(
     rows: &[Arc<Row>],
     steps: &[(&[Hop], What, StepDone)],
 ) -> Result<(), Fail> {
-    let mut number = 0;
-    for (hops, what, done) in steps {
-        let step = step_of(alloc, hops, *what)?;
-        assert_eq!(rt; grown.apply(&step), *done, "step {number}");
+    for number in 0..steps.len() {
+        let (hops, what, done) = steps[number];
+        let step = step_of(alloc, hops, what)?;
+        assert_eq!(rt; grown.apply(&step), done, "step {number}");
         assert!(rt; has_ids(alloc, &grown.tree, rows)?, "step {number}");
-        number += 1;
     }
     Ok(())
 }
