@@ -50,12 +50,11 @@ fn make_all(
     rows: &[Arc<Row>],
     steps: &[(&[Hop], What, StepDone)],
 ) -> Result<(), Fail> {
-    let mut number = 0;
-    for (hops, what, done) in steps {
-        let step = step_of(alloc, hops, *what)?;
-        assert_eq!(rt; grown.apply(&step), *done, "step {number}");
+    for number in 0..steps.len() {
+        let (hops, what, done) = steps[number];
+        let step = step_of(alloc, hops, what)?;
+        assert_eq!(rt; grown.apply(&step), done, "step {number}");
         assert!(rt; has_ids(alloc, &grown.tree, rows)?, "step {number}");
-        number += 1;
     }
     Ok(())
 }
@@ -116,18 +115,19 @@ fn splits_and_merges_are_made_where_they_stand(rt: HostRuntime) -> Result<(), Fa
 fn a_few_rows_left_of_seventeen_go_to_the_root(rt: HostRuntime) -> Result<(), Fail> {
     let alloc = rt.alloc();
     let mut grown = Grown::make(alloc, schema_of_four(alloc)?);
-    let rows = put_all(&rt, alloc, &mut grown, &["price = 5"; 17])?;
+    let left = put_all(&rt, alloc, &mut grown, &["price = 5"; 3])?;
+    let gone = put_all(&rt, alloc, &mut grown, &["price = 5"; 14])?;
     let price: &[Hop] = &[Hop::Part(PRICE)];
-    let many = [(price, What::Merge, StepDone::NotHere)];
-    make_all(&rt, alloc, &mut grown, rows.as_slice(), &many)?;
-    for row in &rows[3..] {
+    let step = step_of(alloc, price, What::Merge)?;
+    assert_eq!(rt; grown.apply(&step), StepDone::NotHere);
+    for row in gone.as_slice() {
         assert!(rt; grown.take(row).is_some());
     }
     let few = [
         (price, What::Merge, StepDone::Done),
         (price, What::Merge, StepDone::NotHere),
     ];
-    make_all(&rt, alloc, &mut grown, &rows[..3], &few)?;
+    make_all(&rt, alloc, &mut grown, left.as_slice(), &few)?;
     assert_eq!(rt; cost(alloc, &grown.tree, &[(0, 5)])?, (1, 3));
     Ok(())
 }
