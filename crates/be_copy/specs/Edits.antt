@@ -33,11 +33,13 @@ absorbed s h (Change c) = with_entry s h (entry_of (arc_value c))
 absorbed s h (Reshape step) = h
 
 -- what a step of the index answers
-pub record IsStepped (can_step : Step → Bool) (step : Step) (done : StepDone) : Type 0 where
+pub record IsStepped (can_step : Step → Bool) (IsMade : Step → Type 0) (IsUnchanged : Type 0) (step : Step) (done : StepDone) : Type 0 where
   pub here : (done ≡ NotHere) ↔ (can_step step ≡ false)
+  pub made : done ≡ Done → IsMade step
+  pub nothing : done ≡ NotHere → IsUnchanged
   pub merge : is_merge step ≡ true → done ≢ Skipped
 
 -- what an edit is answered where memory isn't wanting
-abbrev pub AnswersEdit : Attributes → List Entry → (Step → Bool) → Edit → StepDone → Type 0
-AnswersEdit s h can_step (Change c) done = done ≡ (if fits s h (entry_of (arc_value c)) then Done else NotHere)
-AnswersEdit s h can_step (Reshape step) done = IsStepped can_step step done
+abbrev pub AnswersEdit : Attributes → List Entry → (Step → Bool) → (Step → Type 0) → Type 0 → Edit → StepDone → Type 0
+AnswersEdit s h can_step IsMade IsUnchanged (Change c) done = done ≡ (if fits s h (entry_of (arc_value c)) then Done else NotHere)
+AnswersEdit s h can_step IsMade IsUnchanged (Reshape step) done = IsStepped can_step IsMade IsUnchanged step done

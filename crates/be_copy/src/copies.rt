@@ -86,7 +86,7 @@ impl<I: Index> Copy2<I> {
 
     /// Takes in an edit. A subscription whose row doesn't lie in the schema, or whose id isn't the next place, changes nothing.
     pub fn absorb(&mut self, edit: &Edit) -> Result<StepDone, NoMemory>
-        ensures answer { IfOk result (λ done. AnswersEdit (I.schema self.old.index) self.old.list (I.can_step self.old.index) edit.now done) }
+        ensures answer { IfOk result (λ done. AnswersEdit (I.schema self.old.index) self.old.list (I.can_step self.old.index) (λ step. I.is_made step self.old.index self.new.index) (I.is_unchanged self.old.index self.new.index) edit.now done) }
         ensures list { OnOk result (self.new.list ≡ absorbed (I.schema self.old.index) self.old.list edit.now) }
         ensures refused { OnErr result (self.new.list ≡ self.old.list) }
         // Only what is appended takes memory.

@@ -38,6 +38,12 @@ pub trait Index: Drop {
     /// Whether the step stands.
     ghost can_step: { Self → Step → Bool };
 
+    /// What there is after a step that was made.
+    ghost is_made: { Step → Self → Self → Type 0 };
+
+    /// Whether the rows are kept as they were.
+    ghost is_unchanged: { Self → Self → Type 0 };
+
     /// The step that a plan chooses.
     ghost planned: { Self → Option Step };
 
@@ -61,6 +67,7 @@ pub trait Index: Drop {
         ensures there { IsTrue result ↔ (row_at (id_of row.now) (rows self.old) ≡ Some row.now) }
         ensures removed { OnTrue result (rows self.new ≡ without_id (id_of row.now) (rows self.old)) }
         ensures kept { OnFalse result (rows self.new ≡ rows self.old) }
+        ensures nothing { OnFalse result (is_unchanged self.old self.new) }
         ensures schema { schema self.new ≡ schema self.old }
         ensures bounded { is_bounded self.new ≡ is_bounded self.old };
 
@@ -110,6 +117,8 @@ pub trait Index: Drop {
         ensures schema { schema self.new ≡ schema self.old }
         ensures bounded { is_bounded self.new ≡ is_bounded self.old }
         ensures here { (result ≡ StepDone.NotHere) ↔ (can_step self.old step.now ≡ false) }
+        ensures made { result ≡ StepDone.Done → is_made step.now self.old self.new }
+        ensures nothing { result ≡ StepDone.NotHere → is_unchanged self.old self.new }
         // It takes no memory.
         ensures merge { is_merge step.now ≡ true → result ≢ StepDone.Skipped };
 

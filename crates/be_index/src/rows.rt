@@ -55,7 +55,7 @@ impl ListIndex {
 }
 
 impl Index for ListIndex {
-    ghost use Rattle.std.specs.Prelude.{true, false, None};
+    ghost use Rattle.std.specs.Prelude.{◌≡◌, true, false, None};
     ghost use Rattle.be_index.specs.Rows.{plain_cost};
 
     ghost schema = { λ i. i.schema };
@@ -67,6 +67,10 @@ impl Index for ListIndex {
     ghost cost_of = { λ i e. plain_cost e i.rows };
 
     ghost can_step = { λ i step. false };
+
+    ghost is_made = { λ step i j. ⊥ };
+
+    ghost is_unchanged = { λ i j. j.rows ≡ i.rows };
 
     ghost planned = { λ i. None };
 

@@ -15,43 +15,61 @@ use be_plan::{plan, plan_is_whole};
 use be_remove::take;
 use be_shape::Tree;
 use std::alloc::Global;
+use std::marker::Model;
 use std::sync::Arc;
 
 /// How much a part's score counts the rows that would stay outside it, in hundredths.
 pub const ALPHA: u8 = 50;
 
-/// Rows in a tree, and nothing beside it.
+/// Rows in a tree, and nothing beside it. Contracts see the tree.
 #[derive(Drop)]
-pub struct BeTree(pub Tree);
+pub struct BeTree(Tree);
+
+impl Model for BeTree {
+    ghost use Rattle.std.specs.Prelude.{◌≡◌};
+    ghost use Rattle.be_shape.specs.declared.trees.Tree.{Tree};
+    ghost use Rattle.be_tree.specs.declared.tree.TheConstants.{ALPHA};
+
+    ghost Value = { Tree };
+
+    ghost view = { λ t. t.0 };
+
+    ghost invariant = { λ t. t.0.alpha ≡ ALPHA };
+}
 
 impl BeTree {
     /// No rows. It takes no memory.
     pub fn make(alloc: Global, schema: Arc<Schema>) -> BeTree
-        ensures schema { arc_value result.0.schema ≡ arc_value schema }
-        ensures rows { contents (plain result.0.root) ≡ [] }
+        ensures schema { arc_value result.schema ≡ arc_value schema }
+        ensures rows { contents (plain result.root) ≡ [] }
     {
         BeTree(Tree::make(alloc, schema, ALPHA))
     }
 }
 
 impl Index for BeTree {
-    ghost use Rattle.std.specs.Prelude.{true};
+    ghost use Rattle.std.specs.Prelude.{◌≡◌, true};
     ghost use Rattle.be_model.specs.Costs.{cost};
     ghost use Rattle.be_plan.specs.Plan.{plan};
     ghost use Rattle.be_shape.specs.Search.{visits, tested};
-    ghost use Rattle.be_shape.specs.Steps.{stands};
+    ghost use Rattle.be_tree.specs.declared.tree.TheConstants.{ALPHA};
+    ghost use Rattle.be_shape.specs.Steps.{stands, IsMade};
 
-    ghost schema = { λ t. arc_value t.0.schema };
+    ghost schema = { λ t. arc_value t.schema };
 
-    ghost rows = { λ t. contents (plain t.0.root) };
+    ghost rows = { λ t. contents (plain t.root) };
 
     ghost is_bounded = { λ t. true };
 
-    ghost cost_of = { λ t e. cost (visits (arc_value t.0.schema) e (plain t.0.root)) (tested (arc_value t.0.schema) e (plain t.0.root)) };
+    ghost cost_of = { λ t e. cost (visits (arc_value t.schema) e (plain t.root)) (tested (arc_value t.schema) e (plain t.root)) };
 
-    ghost can_step = { λ t step. stands (arc_value t.0.schema) step (plain t.0.root) };
+    ghost can_step = { λ t step. stands (arc_value t.schema) step (plain t.root) };
 
-    ghost planned = { λ t. plan (arc_value t.0.schema) t.0.alpha (plain t.0.root) };
+    ghost is_made = { λ step t u. IsMade (arc_value t.schema) step (plain t.root) (plain u.root) };
+
+    ghost is_unchanged = { λ t u. plain u.root ≡ plain t.root };
+
+    ghost planned = { λ t. plan (arc_value t.schema) ALPHA (plain t.root) };
 
     fn lies(&self, row: &Row) -> bool {
         row.lies(&self.0.schema)
