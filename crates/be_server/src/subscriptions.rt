@@ -79,6 +79,7 @@ impl<I: Index> Subscriptions<I> {
         requires going { has_left 1 self.old.list ≡ false }
         requires lies { conj_lies (I.schema self.old.index) conj ≡ true }
         ensures reply { Replies (I.schema self.old.index) self.old.list (asked.subscribe name conj) (plain_reply result) self.new.list }
+        ensures free { result ≡ Short.NoMemory → is_live_name name (live self.old.list) ≡ false }
         ensures schema { I.schema self.new.index ≡ I.schema self.old.index }
     {
         let m = self.len();
@@ -183,7 +184,8 @@ impl<I: Index> Subscriptions<I> {
     /// What a search for the event costs.
     pub fn cost(&self, event: &Event) -> Short
         requires { event_lies (I.schema self.now.index) event.now ≡ true }
-        ensures { Replies (I.schema self.now.index) self.now.list (asked.costing event.now) (plain_reply result) self.now.list }
+        ensures reply { Replies (I.schema self.now.index) self.now.list (asked.costing event.now) (plain_reply result) self.now.list }
+        ensures exact { result ≡ Short.Costs (length self.now.list) (I.cost_of self.now.index event.now) }
     {
         Short::Costs {
             n: self.len(),
