@@ -11,26 +11,6 @@ use std::thread::Threads;
 const PIECES: [usize; 4] = [1, 7, 18, 65536];
 
 // Scripts with their transcripts.
-// What a search for an event costs: the nodes that it visits and the rows that it tests, over trees that were walked by hand.
-const COSTS: &[(&str, &str)] = &[
-    (
-        "SUB p1 price = 5\nSUB p2 price = 5\nSUB p3 price = 5\nSUB p4 price = 5\nSUB p5 price = 5\nSUB p6 price = 5\nSUB p7 price = 5\nSUB p8 price = 5\nSUB p9 price = 5\nSUB p10 price = 5\nSUB p11 price = 5\nSUB p12 price = 5\nSUB p13 price = 5\nSUB p14 price = 5\nSUB p15 price = 5\nSUB p16 price = 5\nSUB p17 price = 5\nCOST price=5\nCOST price=6\nCOST -\n",
-        "OK 1\nOK 2\nOK 3\nOK 4\nOK 5\nOK 6\nOK 7\nOK 8\nOK 9\nOK 10\nOK 11\nOK 12\nOK 13\nOK 14\nOK 15\nOK 16\nOK 17\nCOST 17 12 17\nCOST 17 10 0\nCOST 17 1 0\n",
-    ),
-    (
-        "SUB b1 side = buy\nSUB b2 side = buy\nSUB b3 side = buy\nSUB b4 side = buy\nSUB b5 side = buy\nSUB b6 side = buy\nSUB b7 side = buy\nSUB b8 side = buy\nSUB b9 side = buy\nSUB b10 side = buy\nSUB b11 side = buy\nSUB b12 side = buy\nSUB b13 side = buy\nSUB b14 side = buy\nSUB b15 side = buy\nSUB b16 side = buy\nSUB b17 side = buy\nSUB b18 side = buy\nSUB b19 side = buy\nSUB b20 side = buy\nSUB q1 qty = 0\nSUB q2 qty = 0\nSUB q3 qty = 0\nSUB q4 qty = 0\nSUB q5 qty = 0\nSUB q6 qty = 0\nSUB q7 qty = 0\nSUB q8 qty = 0\nSUB q9 qty = 0\nSUB q10 qty = 0\nSUB q11 qty = 0\nSUB q12 qty = 0\nSUB q13 qty = 0\nSUB q14 qty = 0\nSUB q15 qty = 0\nSUB q16 qty = 0\nSUB q17 qty = 0\nSUB q18 qty = 0\nSUB q19 qty = 0\nSUB q20 qty = 0\nCOST side=buy\nCOST side=buy qty=0\n",
-        "OK 1\nOK 2\nOK 3\nOK 4\nOK 5\nOK 6\nOK 7\nOK 8\nOK 9\nOK 10\nOK 11\nOK 12\nOK 13\nOK 14\nOK 15\nOK 16\nOK 17\nOK 18\nOK 19\nOK 20\nOK 21\nOK 22\nOK 23\nOK 24\nOK 25\nOK 26\nOK 27\nOK 28\nOK 29\nOK 30\nOK 31\nOK 32\nOK 33\nOK 34\nOK 35\nOK 36\nOK 37\nOK 38\nOK 39\nOK 40\nCOST 40 4 20\nCOST 40 8 40\n",
-    ),
-    (
-        "SUB i1 one = 7\nSUB i2 one = 7\nSUB i3 one = 7\nSUB i4 one = 7\nSUB i5 one = 7\nSUB i6 one = 7\nSUB i7 one = 7\nSUB i8 one = 7\nSUB i9 one = 7\nSUB i10 one = 7\nSUB i11 one = 7\nSUB i12 one = 7\nSUB i13 one = 7\nSUB i14 one = 7\nSUB i15 one = 7\nSUB i16 one = 7\nSUB i17 one = 7\nSUB i18 one = 7\nSUB i19 one = 7\nSUB i20 one = 7\nCOST one=7\n",
-        "OK 1\nOK 2\nOK 3\nOK 4\nOK 5\nOK 6\nOK 7\nOK 8\nOK 9\nOK 10\nOK 11\nOK 12\nOK 13\nOK 14\nOK 15\nOK 16\nOK 17\nOK 18\nOK 19\nOK 20\nCOST 20 2 20\n",
-    ),
-    (
-        "COST -\nSUB a price < 5\nCOST price=1\nCOST volume=1\nCOST price=1 price=2\nCOST price=1001\nUNSUB a\nCOST price={1, 2}\n",
-        "COST 0 1 0\nOK 1\nCOST 1 1 1\nATTR volume\nTWICE price\nDOM price\nOK 2\nCOST 2 1 0\n",
-    ),
-];
-
 pub(crate) const SESSIONS: &[(&str, &str)] = &[
     ("", ""),
     (
@@ -284,7 +264,7 @@ const HOSTILE: &[&str] = &[
 const HOSTILE_BYTES: &[&[u8]] = &[b"SUB b price >= 5\xff", b"SUB b pric\xe9 >= 5", b"\xff\xfe"];
 
 // Whether a session has this transcript; after a QUIT the rest stays unread.
-fn is_session<R: Threads + Wait + Sync>(
+pub(crate) fn is_session<R: Threads + Wait + Sync>(
     rt: &R,
     alloc: Global,
     script: &str,
@@ -311,14 +291,6 @@ fn sessions_read_to_the_end(rt: HostRuntime) {
             let is_session = is_session(&rt, alloc, script, want, piece);
             assert!(rt; is_session, "in pieces of {piece}: {script}");
         }
-    }
-}
-
-#[test]
-fn costs_of_searches(rt: HostRuntime) {
-    let alloc = rt.alloc();
-    for (script, want) in COSTS {
-        assert!(rt; is_session(&rt, alloc, script, want, 7), "{script}");
     }
 }
 
