@@ -2,9 +2,15 @@
 #![tactic(auto)]
 
 #[cfg(test)]
+mod beside;
+#[cfg(test)]
+mod by_ways;
+#[cfg(test)]
 mod grown;
 #[cfg(test)]
 mod looks;
+#[cfg(test)]
+mod moves;
 #[cfg(test)]
 mod plain_walk;
 #[cfg(test)]
