@@ -1,4 +1,3 @@
 pub mod Fits
 pub mod Finds
 pub mod Shifts
-pub mod Kinds

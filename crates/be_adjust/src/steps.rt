@@ -5,7 +5,7 @@ ghost use Rattle.std.specs.Arc.{arc_value};
 ghost use Rattle.be_model.specs.declared.paths.StepDone.TheVariants.{Done, NotHere, Skipped};
 ghost use Rattle.be_shape.specs.Plain.{plain, contents};
 ghost use Rattle.be_shape.specs.Steps.{stands, IsMade};
-ghost use Rattle.be_adjust.specs.Kinds.{is_split, is_merge};
+ghost use Rattle.be_model.specs.Kinds.{is_split, is_merge};
 
 use crate::merges::merge;
 use crate::shifts::shift;

@@ -9,3 +9,4 @@ pub mod FirstTokens
 pub mod Scans
 pub mod Readers
 pub mod Sets
+pub mod Counts

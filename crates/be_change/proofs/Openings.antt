@@ -25,7 +25,7 @@ pub length-subs_of : (k n : ℕ) (rows : List Row) → length (subs_of k n rows)
 length-subs_of k n [] = refl
 length-subs_of k n (row ∷ rows) = ap (λ (m : ℕ). suc m) (length-subs_of k (n + 1) rows)
 
-subs_of-snoc : (k n : ℕ) (rows : List Row) (row : Row) → subs_of k n (rows ++ row ∷ []) ≡ subs_of k n rows ++ subscribed k (n + length rows) row ∷ []
+pub subs_of-snoc : (k n : ℕ) (rows : List Row) (row : Row) → subs_of k n (rows ++ row ∷ []) ≡ subs_of k n rows ++ subscribed k (n + length rows) row ∷ []
 subs_of-snoc k n [] row = ap (λ (m : ℕ). subscribed k m row ∷ []) (omega arith)
 subs_of-snoc k n (x ∷ xs) row =
     ap (λ (l : List Entry). subscribed k n x ∷ l) (subs_of-snoc k (n + 1) xs row ∙ ap (λ (m : ℕ). subs_of k (n + 1) xs ++ subscribed k m row ∷ []) (omega arith))

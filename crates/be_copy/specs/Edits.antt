@@ -8,7 +8,7 @@ use Rattle.be_model.specs.Schemas.{Attributes}
 use Rattle.be_model.specs.Lies.{row_lies}
 use Rattle.be_change.specs.History.{Entry, subscribed, unsubscribed, left}
 use Rattle.be_change.specs.Entries.{entry_of}
-use Rattle.be_index.specs.Promise.{is_merge}
+use Rattle.be_model.specs.Kinds.{is_merge}
 use Rattle.be_copy.specs.declared.edits.Edit.{Edit}
 use Rattle.be_copy.specs.declared.edits.Edit.TheVariants.{Change, Reshape}
 

@@ -9,7 +9,8 @@ ghost use Rattle.be_model.specs.ByIds.{put_by_id, without_id, has_id, row_at, ro
 ghost use Rattle.be_model.specs.Lies.{row_lies, event_lies};
 ghost use Rattle.be_model.specs.Matching.{FindsSome};
 ghost use Rattle.be_model.specs.Rows.{id_of, KeepsRoom};
-ghost use Rattle.be_index.specs.Promise.{IsMap, is_merge};
+ghost use Rattle.be_model.specs.Kinds.{is_merge};
+ghost use Rattle.be_index.specs.Promise.{IsMap};
 
 use be_base::{NoMemory, SessionNo};
 use be_model::{Cost, Event, Found, Row, Step, StepDone};

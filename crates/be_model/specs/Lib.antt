@@ -14,3 +14,4 @@ pub mod ByIds
 pub mod Bounds
 pub mod SetTexts
 pub mod Letters
+pub mod Kinds

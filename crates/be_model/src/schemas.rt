@@ -167,7 +167,8 @@ impl Schema {
         !self.is_full() && !self.has(name) && !is_reserved(name) && domain.is_valid()
     }
 
-    pub(crate) fn attribute(&self, a: AttrNo) -> &Attribute
+    /// The attribute of this number.
+    pub fn attribute(&self, a: AttrNo) -> &Attribute
         requires { a.0 < length self.now }
         ensures there { attribute_at self.now a ≡ Some result.now }
         ensures valid { is_domain result.now.domain ≡ true }
