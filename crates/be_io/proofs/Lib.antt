@@ -1,4 +1,5 @@
 pub mod ToldLemmas
+pub mod WroteLemmas
 pub mod LfLemmas
 pub mod FillLemmas
 pub mod BufferLemmas

@@ -2,6 +2,7 @@ pub mod Counts
 pub mod Told
 pub mod Source
 pub mod Sink
+pub mod Kept
 pub mod Outside
 pub mod Calls
 pub mod Memory

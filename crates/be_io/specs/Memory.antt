@@ -4,6 +4,8 @@ use Rattle.be_io.specs.Counts.{raised}
 use Rattle.be_io.specs.Calls.{CallState, no_calls, after_call, after_fault}
 
 pub record MemSourceState : Type 0 where
+  -- all bytes that it gives from first to last
+  pub whole : List ℕ
   -- the bytes that it has left
   pub left : List ℕ
   -- how many bytes it gives at most in one call

@@ -6,7 +6,12 @@ use Rattle.be_io.specs.declared.sink.Sink.{Ghosts as Sink}
 
 abbrev pub source_state : {S : Type 0} → Source S → S → SourceState
 source_state of source =
-    record { left = of.left source; faults = of.read_faults source; taken = of.taken source }
+    record {
+      left = of.left source;
+      faults = of.read_faults source;
+      taken = of.taken source;
+      whole = (of.kept_by_read source).whole;
+    }
 
 abbrev pub sink_state : {K : Type 0} → Sink K → K → SinkState
 sink_state of sink =

@@ -8,7 +8,9 @@ pub record SourceState : Type 0 where
   pub faults : ℕ
   -- how many bytes it has given
   pub taken : ℕ
+  -- all bytes that it gives from first to last, where it tells them
+  pub whole : Option (List ℕ)
 
 -- what stands beside a sink that is no link
 abbrev pub no_source : SourceState
-no_source = record { left = None; faults = 0; taken = 0 }
+no_source = record { left = None; faults = 0; taken = 0; whole = None }

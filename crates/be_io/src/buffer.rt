@@ -76,7 +76,7 @@ impl Buffer {
         ensures most { IfOk result (λ k. k ≤ most) }
         ensures taken { IfOk result (λ k. S.taken src.new ≡ raised k (S.taken src.old)) }
         ensures sound { OnOk result (S.read_faults src.new ≡ S.read_faults src.old) }
-        ensures beside { S.sink_beside src.new ≡ S.sink_beside src.old }
+        ensures beside { S.kept_by_read src.new ≡ S.kept_by_read src.old }
 
         // A failed read gave nothing.
         ensures unread { OnErr result (self.new.unread ≡ self.old.unread) }

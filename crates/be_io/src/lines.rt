@@ -113,7 +113,7 @@ impl LineReader {
         ensures unbroken { self.old.stopped ≡ None → OnErr result (has_lf self.old.unread ≡ false) }
 
         ensures taken { RisesBy (self.new.taken - self.old.taken) (S.taken src.old) (S.taken src.new) }
-        ensures beside { S.sink_beside src.new ≡ S.sink_beside src.old }
+        ensures beside { S.kept_by_read src.new ≡ S.kept_by_read src.old }
         ensures grows { self.old.taken ≤ self.new.taken }
         ensures bound { self.new.taken ≤ SOURCE_BYTES }
         ensures buffered { length self.new.unread ≤ self.new.limit + READ_BYTES }
@@ -150,7 +150,7 @@ impl LineReader {
         ensures spent_at { self.old.taken ≡ SOURCE_BYTES → has_lf self.old.unread ≡ false → result ≡ Err LineFault.Spent }
         ensures unbroken { OnErr result (has_lf self.old.unread ≡ false) }
         ensures taken { RisesBy (self.new.taken - self.old.taken) (S.taken src.old) (S.taken src.new) }
-        ensures beside { S.sink_beside src.new ≡ S.sink_beside src.old }
+        ensures beside { S.kept_by_read src.new ≡ S.kept_by_read src.old }
         ensures grows { self.old.taken ≤ self.new.taken }
         ensures bound { self.new.taken ≤ SOURCE_BYTES }
         ensures buffered { length self.new.unread ≤ self.new.limit + READ_BYTES }
@@ -278,7 +278,7 @@ impl LineReader {
         ensures takes { IfOk result (Takes self.old.unread self.new.unread (S.left src.old) (S.left src.new)) }
         ensures sound { OnOk result (S.read_faults src.new ≡ S.read_faults src.old) }
         ensures taken { IfOk result (λ k. S.taken src.new ≡ raised k (S.taken src.old)) }
-        ensures beside { S.sink_beside src.new ≡ S.sink_beside src.old }
+        ensures beside { S.kept_by_read src.new ≡ S.kept_by_read src.old }
         ensures bound { IfOk result (λ k. self.old.taken + k ≤ SOURCE_BYTES) }
         ensures broken { IfErr result (λ fault. (self.new ≡ record self.old { text = []; stopped = Some fault })
             × (S.left src.new ≡ S.left src.old) × (S.taken src.new ≡ S.taken src.old)) }

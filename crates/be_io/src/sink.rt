@@ -4,7 +4,7 @@ ghost use Rattle.std.specs.Prelude.{◌≡◌, ◌↔◌, ℕ, ◌<◌, ◌≤�
 ghost use Rattle.std.specs.List.Sorted.{IsStrictlyIncreasing};
 ghost use Rattle.be_io.specs.Counts.{HasRisen};
 ghost use Rattle.be_io.specs.Told.{HoldsMore};
-ghost use Rattle.be_io.specs.Source.{SourceState, no_source};
+ghost use Rattle.be_io.specs.Kept.{KeptByWrite, alone_in_writing};
 ghost use Rattle.be_io.specs.Calls.{is_to_fail};
 ghost use Rattle.be_io.specs.Memory.{MemSinkState, empty_sink, after_write, after_failed_write, after_refused_write};
 
@@ -24,8 +24,8 @@ pub trait Sink {
     // how many of its calls were refused for want of memory
     ghost refusals: { Self → ℕ };
 
-    // the source that is one object with it, where it is a link: no write changes it
-    ghost source_beside: { Self → SourceState } = { λ _. no_source };
+    // what no write changes: what stands behind it, and the source that is one object with it
+    ghost kept_by_write: { Self → KeptByWrite } = { λ _. alone_in_writing };
 
     /// Takes the first of these bytes, one at least, and says how many.
     fn write(&mut self, bytes: &[u8]) -> Result<usize, SinkFault>
@@ -42,7 +42,7 @@ pub trait Sink {
             × (refusals self.new ≡ refusals self.old) }
         ensures no_memory { result ≡ Err SinkFault.NoMemory → HasRisen (refusals self.old) (refusals self.new)
             × (write_faults self.new ≡ write_faults self.old) }
-        ensures beside { source_beside self.new ≡ source_beside self.old };
+        ensures beside { kept_by_write self.new ≡ kept_by_write self.old };
 }
 
 /// A sink in memory, which takes each piece whole.

@@ -4,7 +4,7 @@ ghost use Rattle.std.specs.Prelude.{◌≡◌, ◌↔◌, ℕ, ◌<◌, ◌++◌
 ghost use Rattle.std.specs.List.Sorted.{IsStrictlyIncreasing};
 ghost use Rattle.be_io.specs.Counts.{raised, HasRisen};
 ghost use Rattle.be_io.specs.Told.{GivesBytes};
-ghost use Rattle.be_io.specs.Sink.{SinkState, no_sink};
+ghost use Rattle.be_io.specs.Kept.{KeptByRead, alone_in_reading};
 ghost use Rattle.be_io.specs.Calls.{no_calls, is_to_fail};
 ghost use Rattle.be_io.specs.Memory.{MemSourceState, next_count, after_read, after_failed_read};
 
@@ -23,8 +23,8 @@ pub trait Source {
     // how many of its calls failed
     ghost read_faults: { Self → ℕ };
 
-    // the sink that is one object with it, where it is a link: no read changes it
-    ghost sink_beside: { Self → SinkState } = { λ _. no_sink };
+    // what no read changes: all bytes that it gives, what stands behind it, and the sink that is one object with it
+    ghost kept_by_read: { Self → KeptByRead } = { λ _. alone_in_reading };
 
     /// Gives its next bytes into the front of the buffer, and says how many. It gives none only at its end.
     fn read(&mut self, buf: &mut [u8]) -> Result<usize, Failed>
@@ -32,7 +32,7 @@ pub trait Source {
         ensures bytes { IfOk result (λ k. GivesBytes (left self.old) (left self.new) buf.new k) }
         ensures taken { IfOk result (λ k. taken self.new ≡ raised k (taken self.old)) }
         ensures sound { OnOk result (read_faults self.new ≡ read_faults self.old) }
-        ensures beside { sink_beside self.new ≡ sink_beside self.old }
+        ensures beside { kept_by_read self.new ≡ kept_by_read self.old }
 
         // A call that failed gave nothing.
         ensures failed { OnErr result (HasRisen (read_faults self.old) (read_faults self.new)) }
@@ -56,7 +56,7 @@ impl Model for MemSource {
 
     ghost Value = { MemSourceState };
 
-    ghost view = { λ s. record { left = drop s.from s.bytes.items; piece = s.piece; taken = s.taken; calls = s.calls } };
+    ghost view = { λ s. record { whole = s.bytes.items; left = drop s.from s.bytes.items; piece = s.piece; taken = s.taken; calls = s.calls } };
 
     ghost invariant = { λ s. (s.from ≤ vec_len s.bytes) × (0 < s.piece) };
 }
@@ -67,7 +67,7 @@ impl MemSource {
     pub fn make(bytes: Vec<u8>, piece: usize, fails: Vec<u64>) -> MemSource
         requires some { 0 < piece }
         requires rise { IsStrictlyIncreasing fails.items }
-        ensures { result ≡ record { left = bytes.items; piece = piece; taken = 0; calls = no_calls fails.items } }
+        ensures { result ≡ record { whole = bytes.items; left = bytes.items; piece = piece; taken = 0; calls = no_calls fails.items } }
     {
         MemSource {
             bytes,
@@ -85,6 +85,8 @@ impl Source for MemSource {
     ghost taken = { λ s. s.taken };
 
     ghost read_faults = { λ s. s.calls.faults };
+
+    ghost kept_by_read = { λ s. record alone_in_reading { whole = Some s.whole } };
 
     fn read(&mut self, buf: &mut [u8]) -> Result<usize, Failed>
         requires { 0 < length buf.old }

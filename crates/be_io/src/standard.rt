@@ -6,14 +6,11 @@ use crate::faults::{Failed, ShelfFault, SinkFault};
 use crate::shelf::Shelf;
 use crate::sink::Sink;
 use crate::source::Source;
-use be_base::FILE_BYTES;
+use be_base::{FILE_BYTES, READ_BYTES};
 use std::alloc::Global;
 use std::fs;
 use std::io::Read;
 use std::rt::Files;
-
-/// The most bytes of one read of a file.
-const CHUNK_BYTES: usize = 65536;
 
 /// The standard input. Each read is one read of the system, as large as the buffer.
 #[derive(Drop)]
@@ -141,9 +138,9 @@ fn read_within_limit<F: Read>(alloc: Global, file: &mut F) -> Result<Vec<u8>, Sh
     ensures { IfOk result (λ file. length file.items ≤ FILE_BYTES) }
 {
     let mut bytes = Vec::new(alloc);
-    let mut chunk = [0; CHUNK_BYTES];
+    let mut chunk = [0; READ_BYTES];
     while bytes.len() <= FILE_BYTES {
-        let room = CHUNK_BYTES.min(FILE_BYTES + 1 - bytes.len());
+        let room = READ_BYTES.min(FILE_BYTES + 1 - bytes.len());
         let count = file
             .read(&mut chunk[..room])
             .map_err(|_| ShelfFault::Failed)?;

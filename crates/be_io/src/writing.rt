@@ -10,7 +10,7 @@ use crate::sink::Sink;
 /// Writes all of these bytes, or hands on the sink's refusal.
 pub fn write_all<K: Sink>(sink: &mut K, bytes: &[u8]) -> Result<(), SinkFault>
     ensures wrote { Wrote (sink_state K.Sink sink.old) (sink_state K.Sink sink.new) bytes.now result }
-    ensures beside { K.source_beside sink.new ≡ K.source_beside sink.old }
+    ensures beside { K.kept_by_write sink.new ≡ K.kept_by_write sink.old }
 {
     let mut from = 0;
     while from < bytes.len() {

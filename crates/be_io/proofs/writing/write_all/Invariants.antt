@@ -8,7 +8,7 @@ invariant-loop-from g l = record {
   held : HoldsMore (g.K.Sink.held l.fn.sink) (g.K.Sink.held l.sink) (take l.from l.bytes);
   faults : g.K.Sink.write_faults l.sink ≡ g.K.Sink.write_faults l.fn.sink;
   refusals : g.K.Sink.refusals l.sink ≡ g.K.Sink.refusals l.fn.sink;
-  beside : g.K.Sink.source_beside l.sink ≡ g.K.Sink.source_beside l.fn.sink;
+  beside : g.K.Sink.kept_by_write l.sink ≡ g.K.Sink.kept_by_write l.fn.sink;
 }
 
 abbrev pub decreases-loop-from : goal.decreases-loop-from

@@ -10,7 +10,7 @@ invariant-loop-len g l = record {
   bound : l.self.taken ≤ SOURCE_BYTES;
   faults : g.S.Source.read_faults l.src ≡ g.S.Source.read_faults l.fn.src;
   taken : RisesBy (l.self.taken - l.fn.self.taken) (g.S.Source.taken l.fn.src) (g.S.Source.taken l.src);
-  beside : g.S.Source.sink_beside l.src ≡ g.S.Source.sink_beside l.fn.src;
+  beside : g.S.Source.kept_by_read l.src ≡ g.S.Source.kept_by_read l.fn.src;
 }
 
 abbrev pub decreases-loop-len : goal.decreases-loop-len
