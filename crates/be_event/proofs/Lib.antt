@@ -1,3 +1,4 @@
+pub mod SentItems
 pub mod Grammar
 pub mod RoundTrip
 pub mod SchemaForms

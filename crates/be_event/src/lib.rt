@@ -10,10 +10,12 @@ mod found;
 mod items;
 mod laws;
 mod schema_texts;
+mod sending;
 mod words;
 mod writing;
 
 pub use events::{EventFault, read_event};
 pub use laws::{reads_are_written, texts_are_read};
 pub use schema_texts::{SchemaFault, SchemaKind, read_schema};
+pub use sending::send_event;
 pub use writing::write_event;

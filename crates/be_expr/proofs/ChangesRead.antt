@@ -12,6 +12,7 @@ use Rattle.be_model.specs.declared.changes.Row.{Row}
 use Rattle.be_model.specs.Entries.{subscribed, unsubscribed, left}
 use Rattle.be_model.specs.Schemas.{Attributes}
 use Rattle.be_expr.specs.Expressions.{condition, expression}
+use Rattle.be_expr.specs.Named.{naming}
 use Rattle.be_expr.specs.Writing.{expr_text}
 use Rattle.be_expr.specs.Changes.{head_text, change_text, change_by, change_of, change, subscribing, unsubscribing, IsReadBack, ChangesAreRead}
 use Rattle.be_expr.proofs.CanonicalMeaning.{texts_are_read}
@@ -87,8 +88,8 @@ sub_by_tokens : (s : Attributes) (k n : ℕ) (row : Row) (o : Option (List Lexem
 sub_by_tokens s k n row None named e hk hn own = absurd (cc)
 sub_by_tokens s k n row (Some ts) named e hk hn own =
     counts_read s row.id.0 (codes "SUB") k n (word row.name ∷ ts) hk hn
-    ∙ ap (λ r. subscribing row.id.0 k n r (condition s (Some ts))) (name_of-Ok row.name named)
-    ∙ ap (subscribing row.id.0 k n (Ok row.name)) e
+    ∙ ap (λ r. subscribing row.id.0 k n (naming r (condition s (Some ts)))) (name_of-Ok row.name named)
+    ∙ ap (λ r. subscribing row.id.0 k n (naming (Ok row.name) r)) e
     ∙ ap (λ session. Ok (subscribed k n (record { id = row.id; session = record { 0 = session }; name = row.name; conj = row.conj }))) (sym own)
 
 sub_joined : (s : Attributes) (k n : ℕ) (row : Row) → change_text s (subscribed k n row) ≡ (head_text (codes "SUB") k n ++ codes " ") ++ (row.name ++ 32 ∷ expr_text s row.conj)

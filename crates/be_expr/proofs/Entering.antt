@@ -1,18 +1,16 @@
 -- A change, by the parts of its text.
-use Rattle.std.proofs.Common.{◌≡◌, ℕ, Bool, true, false, List, [], ◌∷◌, Option, Some, None, option_map, option_and_then, Result, Ok, Err, codes, refl, sym, ◌∙◌, ap, if◌then◌else◌}
+use Rattle.std.proofs.Common.{◌≡◌, ℕ, Bool, true, false, List, [], ◌∷◌, Option, Some, None, option_map, option_and_then, Result, Err, codes, refl, sym, ◌∙◌, ap, if◌then◌else◌}
 use Rattle.std.specs.Option.{option_map_or}
-use Rattle.be_base.specs.Text.{Text, name_of, same_text}
+use Rattle.be_base.specs.Text.{Text, same_text}
 use Rattle.be_base.specs.Numbers.{count_of}
 use Rattle.be_base.specs.Tokens.{Lexeme, word}
-use Rattle.be_base.specs.Readers.{Read, read_word}
-use Rattle.be_base.specs.declared.names.NameFault.{NameFault}
+use Rattle.be_base.specs.Readers.{Read}
 use Rattle.be_model.specs.Schemas.{Attributes}
 use Rattle.be_model.specs.Entries.{Entry}
 use Rattle.be_expr.specs.declared.faults.ExprFault.{ExprFault}
 use Rattle.be_expr.specs.declared.faults.ExprFault.TheVariants.{Bad}
-use Rattle.be_expr.specs.Expressions.{condition}
 use Rattle.be_expr.specs.Parts.{PlainFront, front_of, read_number, read_front}
-use Rattle.be_expr.specs.Changes.{subscribing, subscription, removal, leave, change_by, change_of, change_in}
+use Rattle.be_expr.specs.Changes.{subscription, removal, leave, change_by, change_of, change_in}
 
 abbrev front_then : Attributes → ℕ → PlainFront × List Lexeme → Result Entry ExprFault
 front_then s id r = change_in s id r.0 (Some r.1)
@@ -91,32 +89,3 @@ pub no_kind : (s : Attributes) (id : ℕ) (f : PlainFront) (o : Option (List Lex
     → change_in s id f o ≡ Err Bad
 no_kind s id f None a b e = refl
 no_kind s id f (Some ts) a b e = bye_if s id f ts false a b e
-
-abbrev named_sub : Attributes → ℕ → ℕ → ℕ → Text → Option (List Lexeme) → Result Entry ExprFault
-named_sub s id k n w ts = subscribing id k n (name_of w) (condition s ts)
-
-no_tokens : (id k n : ℕ) (name : Result Text NameFault) → subscribing id k n name (Err Bad) ≡ Err Bad
-no_tokens id k n (Ok name) = refl
-no_tokens id k n (Err fault) = refl
-
-abbrev word_then : Attributes → ℕ → ℕ → ℕ → Text × List Lexeme → Result Entry ExprFault
-word_then s id k n r = named_sub s id k n r.0 (Some r.1)
-
-sub_by_word : (s : Attributes) (id k n : ℕ) (ts : List Lexeme) → subscription s id k n ts ≡ option_map_or (word_then s id k n) (read_word ts) (Err Bad)
-sub_by_word s id k n (word w ∷ ts) = refl
-sub_by_word s id k n _ = refl
-
-sub_by_words : (s : Attributes) (id k n : ℕ) (o : Option (List Lexeme)) → option_map_or (subscription s id k n) o (Err Bad) ≡ option_map_or (word_then s id k n) (option_and_then read_word o) (Err Bad)
-sub_by_words s id k n None = refl
-sub_by_words s id k n (Some ts) = sub_by_word s id k n ts
-
-sub_behind : (s : Attributes) (id k n : ℕ) (w : Text) (rest : Option (List Lexeme)) → option_map_or (word_then s id k n) (option_map (λ ts. (w, ts)) rest) (Err Bad) ≡ named_sub s id k n w rest
-sub_behind s id k n w None = sym (no_tokens id k n (name_of w))
-sub_behind s id k n w (Some ts) = refl
-
--- a Sub that begins with this name
-pub name_first : (s : Attributes) (id k n : ℕ) (w name : Text) (o rest : Option (List Lexeme)) → option_map (λ ts. (w, ts)) rest ≡ option_and_then read_word o → Ok name ≡ name_of w
-    → option_map_or (subscription s id k n) o (Err Bad) ≡ subscribing id k n (Ok name) (condition s rest)
-name_first s id k n w name o rest h is =
-    sub_by_words s id k n o ∙ ap (λ (r : Read Text). option_map_or (word_then s id k n) r (Err Bad)) (sym h) ∙ sub_behind s id k n w rest
-    ∙ ap (λ (r : Result Text NameFault). subscribing id k n r (condition s rest)) (sym is)

@@ -10,3 +10,4 @@ pub mod Meanings
 pub mod Lying
 pub mod Known
 pub mod Entering
+pub mod NamedFirst

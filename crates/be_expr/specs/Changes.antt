@@ -15,8 +15,8 @@ use Rattle.be_model.specs.Lies.{entry_lies}
 use Rattle.be_model.specs.Texts.{NamesAreNames}
 use Rattle.be_model.specs.Schemas.{Attributes, IsSchema}
 use Rattle.be_expr.specs.declared.faults.ExprFault.{ExprFault}
-use Rattle.be_expr.specs.declared.faults.ExprFault.TheVariants.{Bad, NoMemory}
-use Rattle.be_expr.specs.Expressions.{condition}
+use Rattle.be_expr.specs.declared.faults.ExprFault.TheVariants.{Bad}
+use Rattle.be_expr.specs.Named.{named}
 use Rattle.be_expr.specs.Writing.{expr_text}
 
 -- the word of a change, its session and its serial
@@ -32,14 +32,12 @@ change_text s (left k n) = head_text (codes "BYE") k n
 abbrev pub new_row : ℕ → ℕ → Text → List Pred → Row
 new_row id k name conj = record { id = record { 0 = id }; session = record { 0 = k }; name = name; conj = conj }
 
-abbrev pub subscribing : ℕ → ℕ → ℕ → Result Text NameFault → Result (List Pred) ExprFault → Result Entry ExprFault
-subscribing id k n (Ok name) (Ok conj) = Ok (subscribed k n (new_row id k name conj))
-subscribing id k n (Ok name) (Err fault) = Err fault
-subscribing id k n (Err fault) read = Err Bad
+abbrev pub subscribing : ℕ → ℕ → ℕ → Result (Text × List Pred) ExprFault → Result Entry ExprFault
+subscribing id k n (Ok read) = Ok (subscribed k n (new_row id k read.0 read.1))
+subscribing id k n (Err fault) = Err fault
 
 abbrev pub subscription : Attributes → ℕ → ℕ → ℕ → List Lexeme → Result Entry ExprFault
-subscription s id k n (word name ∷ ts) = subscribing id k n (name_of name) (condition s (Some ts))
-subscription s id k n _ = Err Bad
+subscription s id k n ts = subscribing id k n (named s (Some ts))
 
 abbrev pub unsubscribing : ℕ → ℕ → Result Text NameFault → Result Entry ExprFault
 unsubscribing k n (Ok name) = Ok (unsubscribed k n name)
@@ -81,12 +79,6 @@ abbrev pub is_row_free : Entry → Bool
 is_row_free (subscribed k n row) = false
 is_row_free (unsubscribed k n name) = true
 is_row_free (left k n) = true
-
--- what a reader answered is what the text is. Memory can run out only where it is a change
-abbrev pub ReadsChange : Result Entry ExprFault → Result Entry ExprFault → Type 0
-ReadsChange (Ok e) read = read ≡ Ok e
-ReadsChange (Err NoMemory) read = (e : Entry) × (read ≡ Ok e)
-ReadsChange (Err fault) read = read ≡ Err fault
 
 -- the numbers are below 2^63, and a Sub's row has this id and is of the change's session
 abbrev pub IsNumbered : ℕ → Entry → Type 0

@@ -92,10 +92,10 @@ condition s ts = meaning s (option_and_then written ts)
 abbrev pub expression : Attributes → Text → Result (List Pred) ExprFault
 expression s text = condition s (tokens text)
 
--- what a reader answered is what the text is. Memory can run out only where it is a condition
-abbrev pub Reads : Result (List Pred) ExprFault → Result (List Pred) ExprFault → Type 0
-Reads (Ok conj) read = read ≡ Ok conj
-Reads (Err NoMemory) read = (conj : List Pred) × (read ≡ Ok conj)
+-- what a reader answered is what the text means. Memory can run out only where it has no fault
+abbrev pub Reads : {T : Type 0} → Result T ExprFault → Result T ExprFault → Type 0
+Reads (Ok meant) read = read ≡ Ok meant
+Reads {T} (Err NoMemory) read = (meant : T) × (read ≡ Ok meant)
 Reads (Err fault) read = read ≡ Err fault
 
 -- a fault that names an attribute by its number names one of the schema

@@ -2,6 +2,7 @@ pub mod Grammar
 pub mod Readings
 pub mod Parts
 pub mod Expressions
+pub mod Named
 pub mod Faults
 pub mod Build
 pub mod Writing

@@ -1,17 +1,17 @@
 //! Changes, read.
 
-ghost use Rattle.std.specs.Prelude.{◌≡◌, true, Ok, Err, IfOk};
+ghost use Rattle.std.specs.Prelude.{◌≡◌, true, Err, IfOk};
 ghost use Rattle.std.specs.Option.{option_map_or};
 ghost use Rattle.be_base.specs.Tokens.{tokens};
 ghost use Rattle.be_model.specs.Entries.{entry_of, subscribed};
-ghost use Rattle.be_model.specs.Lies.{conj_lies, entry_lies};
-ghost use Rattle.be_expr.specs.Expressions.{condition};
-ghost use Rattle.be_expr.specs.Changes.{change, change_in, new_row, subscribing, subscription, removal, leave, ReadsChange, entry_read, is_row_free};
+ghost use Rattle.be_model.specs.Lies.{entry_lies};
+ghost use Rattle.be_expr.specs.Expressions.{Reads};
+ghost use Rattle.be_expr.specs.Changes.{change, change_in, new_row, subscription, removal, leave, entry_read, is_row_free};
 ghost use Rattle.be_expr.specs.Parts.{plain_front};
 
 use crate::faults::ExprFault;
+use crate::named::read_named;
 use crate::parts::{Front, read_front};
-use crate::read::read_expr;
 use be_base::{Id, Name, NoMemory, SessionNo, is_end, read_word};
 use be_model::{Change, Conj, Row, Schema};
 use std::alloc::Global;
@@ -27,7 +27,7 @@ struct Stamp {
 
 /// Reads a whole text as a change. A Sub's row gets the id. Only a text without a fault takes memory.
 pub fn read_change(alloc: Global, schema: &Schema, text: &[u8], id: Id) -> Result<Change, ExprFault>
-    ensures exact { ReadsChange (entry_read result) (change schema.now id.0 text.now) }
+    ensures exact { Reads (entry_read result) (change schema.now id.0 text.now) }
     ensures lies { IfOk result (λ change. entry_lies schema.now (entry_of change) ≡ true) }
 {
     match read_front(text) {
@@ -43,7 +43,7 @@ fn read_kind(
     id: Id,
     front: Front<'_>,
 ) -> Result<Change, ExprFault>
-    ensures exact { ReadsChange (entry_read result) (change_in schema.now id.0 (plain_front front.entry) (tokens text.now)) }
+    ensures exact { Reads (entry_read result) (change_in schema.now id.0 (plain_front front.entry) (tokens text.now)) }
     ensures lies { IfOk result (λ change. entry_lies schema.now (entry_of change) ≡ true) }
 {
     let session = SessionNo(front.session);
@@ -66,7 +66,7 @@ fn read_sub(
     session: SessionNo,
     serial: u64,
 ) -> Result<Change, ExprFault>
-    ensures exact { ReadsChange (entry_read result) (option_map_or (subscription schema.now id.0 session.0 serial) (tokens text.now) (Err ExprFault.Bad)) }
+    ensures exact { Reads (entry_read result) (option_map_or (subscription schema.now id.0 session.0 serial) (tokens text.now) (Err ExprFault.Bad)) }
     ensures lies { IfOk result (λ change. entry_lies schema.now (entry_of change) ≡ true) }
 {
     let stamp = Stamp {
@@ -74,28 +74,10 @@ fn read_sub(
         session,
         serial,
     };
-    match read_word(text) {
-        Some((word, rest)) => match Name::read(word) {
-            Ok(name) => read_row(alloc, schema, rest, stamp, name),
-            Err(_) => Err(ExprFault::Bad),
-        },
-        None => Err(ExprFault::Bad),
+    match read_named(alloc, schema, text) {
+        Ok((name, conj)) => Ok(sub(alloc, stamp, name, conj)?),
+        Err(fault) => Err(fault),
     }
-}
-
-// The Sub of a name, whose condition the text is.
-fn read_row(
-    alloc: Global,
-    schema: &Schema,
-    text: &[u8],
-    stamp: Stamp,
-    name: Name,
-) -> Result<Change, ExprFault>
-    ensures exact { ReadsChange (entry_read result) (subscribing stamp.id.0 stamp.session.0 stamp.serial (Ok name) (condition schema.now (tokens text.now))) }
-    ensures lies { IfOk result (λ change. entry_lies schema.now (entry_of change) ≡ true) }
-{
-    let conj = read_expr(alloc, schema, text)?;
-    Ok(sub(alloc, stamp, name, conj)?)
 }
 
 fn sub(alloc: Global, stamp: Stamp, name: Name, conj: Conj) -> Result<Change, NoMemory>
@@ -123,7 +105,7 @@ fn sub(alloc: Global, stamp: Stamp, name: Name, conj: Conj) -> Result<Change, No
 }
 
 fn read_unsub(text: &[u8], session: SessionNo, serial: u64) -> Result<Change, ExprFault>
-    ensures exact { ReadsChange (entry_read result) (option_map_or (removal session.0 serial) (tokens text.now) (Err ExprFault.Bad)) }
+    ensures exact { Reads (entry_read result) (option_map_or (removal session.0 serial) (tokens text.now) (Err ExprFault.Bad)) }
     ensures lies { IfOk result (λ change. is_row_free (entry_of change) ≡ true) }
 {
     match read_word(text) {
@@ -140,7 +122,7 @@ fn read_unsub(text: &[u8], session: SessionNo, serial: u64) -> Result<Change, Ex
 }
 
 fn read_bye(text: &[u8], session: SessionNo, serial: u64) -> Result<Change, ExprFault>
-    ensures exact { ReadsChange (entry_read result) (option_map_or (leave session.0 serial) (tokens text.now) (Err ExprFault.Bad)) }
+    ensures exact { Reads (entry_read result) (option_map_or (leave session.0 serial) (tokens text.now) (Err ExprFault.Bad)) }
     ensures lies { IfOk result (λ change. is_row_free (entry_of change) ≡ true) }
 {
     if is_end(text) {

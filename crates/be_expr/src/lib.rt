@@ -9,6 +9,7 @@ mod build;
 mod changes;
 mod faults;
 pub mod laws;
+mod named;
 mod parts;
 mod read;
 mod scan;
@@ -16,5 +17,6 @@ mod writing;
 
 pub use changes::read_change;
 pub use faults::ExprFault;
+pub use named::read_named;
 pub use read::read_expr;
-pub use writing::{write_change, write_expr};
+pub use writing::{append_change, append_expr, write_change, write_expr};

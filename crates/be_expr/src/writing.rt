@@ -24,11 +24,12 @@ pub fn write_expr(alloc: Global, schema: &Schema, c: &Conj) -> Result<Vec<u8>, N
     ensures read { IfOk result (λ text. expression schema.now text.items ≡ Ok c.now) }
 {
     let mut text = Vec::new(alloc);
-    put_expr(schema, c, &mut text)?;
+    append_expr(schema, c, &mut text)?;
     Ok(text)
 }
 
-fn put_expr(schema: &Schema, c: &Conj, text: &mut Vec<u8>) -> Result<(), NoMemory>
+/// Puts the canonical text of a condition last. After a refusal part of it may stand there.
+pub fn append_expr(schema: &Schema, c: &Conj, text: &mut Vec<u8>) -> Result<(), NoMemory>
     requires { conj_lies schema.now c.now ≡ true }
     ensures written { OnOk result (text.new.items ≡ text.old.items ++ expr_text schema.now c.now) }
     ensures read { OnOk result (expression schema.now (expr_text schema.now c.now) ≡ Ok c.now) }
@@ -100,11 +101,12 @@ pub fn write_change(alloc: Global, schema: &Schema, c: &Change) -> Result<Vec<u8
     ensures read { IfOk result (λ text. IsReadBack schema.now text.items (entry_of c.now)) }
 {
     let mut text = Vec::new(alloc);
-    put_change(schema, c, &mut text)?;
+    append_change(schema, c, &mut text)?;
     Ok(text)
 }
 
-fn put_change(schema: &Schema, c: &Change, text: &mut Vec<u8>) -> Result<(), NoMemory>
+/// Puts the text of a change last. After a refusal part of it may stand there.
+pub fn append_change(schema: &Schema, c: &Change, text: &mut Vec<u8>) -> Result<(), NoMemory>
     requires { entry_lies schema.now (entry_of c.now) ≡ true }
     ensures written { OnOk result (text.new.items ≡ text.old.items ++ change_text schema.now (entry_of c.now)) }
     ensures read { OnOk result (IsReadBack schema.now (change_text schema.now (entry_of c.now)) (entry_of c.now)) }
@@ -141,7 +143,7 @@ fn put_sub(
     put_head(b"SUB", session, serial, text)?;
     put_part(row.name.bytes(), text)?;
     text.extend_from_slice(b" ")?;
-    put_expr(schema, &row.conj, text)
+    append_expr(schema, &row.conj, text)
 }
 
 // Puts the word of a change and its numbers last.

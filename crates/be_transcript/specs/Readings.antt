@@ -13,7 +13,7 @@ use Rattle.be_model.specs.Texts.{name_at}
 use Rattle.be_change.specs.Requests.{Refusal, bad, long, unknown_attribute, outside_domain, given_twice, too_many, Request, refused, subscribe, unsubscribe, publish, costing, listing, sending, fetching, dumping, tailing, quit}
 use Rattle.be_expr.specs.declared.faults.ExprFault.{ExprFault}
 use Rattle.be_expr.specs.declared.faults.ExprFault.TheVariants as expr
-use Rattle.be_expr.specs.Expressions.{condition}
+use Rattle.be_expr.specs.Named.{named}
 use Rattle.be_event.specs.declared.events.EventFault.{EventFault}
 use Rattle.be_event.specs.declared.events.EventFault.TheVariants as event
 use Rattle.be_event.specs.Events.{event_of}
@@ -35,15 +35,13 @@ event_refusal s (event.Twice a) = given_twice (name_at s a)
 event_refusal s (event.Many count) = too_many count
 event_refusal s event.NoMemory = bad
 
-abbrev pub subscribing : Attributes → Result Text NameFault → Result (List Pred) ExprFault → Request
-subscribing s (Ok name) (Ok conj) = subscribe name conj
-subscribing s (Ok name) (Err fault) = refused (expr_refusal s fault)
-subscribing s (Err fault) read = refused bad
+abbrev pub subscribing : Attributes → Result (Text × List Pred) ExprFault → Request
+subscribing s (Ok read) = subscribe read.0 read.1
+subscribing s (Err fault) = refused (expr_refusal s fault)
 
 -- a name and a condition
 abbrev pub subscription : Attributes → Option (List Lexeme) → Request
-subscription s (Some (word name ∷ ts)) = subscribing s (name_of name) (condition s (Some ts))
-subscription s _ = refused bad
+subscription s ts = subscribing s (named s ts)
 
 abbrev pub unsubscribing : Result Text NameFault → Request
 unsubscribing (Ok name) = unsubscribe name

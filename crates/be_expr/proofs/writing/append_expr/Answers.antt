@@ -3,7 +3,7 @@ use Rattle.std.proofs.lemmas.Result.{on_ok_weaker}
 use Rattle.std.proofs.lemmas.List.Elements.{All-same}
 use Rattle.be_expr.specs.Writing.{IsSpelled}
 use Rattle.be_expr.proofs.CanonicalMeaning.{spelled_is_read}
-use Rattle.be_expr.proofs.writing.put_expr.Goals as goal
+use Rattle.be_expr.proofs.writing.append_expr.Goals as goal
 
 pub returns-clause-read : goal.returns-clause-read
 returns-clause-read c =

@@ -3,7 +3,7 @@ use Rattle.std.proofs.lemmas.Result.{on_ok_weaker}
 use Rattle.be_model.specs.Entries.{entry_of}
 use Rattle.be_expr.specs.Changes.{change_text, IsReadBack}
 use Rattle.be_expr.proofs.ChangesRead.{unsub_is_read, bye_is_read}
-use Rattle.be_expr.proofs.writing.put_change.Goals as goal
+use Rattle.be_expr.proofs.writing.append_change.Goals as goal
 
 pub returns-in_ok-put_head-in-Unsub-clause-read : goal.returns-in_ok-put_head-in-Unsub-clause-read
 returns-in_ok-put_head-in-Unsub-clause-read c =
