@@ -14,6 +14,7 @@ use Rattle.be_base.specs.declared.limits.TheConstants.{BOX_LETTERS}
 use Rattle.be_model.specs.Schemas.{Attributes}
 use Rattle.be_model.specs.Letters.{PlainLetter}
 use Rattle.be_mail.specs.Letters.{Posting, posting, IsFor, letters_from, seat_of}
+use Rattle.be_mail.specs.Mailbox.{Mailbox}
 use Rattle.be_mail.specs.Rule.{HandState, SeatPuts, hand, with_put, with_taken, Delivers, Sees}
 use Rattle.be_mail.specs.Boxes.{Box, name_of, AreBoxes}
 use Rattle.be_mail.specs.Passes.{BoxPass, first_put, put_of, put_into, taken_of, box_of, IsHandOf, AreHandsOf, passes_of, after_put, after_fetch, Held}
@@ -72,27 +73,28 @@ fetched_at seat ps p p' fulls empties x here box put taken =
     let t = ap (λ l. get_or l seat []) (map-set taken_of ps seat p') ∙ get_or-set_same (map taken_of ps) seat (taken_of p') [] less ∙ taken ∙ ap (λ l. l ++ x ∷ []) (sym (taken_here seat ps p here)) in
     λ i. record { boxes = b i; seat = seat; puts = q i; taken = t i; fulls = fulls; empties = empties }
 
-module _ (schema : Attributes) (seats : ℕ) where
+module _ (schema : Attributes) (seats : ℕ) (found : ℕ → Mailbox → Type 0) where
   pub may_put : (n pass seat w : ℕ) (p : BoxPass) (letter : PlainLetter) → IsHandOf seat w p → IsFor schema seats w (posting seat letter)
-      → Pushes (Delivers schema seats) n pass (view p) (posting seat letter) (λ v. v ≡ with_put (view p) (posting seat letter)) × Learns (Delivers schema seats) pass (view p) (Sees schema seats (view p))
+      → Pushes (Delivers schema seats found) n pass (view p) (posting seat letter) (λ v. v ≡ with_put (view p) (posting seat letter)) × Learns (Delivers schema seats found) pass (view p) (Sees schema seats found (view p))
   may_put n pass seat w p letter is fit =
-      subst (λ (v : HandState). Pushes (Delivers schema seats) n pass v (posting seat letter) (λ u. u ≡ with_put v (posting seat letter)) × Learns (Delivers schema seats) pass v (Sees schema seats v)) (sym is.shows)
-      (moves.puts schema seats n pass w (put_of p) (eqb w seat) (taken_of p) (posting seat letter) fit, moves.learns schema seats pass (hand w ((seat, put_of p) ∷ []) (eqb w seat) (taken_of p)) (seat, put_of p) [] refl)
+      subst (λ (v : HandState). Pushes (Delivers schema seats found) n pass v (posting seat letter) (λ u. u ≡ with_put v (posting seat letter)) × Learns (Delivers schema seats found) pass v (Sees schema seats found v)) (sym is.shows)
+      (moves.puts schema seats found n pass w (put_of p) (eqb w seat) (taken_of p) (posting seat letter) fit, moves.learns schema seats found pass (hand w ((seat, put_of p) ∷ []) (eqb w seat) (taken_of p)) (seat, put_of p) [] refl)
 
   pub may_fetch : (pass seat : ℕ) (p : BoxPass) → IsHandOf seat seat p
-      → Pops (Delivers schema seats) pass (view p) (λ x v. (v ≡ with_taken (view p) x) × IsFor schema seats (view p).at x) × Learns (Delivers schema seats) pass (view p) (Sees schema seats (view p))
+      → Pops (Delivers schema seats found) pass (view p) (λ x v. (v ≡ with_taken (view p) x) × IsFor schema seats (view p).at x) × Learns (Delivers schema seats found) pass (view p) (Sees schema seats found (view p))
   may_fetch pass seat p is =
-      let key : HandState → Type 0 = λ v. Pops (Delivers schema seats) pass v (λ x u. (u ≡ with_taken v x) × IsFor schema seats v.at x) × Learns (Delivers schema seats) pass v (Sees schema seats v) in
+      let key : HandState → Type 0 = λ v. Pops (Delivers schema seats found) pass v (λ x u. (u ≡ with_taken v x) × IsFor schema seats v.at x) × Learns (Delivers schema seats found) pass v (Sees schema seats found v) in
       subst key (sym is.shows)
       (subst (λ b. key (hand seat ((seat, put_of p) ∷ []) b (taken_of p))) (sym (eq-eqb seat seat refl))
-      (moves.fetches schema seats pass seat ((seat, put_of p) ∷ []) (taken_of p), moves.learns schema seats pass (hand seat ((seat, put_of p) ∷ []) true (taken_of p)) (seat, put_of p) [] refl))
+      (moves.fetches schema seats found pass seat ((seat, put_of p) ∷ []) (taken_of p), moves.learns schema seats found pass (hand seat ((seat, put_of p) ∷ []) true (taken_of p)) (seat, put_of p) [] refl))
 
   -- what a step showed of a mailbox
-  pub held : (seat : ℕ) (ps : List BoxPass) (w : ℕ) (p : BoxPass) (fulls empties n : ℕ) → get_elem? ps w ≡ some p → IsHandOf seat w p → fifo.Held n (Sees schema seats (view p)) → Held schema seats (passes_of seat ps fulls empties) w n
+  pub held : (seat : ℕ) (ps : List BoxPass) (w : ℕ) (p : BoxPass) (fulls empties n : ℕ) → get_elem? ps w ≡ some p → IsHandOf seat w p → fifo.Held n (Sees schema seats found (view p)) → Held schema seats found (passes_of seat ps fulls empties) w n
   held seat ps w p fulls empties n here is (items, count, sees) =
-      let t = subst (λ (v : HandState). Sees schema seats v items) is.shows sees in
+      let t = subst (λ (v : HandState). Sees schema seats found v items) is.shows sees in
       record {
         state = record { taken = t.taken; queued = items };
+        receipt = t.receipt;
         count = count;
         only = t.only;
         agrees = record {

@@ -11,6 +11,7 @@ use Rattle.crossbeam_queue.proofs.Lists.{at_set}
 use Rattle.be_model.specs.Schemas.{Attributes}
 use Rattle.be_model.specs.Letters.{PlainLetter}
 use Rattle.be_mail.specs.Letters.{Posting, IsFor, letters_from}
+use Rattle.be_mail.specs.Mailbox.{Mailbox, ForEachState}
 use Rattle.be_mail.specs.Rule.{SeatPuts, HandState, hand, idle, no_puts, first_hand, both, BoxState, Shows, Takes, Fits, Delivers, Sees}
 use Rattle.be_mail.proofs.Places.{at_end, All-both}
 use Rattle.be_mail.proofs.Senders.{letters_from-put, letters_from-other, nobody_put}
@@ -66,12 +67,13 @@ heir_of new gone j was e = ap (λ b. if b then new else was) (eq-eqb j gone e)
 heir_else : (new gone j was : ℕ) → j ≢ gone → heir new gone j was ≡ was
 heir_else new gone j was ne = ap (λ b. if b then new else was) (ne_eqb j gone ne)
 
-module _ (schema : Attributes) (seats : ℕ) where
-  pub begins : Delivers schema seats [] (first_hand seats ∷ [])
-  begins =
+module _ (schema : Attributes) (seats : ℕ) (found : ℕ → Mailbox → Type 0) where
+  pub begins : ForEachState found → Delivers schema seats found [] (first_hand seats ∷ [])
+  begins receipts =
       let s : BoxState = record { at = 0; owner = λ seat. 0; taker = 0; taken = [] } in (
         s,
         record {
+          receipts = receipts;
           only = All-nil (IsFor schema seats 0);
           fits = each_end (Fits seats s []) [] (first_hand seats) (λ j u e. absurd (some-ne-none u (sym e)))
               (record {
@@ -82,7 +84,7 @@ module _ (schema : Attributes) (seats : ℕ) where
       )
 
   pub puts : (n pass at : ℕ) (xs : List PlainLetter) (takes : Bool) (taken : List Posting) (x : Posting) → IsFor schema seats at x
-      → Pushes (Delivers schema seats) n pass (hand at ((x.from, xs) ∷ []) takes taken) x (λ w. w ≡ hand at ((x.from, xs ++ x.letter ∷ []) ∷ []) takes taken)
+      → Pushes (Delivers schema seats found) n pass (hand at ((x.from, xs) ∷ []) takes taken) x (λ w. w ≡ hand at ((x.from, xs ++ x.letter ∷ []) ∷ []) takes taken)
   puts n pass at xs takes taken x fit items views room h here =
       let s : BoxState = h.0 in
       let k = h.1 in
@@ -97,6 +99,7 @@ module _ (schema : Attributes) (seats : ℕ) where
         (
           s,
           record {
+            receipts = k.receipts;
             only = subst (All (IsFor schema seats s.at)) same (All-push (IsFor schema seats s.at) (s.taken ++ items) x k.only (subst (λ a. IsFor schema seats a x) own.place fit));
             fits = each_set F views pass w
                 (record {
@@ -117,7 +120,7 @@ module _ (schema : Attributes) (seats : ℕ) where
       )
 
   pub fetches : (pass at : ℕ) (es : List SeatPuts) (taken : List Posting)
-      → Pops (Delivers schema seats) pass (hand at es true taken) (λ x w. (w ≡ hand at es true (taken ++ x ∷ [])) × IsFor schema seats at x)
+      → Pops (Delivers schema seats found) pass (hand at es true taken) (λ x w. (w ≡ hand at es true (taken ++ x ∷ [])) × IsFor schema seats at x)
   fetches pass at es taken x items views h here =
       let s : BoxState = h.0 in
       let k = h.1 in
@@ -132,6 +135,7 @@ module _ (schema : Attributes) (seats : ℕ) where
         (
           s',
           record {
+            receipts = k.receipts;
             only = subst (All (IsFor schema seats s.at)) (sym same) k.only;
             fits = each_set (Fits seats s' items) views pass w
                 (record { puts = still pass at es mine.puts; takes = λ _. record { place = key.place; taker = key.taker; taken = ap (λ l. l ++ x ∷ []) key.taken } })
@@ -142,7 +146,7 @@ module _ (schema : Attributes) (seats : ℕ) where
       )
 
   -- what a pass shows holds of the whole mailbox
-  pub learns : (pass : ℕ) (v : HandState) (e : SeatPuts) (es : List SeatPuts) → v.puts ≡ e ∷ es → Learns (Delivers schema seats) pass v (Sees schema seats v)
+  pub learns : (pass : ℕ) (v : HandState) (e : SeatPuts) (es : List SeatPuts) → v.puts ≡ e ∷ es → Learns (Delivers schema seats found) pass v (Sees schema seats found v)
   learns pass v e es first items views h here =
       let s : BoxState = h.0 in
       let k = h.1 in
@@ -153,10 +157,11 @@ module _ (schema : Attributes) (seats : ℕ) where
         only = subst (λ a. All (IsFor schema seats a) (s.taken ++ items)) (sym own.place) k.only;
         puts = All-weaker (Shows seats s items pass v.at) (λ (y : SeatPuts). letters_from y.0 (s.taken ++ items) ≡ y.1) (λ y is. is.order) v.puts mine.puts;
         own = λ t. (mine.takes t).taken;
+        receipt = k.receipts v.at (record { taken = s.taken; queued = items });
       }
 
   -- while nothing was put, the mailbox may become that of the next seat
-  pub places : (pass at : ℕ) → Forks (Delivers schema seats) pass (hand at (no_puts 0 seats) true []) (hand (suc at) (no_puts 0 seats) true []) idle
+  pub places : (pass at : ℕ) → Forks (Delivers schema seats found) pass (hand at (no_puts 0 seats) true []) (hand (suc at) (no_puts 0 seats) true []) idle
   places pass at items views h here =
       let s : BoxState = h.0 in
       let k = h.1 in
@@ -170,6 +175,7 @@ module _ (schema : Attributes) (seats : ℕ) where
       let F = Fits seats s' items in (
         s',
         record {
+          receipts = k.receipts;
           only = subst (All (IsFor schema seats (suc at))) (sym nothing) (All-nil (IsFor schema seats (suc at)));
           fits = each_end F (set views pass w) idle
               (each_set F views pass w
@@ -187,7 +193,7 @@ module _ (schema : Attributes) (seats : ℕ) where
 
   -- the first seat of a pass gets a pass of its own, which takes where `key`
   pub hands_out : (pass at low : ℕ) (xs : List PlainLetter) (rest : List SeatPuts) (takes key : Bool) (taken : List Posting) → All (λ (e : SeatPuts). e.0 ≢ low) rest
-      → Forks (Delivers schema seats) pass (hand at ((low, xs) ∷ rest) takes taken) (hand at rest (takes && not key) taken) (hand at ((low, xs) ∷ []) (takes && key) taken)
+      → Forks (Delivers schema seats found) pass (hand at ((low, xs) ∷ rest) takes taken) (hand at rest (takes && not key) taken) (hand at ((low, xs) ∷ []) (takes && key) taken)
   hands_out pass at low xs rest takes key taken apart items views h here =
       let s : BoxState = h.0 in
       let k = h.1 in
@@ -203,6 +209,7 @@ module _ (schema : Attributes) (seats : ℕ) where
       record { seat = is.seat; place = is.place; owner = heir_else new low e.0 (s.owner e.0) ne ∙ is.owner; order = is.order } in (
         s',
         record {
+          receipts = k.receipts;
           only = k.only;
           fits = each_end F (set views pass l) r
               (each_set F views pass l
@@ -237,7 +244,7 @@ module _ (schema : Attributes) (seats : ℕ) where
       right_takes true false s new mine e = off e
       right_takes false key s new mine e = off e
 
-  pub merges : (pass : ℕ) (v : HandState) (other : ℕ) (u : HandState) → u.at ≡ v.at → Merges (Delivers schema seats) pass v other u (both v u) idle
+  pub merges : (pass : ℕ) (v : HandState) (other : ℕ) (u : HandState) → u.at ≡ v.at → Merges (Delivers schema seats found) pass v other u (both v u) idle
   merges pass v other u place items views h here apart there =
       let s : BoxState = h.0 in
       let k = h.1 in
@@ -252,6 +259,7 @@ module _ (schema : Attributes) (seats : ℕ) where
       record { seat = is.seat; place = is.place; owner = heir_else pass other (s.owner e.0) (s.owner e.0) (λ e. ne (sym is.owner ∙ e)) ∙ is.owner; order = is.order } in (
         s',
         record {
+          receipts = k.receipts;
           only = k.only;
           fits = each_set F (set views pass w) other idle (record { puts = All-nil (Shows seats s' items other 0); takes = λ t. off t })
               (λ j y not_other e. each_set (λ q z. q ≢ other → F q z) views pass w

@@ -11,6 +11,7 @@ use Rattle.crossbeam_queue.specs.Passes.{view}
 use Rattle.crossbeam_queue.proofs.Lists.{at_set}
 use Rattle.be_model.specs.Schemas.{Attributes}
 use Rattle.be_mail.specs.Letters.{Posting}
+use Rattle.be_mail.specs.Mailbox.{Mailbox}
 use Rattle.be_mail.specs.Rule.{HandState, SeatPuts, hand, no_puts, one_seat, later_seats, Delivers}
 use Rattle.be_mail.specs.Boxes.{IsNewHand, IsNewRow, AreRows, AreRowsUpTo}
 use Rattle.be_mail.specs.Passes.{BoxPass, put_of, box_of, first_put, taken_of, passes_of, new_passes, AreHandsOf}
@@ -81,10 +82,10 @@ pub record IsRoot (seats place n : ℕ) (root : BoxPass) : Type 0 where
 turn : (seats place n : ℕ) (root : BoxPass) → n < seats → (is : IsRoot seats place n root) → view root ≡ hand place ((n, []) ∷ no_puts (suc n) (seats - suc n)) is.takes []
 turn seats place n root h is = let e : seats - n ≡ suc (seats - suc n) = omega arith in is.shows ∙ ap (λ k. hand place (no_puts n k) is.takes []) e
 
-pub may_hand_out : (schema : Attributes) (seats pass place n : ℕ) (root : BoxPass) → n < seats → IsRoot seats place n root → Forks (Delivers schema seats) pass (view root) (later_seats (view root)) (one_seat (view root))
-may_hand_out schema seats pass place n root h is =
-    subst (λ (v : HandState). Forks (Delivers schema seats) pass v (later_seats v) (one_seat v)) (sym (turn seats place n root h is))
-    (moves.hands_out schema seats pass place n [] (no_puts (suc n) (seats - suc n)) is.takes (eqb n place) []
+pub may_hand_out : (schema : Attributes) (seats : ℕ) (found : ℕ → Mailbox → Type 0) (pass place n : ℕ) (root : BoxPass) → n < seats → IsRoot seats place n root → Forks (Delivers schema seats found) pass (view root) (later_seats (view root)) (one_seat (view root))
+may_hand_out schema seats found pass place n root h is =
+    subst (λ (v : HandState). Forks (Delivers schema seats found) pass v (later_seats v) (one_seat v)) (sym (turn seats place n root h is))
+    (moves.hands_out schema seats found pass place n [] (no_puts (suc n) (seats - suc n)) is.takes (eqb n place) []
     (moves.each_new (λ (e : SeatPuts). e.0 ≢ n) (suc n) (seats - suc n) (λ seat a b e. omega arith)))
 
 pub handed : (seats place n : ℕ) (root p : BoxPass) → n < seats → IsRoot seats place n root → p.me.1 ≡ [] → view p ≡ one_seat (view root) → IsNewHand n place p

@@ -124,9 +124,9 @@ some_seat [] w p many sum = absurd (omega arith)
 some_seat (q ∷ qs) w p many sum = (entry_at w q, map (entry_at w) qs, ap (λ (v : HandState). v.puts) sum.shows)
 
 -- what a look shows
-pub kept : (schema : Attributes) (seats : ℕ) (qs : List Passes) (w : ℕ) (p : BoxPass) → IsSum qs w p → (queued : List Posting) × Sees schema seats (view p) queued → IsKept schema seats qs w
-kept schema seats qs w p sum (queued, h) =
-    let s = subst (λ (v : HandState). Sees schema seats v queued) sum.shows h in
+pub kept : (schema : Attributes) (seats : ℕ) (found : ℕ → Mailbox → Type 0) (qs : List Passes) (w : ℕ) (p : BoxPass) → IsSum qs w p → (queued : List Posting) × Sees schema seats found (view p) queued → IsKept schema seats qs w
+kept schema seats found qs w p sum (queued, h) =
+    let s = subst (λ (v : HandState). Sees schema seats found v queued) sum.shows h in
     let Put : SeatPuts → Type 0 = λ e. letters_from e.0 (s.taken ++ queued) ≡ e.1 in
     record {
       state = record { taken = s.taken; queued = queued };

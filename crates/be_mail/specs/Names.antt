@@ -1,10 +1,14 @@
 -- Names of nothing, from which a caller picks others.
-use Rattle.std.specs.Prelude.{List, []}
+use Rattle.std.specs.Prelude.{ℕ, List, [], ⊤}
 use Rattle.atomic_table.specs.Seated.{TableId}
 use Rattle.be_model.specs.Schemas.{Attributes}
+use Rattle.be_mail.specs.Mailbox.{Mailbox}
 
 abbrev pub no_attributes : Attributes
 no_attributes = []
+
+abbrev pub always_found : ℕ → Mailbox → Type 0
+always_found mailbox state = ⊤
 
 abbrev pub no_boxes : List TableId
 no_boxes = []

@@ -1,9 +1,10 @@
 -- The passes of one seat, as contracts see them.
-use Rattle.std.specs.Prelude.{◌≡◌, ℕ, ◌+◌, ◌==◌, ◌<◌, List, [], ◌∷◌, ◌++◌, map, length, min, slice_index_or, slice_set, replicate, All}
+use Rattle.std.specs.Prelude.{◌≡◌, ℕ, ◌==◌, ◌<◌, List, [], ◌∷◌, ◌++◌, map, length, slice_index_or, slice_set, replicate, All}
 use mathlib.Core.Option.{some}
 use lib.ListN.{get_elem?}
 pub use Rattle.atomic_table.specs.Seated.{TableId}
 use Rattle.crossbeam_queue.specs.Passes.{Pass, view}
+use Rattle.be_base.specs.Counts.{raised}
 use Rattle.be_model.specs.Schemas.{Attributes}
 use Rattle.be_model.specs.Letters.{PlainLetter}
 use Rattle.be_mail.specs.Letters.{Posting, letters_from}
@@ -37,30 +38,27 @@ abbrev pub new_passes : List TableId → ℕ → Passes
 new_passes boxes seat =
     record { boxes = boxes; seat = seat; puts = replicate (length boxes) []; taken = []; fulls = 0; empties = 0 }
 
--- a count that stays at the end of its type
-abbrev pub raised : ℕ → ℕ
-raised count = min (count + 1) 18446744073709551615
-
 abbrev pub after_put : Passes → ℕ → PlainLetter → Passes
 after_put q mailbox letter = record q { puts = slice_set q.puts mailbox (put_into mailbox q ++ letter ∷ []) }
 
 abbrev pub after_full : Passes → Passes
-after_full q = record q { fulls = raised q.fulls }
+after_full q = record q { fulls = raised 1 q.fulls }
 
 abbrev pub after_fetch : Passes → Posting → Passes
 after_fetch q x = record q { taken = q.taken ++ x ∷ [] }
 
 abbrev pub after_empty : Passes → Passes
-after_empty q = record q { empties = raised q.empties }
+after_empty q = record q { empties = raised 1 q.empties }
 
 -- of all that was put into the mailbox, the letters from the seat are in order those that it put there; and what was taken out of its own, it took
 pub record Agrees (mailbox : ℕ) (m : Mailbox) (q : Passes) : Type 0 where
   pub put : letters_from q.seat (all_of m) ≡ put_into mailbox q
   pub taken : q.seat ≡ mailbox → m.taken ≡ q.taken
 
--- at a moment that agrees with the passes, the mailbox held n letters
-pub record Held (schema : Attributes) (seats : ℕ) (q : Passes) (mailbox n : ℕ) : Type 0 where
+-- the mailbox was found with n letters, at a moment that agrees with the passes
+pub record Held (schema : Attributes) (seats : ℕ) (found : ℕ → Mailbox → Type 0) (q : Passes) (mailbox n : ℕ) : Type 0 where
   pub state : Mailbox
+  pub receipt : found mailbox state
   pub count : length state.queued ≡ n
   pub only : HasOnlyFit schema seats mailbox state
   pub agrees : Agrees mailbox state q

@@ -5,6 +5,7 @@ use lib.ListN.{get_elem?}
 use Rattle.be_model.specs.Schemas.{Attributes}
 use Rattle.be_model.specs.Letters.{PlainLetter}
 use Rattle.be_mail.specs.Letters.{Posting, IsFor, letters_from}
+use Rattle.be_mail.specs.Mailbox.{Mailbox, ForEachState}
 
 -- a seat, and what it put into the mailbox
 abbrev pub SeatPuts : Type 0
@@ -86,17 +87,19 @@ pub record Fits (seats : ℕ) (s : BoxState) (items : List Posting) (pass : ℕ)
   pub puts : All (Shows seats s items pass v.at) v.puts
   pub takes : v.takes ≡ true → Takes s pass v.at v.taken
 
--- each letter may lie here, and what each pass shows is so
-pub record Keeps (schema : Attributes) (seats : ℕ) (s : BoxState) (items : List Posting) (views : List HandState) : Type 0 where
+-- each letter may lie here, what each pass shows is so, and here the receipts are kept
+pub record Keeps (schema : Attributes) (seats : ℕ) (found : ℕ → Mailbox → Type 0) (s : BoxState) (items : List Posting) (views : List HandState) : Type 0 where
+  pub receipts : ForEachState found
   pub only : All (IsFor schema seats s.at) (s.taken ++ items)
   pub fits : (pass : ℕ) (v : HandState) → get_elem? views pass ≡ some v → Fits seats s items pass v
 
-abbrev pub Delivers : Attributes → ℕ → List Posting → List HandState → Type 0
-Delivers schema seats items views = (s : BoxState) × Keeps schema seats s items views
+abbrev pub Delivers : Attributes → ℕ → (ℕ → Mailbox → Type 0) → List Posting → List HandState → Type 0
+Delivers schema seats found items views = (s : BoxState) × Keeps schema seats found s items views
 
--- what a pass learns of the queued letters
-pub record Sees (schema : Attributes) (seats : ℕ) (v : HandState) (items : List Posting) : Type 0 where
+-- what a pass learns of the queued letters, with the receipt of the state that it found
+pub record Sees (schema : Attributes) (seats : ℕ) (found : ℕ → Mailbox → Type 0) (v : HandState) (items : List Posting) : Type 0 where
   pub taken : List Posting
   pub only : All (IsFor schema seats v.at) (taken ++ items)
   pub puts : All (λ (e : SeatPuts). letters_from e.0 (taken ++ items) ≡ e.1) v.puts
   pub own : v.takes ≡ true → taken ≡ v.taken
+  pub receipt : found v.at (record { taken = taken; queued = items })

@@ -56,7 +56,7 @@ impl<S: Post> Mail<S> {
         ensures put { OnOk result (pass.new ≡ after_put pass.old to (plain_letter letter)) }
         ensures back { IfErr result (λ back. plain_letter back ≡ plain_letter letter) }
         ensures counted { OnErr result (pass.new ≡ after_full pass.old) }
-        ensures full { OnErr result (Held S.schema S.seats pass.old to BOX_LETTERS) }
+        ensures full { OnErr result (Held S.schema S.seats S.found pass.old to BOX_LETTERS) }
     {
         let at = to as usize;
         let from = pass.seat;
@@ -80,7 +80,7 @@ impl<S: Post> Mail<S> {
         ensures same { (pass.new.boxes ≡ pass.old.boxes) × (pass.new.seat ≡ pass.old.seat) }
         ensures fetched { IfSome result (λ l. (from : ℕ) × (pass.new ≡ after_fetch pass.old (posting from (plain_letter l))) × IsFor S.schema S.seats pass.old.seat (posting from (plain_letter l))) }
         ensures counted { IfNone result (pass.new ≡ after_empty pass.old) }
-        ensures empty { IfNone result (Held S.schema S.seats pass.old pass.old.seat 0) }
+        ensures empty { IfNone result (Held S.schema S.seats S.found pass.old pass.old.seat 0) }
     {
         let at = pass.seat as usize;
         match self.boxes[at].pop_as::<Fetches<S>, R>(rt, &mut pass.passes[at]) {

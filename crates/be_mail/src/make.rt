@@ -6,6 +6,7 @@ ghost use Rattle.be_base.specs.declared.limits.TheConstants.{SEATS, BOX_LETTERS}
 ghost use Rattle.crossbeam_queue.specs.Passes.{view, IsPassOf, ruled_capacity};
 ghost use Rattle.be_mail.specs.Rule.{hand, no_puts};
 ghost use Rattle.be_mail.specs.Passes.{new_passes, box_of};
+ghost use Rattle.be_mail.specs.Mailbox.{ForEachState};
 ghost use Rattle.be_mail.specs.Boxes.{name_of, HaveRoom, AreRows, IsNewRow};
 
 use crate::mail::Mail;
@@ -52,6 +53,7 @@ impl PassRow {
 pub fn make_mail<S: Post>(alloc: Global, seats: u32) -> Result<(Mail<S>, Vec<MailPasses>), NoMemory>
     requires seats { (0 < seats) × (seats ≤ SEATS) }
     requires named { seats ≡ S.seats }
+    requires receipts { ForEachState S.found }
     ensures boxes { IfOk result (λ r. length r.0 ≡ seats) }
     ensures passes { IfOk result (λ r. r.1.items ≡ map (new_passes r.0) (range_with_len 0 seats)) }
 {
@@ -82,6 +84,7 @@ fn add_mailbox<S: Post>(
     rows: &mut Vec<PassRow>,
 ) -> Result<(), AllocError>
     requires place { length boxes.old.items ≡ place }
+    requires receipts { ForEachState S.found }
     requires room { HaveRoom boxes.old.items }
     requires rows { AreRows S.seats (map name_of boxes.old.items) rows.old.items }
     ensures place { OnOk result (length boxes.new.items ≡ place + 1) }
@@ -99,6 +102,7 @@ fn add_mailbox<S: Post>(
 
 // An empty mailbox, which knows its place, and the pass that has every seat.
 fn open_mailbox<S: Post>(alloc: Global, place: u32) -> Result<(Mailbox<S>, BoxPass), AllocError>
+    requires { ForEachState S.found }
     ensures pass { IfOk result (λ r. IsPassOf r.0 r.1 × (view r.1 ≡ hand place (no_puts 0 S.seats) true [])) }
     ensures room { IfOk result (λ r. ruled_capacity r.0 ≡ BOX_LETTERS) }
 {

@@ -2,22 +2,29 @@
 
 use std::marker::Brand;
 
-/// The schema of a mail's events, and the number of its seats. It is chosen before the mail is made.
+/// The schema of a mail's events, the number of its seats, and the receipts. It is chosen before the mail is made.
 pub trait Post {
     ghost use Rattle.std.specs.Prelude.{ℕ};
     ghost use Rattle.be_model.specs.Schemas.{Attributes};
+    ghost use Rattle.be_mail.specs.Mailbox.{Mailbox};
 
     ghost schema: { Attributes };
 
     ghost seats: { ℕ };
+
+    /// A receipt: this mailbox was found in this state. `make_mail` is given all receipts and shuts them into the rule of
+    /// the queues. So code that is proved for every `Post` has one only from a step at a queue, for the state that it found.
+    ghost found: { ℕ → Mailbox → Type 0 };
 }
 
 impl Post for Brand {
-    ghost use Rattle.be_mail.specs.Names.{no_attributes};
+    ghost use Rattle.be_mail.specs.Names.{no_attributes, always_found};
 
     ghost schema = { no_attributes };
 
     ghost seats = { 1 };
+
+    ghost found = { always_found };
 }
 
 /// The mailboxes of one mail. It is chosen once they are made, and says of what shares a mail and its passes that they

@@ -47,7 +47,7 @@ pub struct Rule<S: Post> {
 impl<S: Post> Protocol<Posted, Hand> for Rule<S> {
     ghost use Rattle.be_mail.specs.Rule.{first_hand, Delivers};
 
-    ghost holds = { Delivers S.schema S.seats };
+    ghost holds = { Delivers S.schema S.seats S.found };
 
     ghost first = { first_hand S.seats };
 }
@@ -67,7 +67,7 @@ impl<S: Post> Outcome<Posted, Hand> for Puts<S> {
 impl<S: Post> Lesson<Posted, Hand> for Puts<S> {
     ghost use Rattle.be_mail.specs.Rule.{Sees};
 
-    ghost fact = { Sees S.schema S.seats };
+    ghost fact = { Sees S.schema S.seats S.found };
 }
 
 /// A fetch, or a fetch that found the mailbox empty.
@@ -86,7 +86,7 @@ impl<S: Post> Outcome<Posted, Hand> for Fetches<S> {
 impl<S: Post> Lesson<Posted, Hand> for Fetches<S> {
     ghost use Rattle.be_mail.specs.Rule.{Sees};
 
-    ghost fact = { Sees S.schema S.seats };
+    ghost fact = { Sees S.schema S.seats S.found };
 }
 
 /// A look at what the mailbox holds.
@@ -97,7 +97,7 @@ pub struct Looks<S: Post> {
 impl<S: Post> Lesson<Posted, Hand> for Looks<S> {
     ghost use Rattle.be_mail.specs.Rule.{Sees};
 
-    ghost fact = { Sees S.schema S.seats };
+    ghost fact = { Sees S.schema S.seats S.found };
 }
 
 /// The mailbox becomes that of the next seat, while nothing was put.

@@ -26,7 +26,7 @@ loop-seat-init g c =
 pub another-pass-requires-clause-rule : goal.another-pass-requires-clause-rule
 another-pass-requires-clause-rule g c =
     let i = c.loop-seat.invariant in
-    may_hand_out g.S.Post.schema g.S.Post.seats c.loop-seat.root.id c.args.place c.loop-seat.seat c.loop-seat.root (let h = c.loop-seat-test.true in let e = i.3 in omega arith) i.4
+    may_hand_out g.S.Post.schema g.S.Post.seats g.S.Post.found c.loop-seat.root.id c.args.place c.loop-seat.seat c.loop-seat.root (let h = c.loop-seat-test.true in let e = i.3 in omega arith) i.4
 
 pub loop-seat-preserved : goal.loop-seat-preserved
 loop-seat-preserved g c =

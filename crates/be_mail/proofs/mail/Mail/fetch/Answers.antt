@@ -13,7 +13,7 @@ pop_as-requires-clause-queue g c =
 pub pop_as-requires-clause-rule : goal.pop_as-requires-clause-rule
 pop_as-requires-clause-rule g c =
     let at = at_own c.pass.invariant c.self.invariant (ap (λ (q : Passes). q.boxes) c.pass.view_is ∙ c.requires.passes) c.self.view_is _ _ c.index_mut.ensures.value c.index.ensures in
-    may_fetch g.S.Post.schema g.S.Post.seats c.index_mut.result.now.id c.pass.inside.seat c.index_mut.result.now at.is_hand
+    may_fetch g.S.Post.schema g.S.Post.seats g.S.Post.found c.index_mut.result.now.id c.pass.inside.seat c.index_mut.result.now at.is_hand
 
 pub invariant_of-pass : goal.invariant_of-pass
 invariant_of-pass g c =
@@ -52,8 +52,8 @@ returns-in-None-clause-empty g c =
     let schema = g.S.Post.schema in
     let seats = g.S.Post.seats in
     let at = at_own c.pass.invariant c.self.invariant (ap (λ (q : Passes). q.boxes) c.pass.view_is ∙ c.requires.passes) c.self.view_is _ _ c.index_mut.ensures.value c.index.ensures in
-    subst (λ (q : Passes). Held schema seats q q.seat 0) c.pass.view_is
-    (held schema seats c.pass.inside.seat c.pass.inside.passes.items c.pass.inside.seat c.index_mut.result.now c.pass.inside.fulls c.pass.inside.empties 0 at.here at.is_hand c.in-None.ensures.rule.1)
+    subst (λ (q : Passes). Held schema seats g.S.Post.found q q.seat 0) c.pass.view_is
+    (held schema seats g.S.Post.found c.pass.inside.seat c.pass.inside.passes.items c.pass.inside.seat c.index_mut.result.now c.pass.inside.fulls c.pass.inside.empties 0 at.here at.is_hand c.in-None.ensures.rule.1)
 
 pub returns-in-Some-clause-same : goal.returns-in-Some-clause-same
 returns-in-Some-clause-same g c = let is = returns-in-Some-clause-fetched g c in (ap (λ (q : Passes). q.boxes) is.1, ap (λ (q : Passes). q.seat) is.1)

@@ -17,7 +17,7 @@ push_as-requires-clause-queue g c =
 pub push_as-requires-clause-rule : goal.push_as-requires-clause-rule
 push_as-requires-clause-rule g c =
     let at = at_session c.pass.invariant c.self.invariant (ap (λ (q : Passes). q.boxes) c.pass.view_is ∙ c.requires.passes) c.self.view_is c.args.to _ _ _ c.requires.to c.index_mut.ensures.value c.index.ensures in
-    may_put g.S.Post.schema g.S.Post.seats _ c.index_mut.result.now.id c.pass.inside.seat c.args.to c.index_mut.result.now (plain_letter c.args.letter) at.is_hand
+    may_put g.S.Post.schema g.S.Post.seats g.S.Post.found _ c.index_mut.result.now.id c.pass.inside.seat c.args.to c.index_mut.result.now (plain_letter c.args.letter) at.is_hand
     (record { from = at.from; fit = c.requires.fit; here = sym c.requires.to })
 
 pub invariant_of-pass : goal.invariant_of-pass
@@ -52,8 +52,8 @@ returns-in-Err-clause-full g c =
     let schema = g.S.Post.schema in
     let seats = g.S.Post.seats in
     let at = at_session c.pass.invariant c.self.invariant (ap (λ (q : Passes). q.boxes) c.pass.view_is ∙ c.requires.passes) c.self.view_is c.args.to _ _ _ c.requires.to c.index_mut.ensures.value c.index.ensures in
-    subst (λ (q : Passes). Held schema seats q c.args.to BOX_LETTERS) c.pass.view_is
-    (held schema seats c.pass.inside.seat c.pass.inside.passes.items c.args.to c.index_mut.result.now c.pass.inside.fulls c.pass.inside.empties BOX_LETTERS at.here at.is_hand (subst (λ n. fifo.Held n (Sees schema seats (view c.index_mut.result.now))) at.room c.in-Err.ensures.rule.2))
+    subst (λ (q : Passes). Held schema seats g.S.Post.found q c.args.to BOX_LETTERS) c.pass.view_is
+    (held schema seats g.S.Post.found c.pass.inside.seat c.pass.inside.passes.items c.args.to c.index_mut.result.now c.pass.inside.fulls c.pass.inside.empties BOX_LETTERS at.here at.is_hand (subst (λ n. fifo.Held n (Sees schema seats g.S.Post.found (view c.index_mut.result.now))) at.room c.in-Err.ensures.rule.2))
 
 pub returns-in-Ok-clause-same : goal.returns-in-Ok-clause-same
 returns-in-Ok-clause-same g c = let is = returns-in-Ok-clause-put g c in (ap (λ (q : Passes). q.boxes) is, ap (λ (q : Passes). q.seat) is)

@@ -84,7 +84,7 @@ learn_as-requires-clause-rule g c =
     let less : n < length bs = let h = c.loop-place-test.true in let e = c.len-boxes.ensures in let o = c.self.inside.boxes.ok.0 in omega arith in
     let at_p = at_index ps n p (omega arith) c.index_mut.ensures.value in
     let some = some_seat c.args.passes.items n p i.0.nonempty (i.0.each n p at_p) in
-    learns g.S.Post.schema g.S.Post.seats p.id (view p) some.0 some.1 some.2
+    learns g.S.Post.schema g.S.Post.seats g.S.Post.found p.id (view p) some.0 some.1 some.2
 
 pub loop-place-preserved : goal.loop-place-preserved
 loop-place-preserved g c =
@@ -101,7 +101,7 @@ loop-place-preserved g c =
     let e = c.learn_as.ensures in (
       looked c.args.self.now qs ps n p c.learn_as.new.pass i.0 at_p e.queue.0.0 e.queue.0.2 e.queue.1,
       λ w h. dite (ℕ_discrete w n)
-          (λ is. kept g.S.Post.schema g.S.Post.seats qs w p (subst (λ k. IsSum qs k p) (sym is) sum) e.rule)
+          (λ is. kept g.S.Post.schema g.S.Post.seats g.S.Post.found qs w p (subst (λ k. IsSum qs k p) (sym is) sum) e.rule)
           (λ ne. i.1 w (omega arith)),
     )
 

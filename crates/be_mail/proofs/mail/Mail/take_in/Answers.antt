@@ -31,7 +31,7 @@ absorb-requires-clause-rule g c =
     let all = i.2 ∙ ap (λ l. c.loop-pass.yielded ++ l) c.in-Some.ensures.steps.0 in
     let here : get_elem? os n ≡ some o = subst (λ k. get_elem? os k ≡ some o) i.3 (subst (λ l. get_elem? l (length c.loop-pass.yielded) ≡ some o) (sym all) (at_middle c.loop-pass.yielded o c.next.new.self.rest.items)) in
     let m = meets c.args.self.now c.args.sum.now.items os c.loop-pass.sum.items c.self.inside.boxes.items n p o c.index.result.now c.requires.boxes.0 c.requires.boxes.1 i.4 c.self.view_is c.requires.join i.5 here c.index_mut.ensures.value c.index.ensures in
-    merges g.S.Post.schema g.S.Post.seats p.id (view p) o.id (view o) m.can.place
+    merges g.S.Post.schema g.S.Post.seats g.S.Post.found p.id (view p) o.id (view o) m.can.place
 
 pub loop-pass-preserved : goal.loop-pass-preserved
 loop-pass-preserved g c =
