@@ -5,8 +5,11 @@ pub mod Ids
 pub mod Gains
 pub mod Moves
 pub mod Counts
+pub mod Fails
 pub mod Stuck
 pub mod Places
 pub mod Firsts
+pub mod Narrow
+pub mod Apart
 pub mod Seeking
 pub mod Law

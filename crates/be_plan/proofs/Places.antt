@@ -143,6 +143,21 @@ fit_here s k (node rows parts low high) h =
 pub parts_are_fit : (s : Attributes) (k : Known) (n : Plain) → IsRight s k n → parts_fit (parts_under n) ≡ true
 parts_are_fit s k n r = fit_here s k n (right_here s k n (levels (is_right_at s) s k n r.right).here).0
 
+-- no attribute of a part is used above
+unused_here : (s : Attributes) (k : Known) (n : Plain) → is_placed_at s k n ≡ true → list_all (λ a. not (is_used k.used a)) (attrs_of (parts_under n)) ≡ true
+unused_here s k (node rows parts low high) h =
+    let a = attrs_rise (attrs_of parts) in
+    let b = list_all (λ c. not (is_used k.used c)) (attrs_of parts) in
+    let c = parts_fit parts in
+    let d = list_all (spans_inside s k.range) (rows_below (node rows parts low high)) in
+    let e = can_split k.range || not (is_here low || is_here high) in
+    let x = and_parts (a && b && c && d) e h in
+    let y = and_parts (a && b && c) d x.0 in
+    let z = and_parts (a && b) c y.0 in (and_parts a b z.0).1
+
+pub attrs_unused : (s : Attributes) (k : Known) (n : Plain) → IsRight s k n → list_all (λ a. not (is_used k.used a)) (attrs_of (parts_under n)) ≡ true
+attrs_unused s k n r = unused_here s k n (right_here s k n (levels (is_right_at s) s k n r.right).here).0
+
 pub settles_here : (s : Attributes) (k : Known) (n : Plain) → IsRight s k n → (leb (length (leaf_of n)) LEAF_ROWS || list_all (is_stuck s k) (leaf_of n)) ≡ true
 settles_here s k n r = sym (settled_is s k n) ∙ (right_here s k n (levels (is_right_at s) s k n r.right).here).3
 

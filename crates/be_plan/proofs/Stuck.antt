@@ -16,8 +16,9 @@ use Rattle.be_score.specs.Picks.{pick}
 use Rattle.be_score.proofs.Picks.{picked}
 use Rattle.be_shape.specs.Shape.{NodeRange, Known, is_used, can_split, is_stuck, spans_inside, lower, upper}
 use Rattle.be_shape.specs.Children.{may_pass}
-use Rattle.be_plan.specs.Splits.{enough_pass, where_enough, early_part, early_half}
+use Rattle.be_plan.specs.Splits.{enough_pass, any_is_shared, where_enough, early_part, early_half}
 use Rattle.be_plan.proofs.Counts.{too_few, not_enough}
+use Rattle.be_plan.proofs.Fails.{too_few_share}
 
 -- which leaves are looked at
 abbrev pub still : List Row → Bool
@@ -43,7 +44,7 @@ still_is s k rows h t = by_first (leb EARLY_ROWS (length rows)) refl h
     by_first true e n = by_second (leb (length rows) LEAF_ROWS) refl n t
 
 -- a stuck row has no attribute that isn't used
-used_attr : (used : List AttrNo) (a : AttrNo) (conj : List Pred) → list_all (λ (p : Pred). is_used used p.attr) conj ≡ true → list_any (is_on a) conj ≡ true → is_used used a ≡ true
+pub used_attr : (used : List AttrNo) (a : AttrNo) (conj : List Pred) → list_all (λ (p : Pred). is_used used p.attr) conj ≡ true → list_any (is_on a) conj ≡ true → is_used used a ≡ true
 used_attr used a [] h o = absurd (true≢false (sym o))
 used_attr used a (p ∷ conj) h o =
     let k = and_parts (is_used used p.attr) (list_all (λ (q : Pred). is_used used q.attr) conj) h in by_test (eqb p.attr.0 a.0) refl o k.0 (used_attr used a conj k.1)
@@ -103,3 +104,12 @@ still_half s k rows h t = by_range (can_split k.range) refl
     by_range : (c : Bool) → can_split k.range ≡ c → None ≡ early_half s k.range rows
     by_range true e = let z = by_still (still_is s k rows h t) e in sym (halves s k.range rows true false false e z.0 z.1)
     by_range false e = sym (halves s k.range rows false (enough_pass s Low k.range rows) (enough_pass s High k.range rows) e refl refl)
+
+-- no part is due where too few rows share an attribute that isn't used
+pub closed_part : (s : Attributes) (alpha : ℕ) (k : Known) (rows : List Row) → list_all (row_lies s) rows ≡ true → any_is_shared k.used rows ≡ false → None ≡ early_part s alpha k rows
+closed_part s alpha k rows lies h = by_pick (pick s rows k.used alpha) refl
+  where
+    by_pick : (o : Option AttrNo) → pick s rows k.used alpha ≡ o → None ≡ where_enough s k.range rows o
+    by_pick None e = refl
+    by_pick (Some a) e =
+        let c = picked s rows k.used alpha a lies e in sym (ap (λ b. cond b (Some a) None) (too_few_share k.used a rows c.unused h))

@@ -1,14 +1,22 @@
 -- The first shift at a node.
-use Rattle.std.specs.Prelude.{◌≡◌, true, List, [], ◌∷◌, nat_lt, Option, Some, None, option_map, if◌then◌else◌}
-use Rattle.std.specs.List.{find, list_all}
+use Rattle.std.specs.Prelude.{◌≡◌, ◌*◌, ◌==◌, ◌&&◌, ◌||◌, Bool, true, false, not, List, [], ◌∷◌, nat_lt, Option, Some, None, option_map, if◌then◌else◌}
+use Rattle.std.specs.List.{find, list_all, AllByRecursion}
 use Rattle.std.specs.Option.{option_or}
 use Rattle.be_base.specs.declared.names.AttrNo.{AttrNo}
 use Rattle.be_base.specs.declared.names.Id.{Id}
 use Rattle.be_model.specs.declared.changes.Row.{Row}
+use Rattle.be_model.specs.declared.paths.Hop.{Hop}
+use Rattle.be_model.specs.declared.paths.Hop.TheVariants.{Part, Low, High}
 use Rattle.be_model.specs.Schemas.{Attributes}
+use Rattle.be_model.specs.Domains.{width}
 use Rattle.be_model.specs.Lies.{row_lies}
 use Rattle.be_model.specs.Rows.{has}
-use Rattle.be_shape.specs.Plain.{Parts, no_part, part, rows_below}
+use Rattle.be_shape.specs.Plain.{Plain, Parts, no_part, part, rows_below}
+use Rattle.be_shape.specs.Shape.{NodeRange, Known, known, is_used, whole}
+use Rattle.be_shape.specs.Paths.{range_below}
+use Rattle.be_shape.specs.Children.{roots_of}
+use Rattle.be_shape.specs.Ranges.{is_bounded, is_rising}
+use Rattle.be_shape.specs.Right.{IsRight}
 use Rattle.be_plan.specs.Plan.{gains}
 
 -- the first attribute on which the row weighs enough more, with the row's id
@@ -36,3 +44,39 @@ first_shift s attrs (part a root more) =
 pub record Movable (s : Attributes) (from : AttrNo) (rows : List Row) : Type 0 where
   pub lie : list_all (row_lies s) rows ≡ true
   pub have : list_all (has from) rows ≡ true
+
+-- the range is less than half of the whole, on the same attribute
+abbrev pub is_narrow : NodeRange → NodeRange → Bool
+is_narrow None w = false
+is_narrow (Some r) None = false
+is_narrow (Some r) (Some w) =
+    r.0.0 == w.0.0 && nat_lt (2 * width r.1) (width w.1)
+
+-- the attribute is the one that rows may leave, or isn't used
+abbrev pub is_apart : AttrNo → List AttrNo → AttrNo → Bool
+is_apart from used a = a.0 == from.0 || not (is_used used a)
+
+-- a part of one of the attributes was entered on the way, or is by the step
+abbrev pub meets_by : List AttrNo → Hop → Bool → Bool
+meets_by attrs (Part a) met = met || is_used attrs a
+meets_by attrs Low met = met
+meets_by attrs High met = met
+
+-- a node is right in its range; where none of the attributes was met on the way, none is used but that which rows may leave
+pub record IsBelow (s : Attributes) (attrs : List AttrNo) (from : AttrNo) (met : Bool) (r : NodeRange) (n : Plain) : Type 0 where
+  pub used : List AttrNo
+  pub right : IsRight s (known r used) n
+  pub bounded : is_bounded r ≡ true
+  pub rising : is_rising r ≡ true
+  pub apart : met ≡ false → list_all (is_apart from used) attrs ≡ true
+
+-- the same of a child, from what is known of the node above
+abbrev pub ChildBelow : Attributes → List AttrNo → AttrNo → Bool → NodeRange → Hop × Plain → Type 0
+ChildBelow s attrs from met r x = IsBelow s attrs from (meets_by attrs x.0 met) (range_below s x.0 r) x.1
+
+abbrev pub PartsBelow : Attributes → List AttrNo → AttrNo → Bool → Parts → Type 0
+PartsBelow s attrs from met parts = AllByRecursion (ChildBelow s attrs from met None) (roots_of parts)
+
+-- a node is right, wherever it stands
+abbrev pub IsRightSomewhere : Attributes → Plain → Type 0
+IsRightSomewhere s n = (k : Known) × IsRight s k n

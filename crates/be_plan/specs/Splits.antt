@@ -1,18 +1,39 @@
 -- The first splits at a node.
-use Rattle.std.specs.Prelude.{ℕ, ◌&&◌, Bool, List, nat_le, count_by, Option, Some, None, if◌then◌else◌}
+use Rattle.std.specs.Prelude.{ℕ, ◌-◌, ◌==◌, ◌&&◌, Bool, true, false, not, List, [], ◌∷◌, ◌+◌, length, take, nat_le, count_by, Option, Some, None, if◌then◌else◌}
+use Rattle.std.specs.List.{list_any}
 use Rattle.be_base.specs.declared.names.AttrNo.{AttrNo}
 use Rattle.be_base.specs.declared.limits.TheConstants.{EARLY_ROWS}
 use Rattle.be_model.specs.declared.changes.Row.{Row}
+use Rattle.be_model.specs.declared.preds.Pred.{Pred}
 use Rattle.be_model.specs.declared.paths.Hop.{Hop}
 use Rattle.be_model.specs.declared.paths.Hop.TheVariants.{Part, Low, High}
+use Rattle.be_model.specs.Rows.{has}
 use Rattle.be_model.specs.Schemas.{Attributes}
 use Rattle.be_score.specs.Picks.{pick}
-use Rattle.be_shape.specs.Shape.{NodeRange, Known, can_split}
+use Rattle.be_shape.specs.Shape.{NodeRange, Known, is_used, can_split}
 use Rattle.be_shape.specs.Children.{may_pass}
 
 -- at least 8 rows may pass
 abbrev pub enough_pass : Attributes → Hop → NodeRange → List Row → Bool
 enough_pass s hop r rows = nat_le EARLY_ROWS (count_by (may_pass s hop r) rows)
+
+-- the attribute isn't used, and at least 8 rows have it
+abbrev pub enough_share : List AttrNo → List Row → AttrNo → Bool
+enough_share used rows a = not (is_used used a) && nat_le EARLY_ROWS (count_by (has a) rows)
+
+abbrev pub is_shared : List AttrNo → List Row → List Pred → Bool
+is_shared used rows conj = list_any (λ (p : Pred). enough_share used rows p.attr) conj
+
+-- such an attribute is one of the first rows', which are all but 7
+abbrev pub any_is_shared : List AttrNo → List Row → Bool
+any_is_shared used rows =
+    list_any (λ (row : Row). is_shared used rows row.conj) (take (length rows - (EARLY_ROWS - 1)) rows)
+
+-- at most so many rows fail the test
+abbrev pub few_fail : (Row → Bool) → ℕ → List Row → Bool
+few_fail test spare [] = true
+few_fail test spare (row ∷ rows) =
+    if test row then few_fail test spare rows else (if spare == 0 then false else few_fail test (spare - 1) rows)
 
 abbrev pub where_enough : Attributes → NodeRange → List Row → Option AttrNo → Option AttrNo
 where_enough s r rows None = None

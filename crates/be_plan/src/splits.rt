@@ -1,27 +1,82 @@
 //! The first splits at a node.
 
-ghost use Rattle.std.specs.Prelude.{◌≡◌, ◌||◌, true, not, length, nat_le};
+ghost use Rattle.std.specs.Prelude.{◌≡◌, ◌≤◌, ◌-◌, ◌||◌, true, not, length, nat_le};
 ghost use Rattle.std.specs.List.{list_all};
 ghost use Rattle.be_base.specs.declared.limits.TheConstants.{EARLY_ROWS, LEAF_ROWS};
 ghost use Rattle.be_model.specs.Lies.{row_lies};
 ghost use Rattle.be_shape.specs.Shape.{is_stuck};
 ghost use Rattle.be_shape.specs.Ranges.{is_bounded, is_rising};
 ghost use Rattle.be_shape.specs.Spots.{known_of};
-ghost use Rattle.be_plan.specs.Splits.{enough_pass, early_part, early_half};
+ghost use Rattle.be_plan.specs.Splits.{enough_pass, enough_share, is_shared, any_is_shared, early_part, early_half};
 
 use be_base::{AttrNo, EARLY_ROWS, LEAF_ROWS};
-use be_model::{Hop, Schema};
+use be_model::{Hop, Pred, Schema};
 use be_score::pick_attr;
-use be_shape::{Leaf, NodeRange, Spot, can_split, count_passing};
+use be_shape::{Leaf, NodeRange, Spot, can_split, is_used, may_pass};
 
-// Whether at least 8 rows of the leaf may pass the step.
+// How many rows of the leaf may fail a test that at least 8 are to pass.
+fn spare_rows(leaf: &Leaf) -> usize
+    requires { EARLY_ROWS ≤ length leaf.now }
+    ensures { result ≡ length leaf.now - EARLY_ROWS }
+{
+    leaf.len() - EARLY_ROWS
+}
+
+// Whether at least 8 rows of the leaf may pass the step. It looks no further once too many may not.
 fn enough_pass(leaf: &Leaf, s: &Schema, hop: Hop, range: NodeRange) -> bool
     requires lie { list_all (row_lies s.now) leaf.now ≡ true }
     requires bounded { is_bounded range ≡ true }
     requires rising { is_rising range ≡ true }
+    requires many { EARLY_ROWS ≤ length leaf.now }
     ensures { result ≡ enough_pass s.now hop range leaf.now }
 {
-    EARLY_ROWS <= count_passing(leaf, s, hop, range)
+    let mut spare = spare_rows(leaf);
+    for place in 0..leaf.len() {
+        if !may_pass(leaf.row(place), s, hop, range) {
+            if spare == 0 {
+                return false;
+            }
+            spare -= 1;
+        }
+    }
+    true
+}
+
+// Whether the attribute isn't used, and at least 8 rows of the leaf have it.
+fn enough_share(a: AttrNo, leaf: &Leaf, s: &Schema, k: &Spot) -> bool
+    requires lie { list_all (row_lies s.now) leaf.now ≡ true }
+    requires many { EARLY_ROWS ≤ length leaf.now }
+    ensures { result ≡ enough_share (known_of k.now).used leaf.now a }
+{
+    !is_used(k.used.as_slice(), a) && enough_pass(leaf, s, Hop::Part(a), k.range)
+}
+
+// Whether at least 8 rows of the leaf have an attribute of these predicates that isn't used.
+fn is_shared(preds: &[Pred], leaf: &Leaf, s: &Schema, k: &Spot) -> bool
+    requires lie { list_all (row_lies s.now) leaf.now ≡ true }
+    requires many { EARLY_ROWS ≤ length leaf.now }
+    ensures { result ≡ is_shared (known_of k.now).used leaf.now preds.now }
+{
+    for pred in preds {
+        if enough_share(pred.attr, leaf, s, k) {
+            return true;
+        }
+    }
+    false
+}
+
+// Whether at least 8 rows of the leaf have some attribute that isn't used. Of 8 rows one is among all but the last 7.
+fn any_is_shared(leaf: &Leaf, s: &Schema, k: &Spot) -> bool
+    requires lie { list_all (row_lies s.now) leaf.now ≡ true }
+    requires many { EARLY_ROWS ≤ length leaf.now }
+    ensures { result ≡ any_is_shared (known_of k.now).used leaf.now }
+{
+    for place in 0..leaf.len() - (EARLY_ROWS - 1) {
+        if is_shared(leaf.row(place).conj.preds(), leaf, s, k) {
+            return true;
+        }
+    }
+    false
 }
 
 // Whether a leaf has too few rows for a split, or more than 16, of which none can move.
@@ -38,6 +93,9 @@ pub(crate) fn part_split_at(leaf: &Leaf, s: &Schema, k: &Spot, alpha: u8) -> Opt
     ensures { result ≡ early_part s.now alpha (known_of k.now) leaf.now }
 {
     if is_still(leaf) {
+        return None;
+    }
+    if !any_is_shared(leaf, s, k) {
         return None;
     }
     match pick_attr(s, leaf, k.used.as_slice(), alpha) {

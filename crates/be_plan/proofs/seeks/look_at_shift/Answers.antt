@@ -1,4 +1,4 @@
-use Rattle.std.proofs.Common.{◌≡◌, Some, None, option_map, sym, ap, ◌∙◌}
+use Rattle.std.proofs.Common.{◌≡◌, Some, None, option_map, sym, ap, ◌∙◌, subst}
 use Rattle.std.specs.List.{list_all}
 use Rattle.std.specs.Arc.{arc_value}
 use Rattle.be_base.specs.declared.names.AttrNo.{AttrNo}
@@ -9,7 +9,7 @@ use Rattle.be_shape.specs.Plain.{plain, parts_under, rows_below}
 use Rattle.be_shape.specs.Shape.{attrs_of}
 use Rattle.be_shape.specs.Spots.{known_of}
 use Rattle.be_plan.specs.Best.{better}
-use Rattle.be_plan.specs.Shifts.{first_shift}
+use Rattle.be_plan.specs.Shifts.{first_shift, IsRightSomewhere}
 use Rattle.be_plan.proofs.Places.{rows_lie, parts_are_fit}
 use Rattle.be_plan.proofs.Firsts.{first_shift_is}
 use Rattle.be_plan.proofs.Seeking.{closed}
@@ -24,6 +24,10 @@ shift_at-requires-clause-fit c = parts_are_fit (arc_value c.args.t.now.schema) (
 pub shift_at-requires-clause-lie : goal.shift_at-requires-clause-lie
 shift_at-requires-clause-lie c =
     ap (λ s. list_all (row_lies s) (rows_below (plain c.args.n.now))) c.deref.ensures ∙ rows_lie (arc_value c.args.t.now.schema) (known_of c.args.k.now) (plain c.args.n.now) c.requires.right
+
+pub shift_at-requires-clause-right : goal.shift_at-requires-clause-right
+shift_at-requires-clause-right c =
+    subst (λ s. IsRightSomewhere s (plain c.args.n.now)) (sym c.deref.ensures) (known_of c.args.k.now, c.requires.right)
 
 pub returns-in_default : goal.returns-in_default
 returns-in_default c =

@@ -10,7 +10,7 @@ use Rattle.be_plan.proofs.shifts.least_in_leaf.Goals as goal
 
 pub gain_of-requires : goal.gain_of-requires
 gain_of-requires c =
-    movable_at c.args.s.now c.args.from.now.attr c.args.leaf.now c.loop-place.place (arc_value c.row.result.now) c.deref.result.now c.requires c.row.ensures c.deref.ensures
+    movable_at c.args.s.now c.args.from.now.attr c.args.leaf.now c.loop-place.place (arc_value c.row.result.now) c.deref.result.now c.requires.movable c.row.ensures c.deref.ensures
 
 pub loop-place-preserved : goal.loop-place-preserved
 loop-place-preserved c =
