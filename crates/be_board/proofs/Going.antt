@@ -1,0 +1,31 @@
+-- A board goes on from call to call.
+use Rattle.std.proofs.Common.{ℕ, ◌≤◌, refl, ◌∙◌, arith}
+use Rattle.be_base.specs.Counts.{HasRisen}
+use Rattle.be_base.proofs.Beginnings.{BeginsWith-same, BeginsWith-along}
+use Rattle.be_board.specs.State.{BoardCounts, BoardState, NoneFalls, GoesOn}
+
+pub NoneFalls-same : (c : BoardCounts) → NoneFalls c c
+NoneFalls-same c = record { reads = omega arith; shuts = omega arith; splits = omega arith; fulls = omega arith; empties = omega arith }
+
+pub NoneFalls-along : (a b c : BoardCounts) → NoneFalls a b → NoneFalls b c → NoneFalls a c
+NoneFalls-along a b c f g = record { reads = omega arith; shuts = omega arith; splits = omega arith; fulls = omega arith; empties = omega arith }
+
+pub GoesOn-same : (b : BoardState) → GoesOn b b
+GoesOn-same b = record { schema = refl; session = refl; alone = refl; known = BeginsWith-same b.word.known; counts = NoneFalls-same b.counts }
+
+pub GoesOn-along : (a b c : BoardState) → GoesOn a b → GoesOn b c → GoesOn a c
+GoesOn-along a b c f g = record {
+  schema = g.schema ∙ f.schema;
+  session = g.session ∙ f.session;
+  alone = g.alone ∙ f.alone;
+  known = BeginsWith-along c.word.known b.word.known a.word.known g.known f.known;
+  counts = NoneFalls-along a.counts b.counts c.counts f.counts g.counts;
+}
+
+-- a count that rose later has risen from before
+pub HasRisen-later : (before middle after : ℕ) → before ≤ middle → HasRisen middle after → HasRisen before after
+HasRisen-later before middle after more risen = omega (arith, more, risen)
+
+-- and one that rose before has risen later
+pub HasRisen-before : (before middle after : ℕ) → HasRisen before middle → middle ≤ after → HasRisen before after
+HasRisen-before before middle after risen more = omega (arith, more, risen)

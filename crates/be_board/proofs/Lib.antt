@@ -1,0 +1,8 @@
+mod Posted
+mod TailChanges
+mod OpenedRows
+mod LocalLists
+mod LocalWords
+mod InOrder
+mod LocalStates
+pub mod Going

@@ -1,0 +1,18 @@
+-- By rising id they are the session's.
+use Rattle.std.proofs.Common.{◌≡◌, [], filter, rules, subst}
+use Rattle.be_model.specs.ByIds.{SayIds, session_rows, is_of, PutsEach}
+use Rattle.be_model.proofs.RisingIds.{Rising-filter, SayIds-filter}
+use Rattle.be_change.specs.History.{live, IsWellFormed}
+use Rattle.be_change.proofs.Grows.{rising_live}
+use Rattle.be_change.proofs.Names.{live_say}
+use Rattle.be_board.proofs.InOrder.{in_order}
+use Rattle.be_board.proofs.local_copy.LocalCopy.mine.Goals as goal
+
+pub returns-clause-found : goal.returns-clause-found
+returns-clause-found g c =
+    let h = c.args.self.now.list in
+    let say : SayIds (live h) = live_say h (subst (λ v. IsWellFormed v.list) c.self.view_is c.self.invariant.0.form.formed) in
+    let none : c.clear.new.self.rows ≡ [] = search rules in
+    let same : g.I.Index.rows c.index.result.now ≡ live h = search rules in
+    in_order (filter (is_of 1) (live h)) c.clear.new.self.rows c.rows_of.new.found.rows c.order.new.self.rows (Rising-filter (is_of 1) (live h) (rising_live h)) (SayIds-filter (is_of 1) (live h) say) none
+    (subst (λ m. PutsEach (session_rows 1 m) c.clear.new.self.rows c.rows_of.new.found.rows) same c.in_ok-rows_of.ensures.found) c.order.ensures.same c.order.ensures.rising

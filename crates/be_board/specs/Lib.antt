@@ -1,0 +1,7 @@
+pub mod Word
+pub mod State
+pub mod Reads
+pub mod Changes
+pub mod Letters
+pub mod LocalCopy
+pub mod Local
