@@ -13,7 +13,9 @@ use Rattle.be_server.specs.declared.status.Status.TheVariants.{Done, Words, Sche
 use Rattle.be_server.specs.Exact.{IsFaultless, IsExact, EndsExactly}
 use Rattle.be_server.specs.Files.{ToldFile, FileReads, IsSchemaOf}
 use Rattle.be_server.specs.Promise.{CommandState, RunEnds, Ends}
-use Rattle.be_server.specs.Words.{Command, run}
+use Rattle.be_io.specs.Sink.{SinkState}
+use Rattle.be_server.specs.Generated.{GenEnds}
+use Rattle.be_server.specs.Words.{Command, run, gen}
 
 -- what is told of the file
 told : (file : ToldFile) (text : List ℕ) (P : List ℕ → Type 0) → file ≡ Some (Some text) → HoldsFile file P → P text
@@ -79,7 +81,15 @@ exact_run U file before after (Split rift) r = absurd r
 exact_run U file before after (Stray stray) r = absurd r
 exact_run U file before after (Shut shade) r = absurd r
 
-pub exact_ends : (c : Option Command) (Untouched : Type 0) (content : Text → ToldFile) (before after : CommandState) (status : Status)
-    → Ends c Untouched content before after status → EndsExactly c content before after status
-exact_ends None U content before after status e = tt
-exact_ends (Some (run schema)) U content before after status e = exact_run U (content schema) before after status e
+exact_gen : (Kept : Type 0) (number subs events : ℕ) (before after : SinkState) (status : Status) → GenEnds Kept number subs events before after status
+    → (HasRisen before.faults after.faults → ⊥) → (status ≡ Done) ⊎ (status ≡ NoMemory)
+exact_gen K number subs events before after Done e quiet = inl refl
+exact_gen K number subs events before after WriteFault e quiet = absurd (quiet e.2.1)
+exact_gen K number subs events before after NoMemory e quiet = inr refl
+exact_gen K number subs events before after _ e quiet = absurd e
+
+pub exact_ends : (c : Option Command) (InputKept OutKept : Type 0) (content : Text → ToldFile) (before after : CommandState) (status : Status)
+    → Ends c InputKept OutKept content before after status → EndsExactly c content before after status
+exact_ends None I O content before after status e = tt
+exact_ends (Some (run schema)) I O content before after status e = exact_run (I × O) (content schema) before after status e
+exact_ends (Some (gen number subs events)) I O content before after status e = exact_gen O number subs events before.link.sink after.link.sink status e.2

@@ -6,3 +6,7 @@ pub mod Exactness
 pub mod Alone
 pub mod Told
 pub mod Ordered
+pub mod ScriptLists
+pub mod Tallies
+pub mod ScriptSteps
+pub mod CountedReplies

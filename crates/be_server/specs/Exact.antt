@@ -12,7 +12,7 @@ use Rattle.be_server.specs.declared.status.Status.{Status}
 use Rattle.be_server.specs.declared.status.Status.TheVariants.{Done, SchemaBad, NoMemory, ReadFault, LongFile}
 use Rattle.be_server.specs.Files.{ToldFile}
 use Rattle.be_server.specs.Promise.{CommandState}
-use Rattle.be_server.specs.Words.{Command, run}
+use Rattle.be_server.specs.Words.{Command, run, gen}
 
 -- no count of faults rose, and the source gave less than 2^40 bytes
 pub record IsFaultless (before after : CommandState) : Type 0 where
@@ -39,7 +39,9 @@ pub record IsExact (file : ToldFile) (before after : CommandState) (status : Sta
   pub complete : (text : List ℕ) (s : Attributes) → file ≡ Some (Some text) → length text ≤ FILE_BYTES
       → schema_of text ≡ Ok s → IsFaultless before after → (status ≡ Done) ⊎ (status ≡ NoMemory)
 
--- for `run` what the file of the schema holds decides
+-- for `run` what the file of the schema holds decides. Where no write failed, all of `gen` is done, want of memory aside
 abbrev pub EndsExactly : Option Command → (Text → ToldFile) → CommandState → CommandState → Status → Type 0
 EndsExactly None content before after status = Unit {0}
 EndsExactly (Some (run schema)) content before after status = IsExact (content schema) before after status
+EndsExactly (Some (gen number subs events)) content before after status =
+    (HasRisen before.link.sink.faults after.link.sink.faults → ⊥) → (status ≡ Done) ⊎ (status ≡ NoMemory)

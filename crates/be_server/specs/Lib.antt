@@ -8,3 +8,5 @@ pub mod Status
 pub mod Files
 pub mod Promise
 pub mod Exact
+pub mod Sums
+pub mod Generated

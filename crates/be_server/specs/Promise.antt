@@ -23,7 +23,8 @@ use Rattle.be_server.specs.declared.session.SessionEnd.TheVariants as ends
 use Rattle.be_server.specs.declared.status.Status.{Status}
 use Rattle.be_server.specs.declared.status.Status.TheVariants.{Done, Words, SchemaBad, NoMemory, ReadFault, LongFile, WriteFault, Spent, Split, Stray, Shut}
 use Rattle.be_server.specs.Files.{ToldFile, FileReads, IsSchemaOf}
-use Rattle.be_server.specs.Words.{Command, run}
+use Rattle.be_server.specs.Generated.{GenEnds}
+use Rattle.be_server.specs.Words.{Command, run, gen}
 
 -- the last line alone is a QUIT, or none is
 abbrev pub QuitsAtEnd : Bool → Attributes → List TextLine → Type 0
@@ -150,8 +151,11 @@ RunEnds Untouched file before after (Split rift) = ⊥
 RunEnds Untouched file before after (Stray stray) = ⊥
 RunEnds Untouched file before after (Shut shade) = ⊥
 
--- how the program ends, by its words, over files of this content. Words without a reading touch nothing
-abbrev pub Ends : Option Command → Type 0 → (Text → ToldFile) → CommandState → CommandState → Status → Type 0
-Ends None Untouched content before after status =
-    ((status ≡ Words) ⊎ (status ≡ NoMemory)) × (after.shelf ≡ before.shelf) × Untouched
-Ends (Some (run schema)) Untouched content before after status = RunEnds Untouched (content schema) before after status
+-- how the program ends, by its words, over files of this content. InputKept and OutKept say that the input and the output are as
+-- they were. Words without a reading touch nothing, and `gen` touches the output alone
+abbrev pub Ends : Option Command → (InputKept OutKept : Type 0) → (Text → ToldFile) → CommandState → CommandState → Status → Type 0
+Ends None InputKept OutKept content before after status =
+    ((status ≡ Words) ⊎ (status ≡ NoMemory)) × (after.shelf ≡ before.shelf) × (InputKept × OutKept)
+Ends (Some (run schema)) InputKept OutKept content before after status = RunEnds (InputKept × OutKept) (content schema) before after status
+Ends (Some (gen number subs events)) InputKept OutKept content before after status =
+    (after.shelf ≡ before.shelf) × InputKept × GenEnds OutKept number subs events before.link.sink after.link.sink status

@@ -9,6 +9,7 @@ ghost use Rattle.be_server.specs.Promise.{command_state, Ends, TakesWithin};
 ghost use Rattle.be_server.specs.Words.{command_of, files};
 ghost use Rattle.be_words.specs.Words.{words_of};
 
+use crate::generated::generate;
 use crate::run::run;
 use crate::status::Status;
 use be_io::{Door, Gate, Link, Shelf, Sink, Source};
@@ -19,7 +20,8 @@ use std::thread::Threads;
 
 /// Reads the words after the program's name, and does what they ask.
 ///
-/// `run SCHEMA` serves one session over `input` and `out`. The door and the gate aren't used yet.
+/// `run SCHEMA` serves one session over `input` and `out`, and `gen NUMBER SUBS EVENTS` writes the sums over a generated
+/// script to `out`. The door and the gate aren't used yet.
 #[tactic(auto, using(crate::proofs::Exactness::exact_ends))]
 pub fn be_main<R, F, S, K, L, D, G>(
     _rt: &R,
@@ -40,7 +42,7 @@ where
     D: Door<L> + Sync,
     G: Gate + Sync,
     // How the command ends: each status with its cause, and with what was read and written.
-    ensures ends { Ends (command_of (words_of words.now)) ((input.new ≡ input.old) × (out.new ≡ out.old)) (F.content shelf.old)
+    ensures ends { Ends (command_of (words_of words.now)) (input.new ≡ input.old) (out.new ≡ out.old) (F.content shelf.old)
         (command_state (F.read_faults shelf.old) (source_state S.Source input.old) (sink_state K.Sink out.old))
         (command_state (F.read_faults shelf.new) (source_state S.Source input.new) (sink_state K.Sink out.new))
         result }
@@ -56,7 +58,7 @@ where
     ensures words { (result ≡ Status.Words → command_of (words_of words.now) ≡ None)
         × (command_of (words_of words.now) ≡ None → (result ≡ Status.Words) ⊎ (result ≡ Status.NoMemory)) }
 
-    // Where memory was wanting, the session hadn't begun, or the output refused a write for want of it.
+    // Where memory was wanting, nothing was written yet, or the output refused a write for want of it.
     ensures memory { result ≡ Status.NoMemory → (HasRisen (K.refusals out.old) (K.refusals out.new) → ⊥)
         → (input.new ≡ input.old) × (out.new ≡ out.old) }
 
@@ -70,8 +72,15 @@ where
     let _ = door;
     match read_words(alloc, words) {
         Ok(Request::Run { schema, load: None }) => run(alloc, schema, shelf, input, out),
-        // These aren't served yet.
-        Ok(Request::Run { load: Some(_), .. } | Request::Gen { .. }) => Status::Words,
+        // It isn't served yet.
+        Ok(Request::Run { load: Some(_), .. }) => Status::Words,
+        Ok(
+            Request::Gen {
+                number,
+                subs,
+                events,
+            },
+        ) => generate(alloc, number, subs, events, out),
         Err(WordsFault::Refused) => Status::Words,
         Err(WordsFault::NoMemory) => Status::NoMemory,
     }

@@ -6,7 +6,10 @@
 //! src/session.rt; specs/Subscriptions says which reply fits the list, and specs/Session what a turn does.
 #![tactic(auto)]
 
+mod counted;
+mod counting;
 mod entry;
+mod generated;
 mod naming;
 mod requests;
 mod run;
@@ -14,6 +17,7 @@ mod session;
 mod short;
 mod status;
 mod subscriptions;
+mod sums;
 
 pub use entry::be_main;
 pub use session::{Session, SessionEnd};

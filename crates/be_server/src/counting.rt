@@ -1,0 +1,81 @@
+//! The script of a workload, served line by line.
+
+ghost use Rattle.std.specs.Prelude.{◌≡◌, [], length, false, OnOk, IfOk};
+ghost use Rattle.be_io.specs.Lines as line;
+ghost use Rattle.be_change.specs.History.{has_left};
+ghost use Rattle.be_transcript.specs.Readings.{reading};
+ghost use Rattle.be_workload.specs.Asked as made;
+ghost use Rattle.be_server.specs.Sums.{published, MayCount, Counts, AreSums, AreCountable};
+
+use crate::counted::CountedBoard;
+use crate::requests::{Request, read_line};
+use crate::sums::Sums;
+use be_base::NoMemory;
+use be_index::Index;
+use be_io::first_line;
+use be_model::Schema;
+use std::alloc::Global;
+
+/// A run so far, and the sums of its replies.
+#[derive(Drop)]
+struct Counting<I: Index> {
+    board: CountedBoard<I>,
+    sums: Sums,
+}
+
+impl<I: Index> Counting<I> {
+    // Answers a line, and counts its reply. Where memory is wanting the sums don't count.
+    fn answer(&mut self, alloc: Global, schema: &Schema, text: &[u8]) -> Result<(), NoMemory>
+        requires going { has_left 1 self.old.board.subscriptions.list ≡ false }
+        requires schema { I.schema self.old.board.subscriptions.index ≡ schema.now }
+        requires may { MayCount schema.now (reading schema.now (line.text text.now)) self.old.board.subscriptions.list self.old.sums }
+        ensures counted { OnOk result (Counts schema.now (reading schema.now (line.text text.now))
+            self.old.board.subscriptions.list self.old.sums self.new.board.subscriptions.list self.new.sums) }
+        ensures schema { I.schema self.new.board.subscriptions.index ≡ I.schema self.old.board.subscriptions.index }
+    {
+        match read_line(alloc, schema, text)? {
+            Request::Subscribe(subscription) => {
+                self.board
+                    .subscribe(alloc, subscription.name, subscription.conj)
+            }
+            Request::Publish(event) => {
+                self.sums.hits += self.board.count_hits(&event)?;
+                Ok(())
+            }
+            Request::Costing(event) => {
+                self.sums.cost = self.sums.cost.plus(self.board.cost(&event));
+                Ok(())
+            }
+            // The script of a workload has no other line.
+            Request::Unsubscribe(_) | Request::Listing | Request::Quit | Request::Refused(_) => {
+                Ok(())
+            }
+        }
+    }
+}
+
+/// Answers each line of a workload's script over an empty board, and sums up the replies.
+pub fn count_script<I: Index>(
+    alloc: Global,
+    board: CountedBoard<I>,
+    schema: &Schema,
+    script: &[u8],
+) -> Result<Sums, NoMemory>
+    requires empty { board.subscriptions.list ≡ [] }
+    requires index { I.schema board.subscriptions.index ≡ schema.now }
+    requires schema { schema.now ≡ made.schema }
+    requires countable { AreCountable (made.asked_by_lines script.now) }
+    ensures { IfOk result (AreSums made.schema (made.asked_by_lines script.now) (length (published (made.asked_by_lines script.now)))) }
+{
+    let mut counting = Counting {
+        board,
+        sums: Sums::none(),
+    };
+    let mut rest = script;
+    while !rest.is_empty() {
+        let (line, after) = first_line(rest);
+        counting.answer(alloc, schema, line)?;
+        rest = after;
+    }
+    Ok(counting.sums)
+}
