@@ -1,6 +1,6 @@
 //! Which call answers a command.
 
-use crate::{acts, log, names, outside, small, texts, values, writes};
+use crate::{acts, log, names, outside, small, tables, texts, values, writes};
 use be_base::{NoMemory, read_count, read_int};
 use be_model::{Schema, Values};
 use std::alloc::Global;
@@ -27,6 +27,7 @@ pub fn answer(alloc: Global, schema: &Schema, command: &str, text: &str) -> Answ
         "change" => texts::change(alloc, schema, bytes),
         "event" => texts::event(alloc, schema, bytes),
         "schema" => texts::schema(alloc, bytes),
+        "table" => tables::table(alloc, schema, bytes),
         "write" => writes::written(alloc, schema, text),
         "name" => small::name(alloc, bytes),
         "tokens" => small::tokens(alloc, bytes),

@@ -10,6 +10,7 @@ mod names;
 mod outside;
 mod rows;
 mod small;
+mod tables;
 mod texts;
 mod values;
 mod writes;

@@ -1,11 +1,15 @@
 //! Mailboxes: letters in order, a full mailbox, and passes that move into threads and back. `Seat` and `Hub` show how
 //! what carries passes is named. `None` and `false` are answers that no test wants.
 
-ghost use Rattle.std.specs.Prelude.{◌≡◌, length, map, IfSome};
+ghost use Rattle.std.specs.Prelude.{◌≡◌, [], ◌∷◌, length, map, All, IfSome, OnOk};
 ghost use Rattle.std.specs.List.{range_with_len};
+ghost use Rattle.std.specs.Thread.{IsSync, IsSend};
 ghost use Rattle.be_model.specs.Letters.{plain_letter};
-ghost use Rattle.be_mail.specs.Letters.{IsFit};
-ghost use Rattle.be_mail.specs.Passes.{new_passes};
+ghost use Rattle.be_mail.specs.Letters.{IsFit, Posting};
+ghost use Rattle.be_mail.specs.Mailbox.{ForEachState};
+ghost use Rattle.be_mail.specs.Passes.{AllPut, new_passes};
+ghost use Rattle.be_mail.specs.Settled.{AreKept, TakenWerePut};
+ghost use Rattle.worked_parts.specs.Early.{IsEarly};
 
 use be_base::{Id, Name, NoMemory, SessionNo};
 use be_event::{read_event, read_schema};
@@ -57,17 +61,18 @@ fn letter(alloc: Global, schema: &Schema, to: u64, id: u64, n: u64) -> Option<Le
     })
 }
 
-/// A seat carries its passes, and its type says of which mail they are.
+/// A seat carries its passes, and its type says of which mail they are, and what holds of the letters that it put.
 #[derive(Drop)]
 struct Seat<N: BoxNames> {
     passes: MailPasses,
     of: PhantomData<N>,
     ghost named: { passes.boxes ≡ N.boxes },
+    ghost early: { AllPut IsEarly passes },
 }
 
 impl<N: BoxNames> Seat<N> {
     fn new(passes: MailPasses) -> Seat<N>
-        requires { passes.boxes ≡ N.boxes }
+        requires { passes ≡ new_passes N.boxes passes.seat }
         ensures { result.passes ≡ passes }
     {
         Seat {
@@ -147,7 +152,32 @@ fn take_all<S: Post, N: BoxNames, R: Wait>(
     (seat, in_order)
 }
 
-// Two threads put, and one of them takes what both put; the passes come back and account for every letter.
+// One thread puts while another takes.
+fn put_and_take<S: Post + Send + Sync, N: BoxNames + Send + Sync, R: Threads + Wait + Sync>(
+    rt: &R,
+    alloc: Global,
+    schema: &Schema,
+    hub: &Hub<S, N>,
+    b: Seat<N>,
+    c: Seat<N>,
+) -> (Option<Seat<N>>, (Seat<N>, bool))
+    requires { (S.schema ≡ schema.now) × (S.seats ≡ 3) }
+    ensures b { IfSome result.0 (λ s. s.passes.seat ≡ b.passes.seat) }
+    ensures c { result.1.0.passes.seat ≡ c.passes.seat }
+{
+    thread::join(
+        rt,
+        move ||
+            requires { (S.schema ≡ schema.now) × (S.seats ≡ 3) }
+            ensures { IfSome result (λ s. s.passes.seat ≡ b.passes.seat) }
+        { put_all(rt, alloc, schema, hub, b, 1) },
+        move ||
+            ensures { result.0.passes.seat ≡ c.passes.seat }
+        { take_all(rt, hub, c) },
+    )
+}
+
+// Two threads put, and a third takes what both put; the passes come back and account for every letter.
 fn exchanged<S: Post + Send + Sync, N: BoxNames + Send + Sync, R: Threads + Wait + Sync>(
     rt: &R,
     alloc: Global,
@@ -172,15 +202,16 @@ fn exchanged<S: Post + Send + Sync, N: BoxNames + Send + Sync, R: Threads + Wait
             ensures { IfSome result (λ s. s.passes.seat ≡ a.passes.seat) }
         { put_all(rt, alloc, schema, hub, a, 0) },
         move ||
-            requires { (S.schema ≡ schema.now) × (S.seats ≡ 3) }
+            requires { IsSync R.row × IsSync S.row × IsSend S.row × IsSync N.row × IsSend N.row × (S.schema ≡ schema.now) × (S.seats ≡ 3) }
             ensures { IfSome result.0 (λ s. s.passes.seat ≡ b.passes.seat) × (result.1.0.passes.seat ≡ c.passes.seat) }
-        { (put_all(rt, alloc, schema, hub, b, 1), take_all(rt, hub, c)) },
+        { put_and_take(rt, alloc, schema, hub, b, c) },
     );
     close(alloc, hub, a?, b?, c).ok()?;
     Some(in_order)
 }
 
-// Joins the passes of three seats, the last first.
+// Joins the passes of three seats, the last first: what was taken and what is queued are the letters that were put, and
+// each letter that was taken was put by the seat that it carries, so what seats say of theirs holds of it.
 fn close<S: Post, N: BoxNames>(
     alloc: Global,
     hub: &Hub<S, N>,
@@ -190,6 +221,9 @@ fn close<S: Post, N: BoxNames>(
 ) -> Result<(), NoMemory>
     requires boxes { length hub.now.mail ≡ 3 }
     requires seats { (a.passes.seat ≡ 0) × (b.passes.seat ≡ 1) × (c.passes.seat ≡ 2) }
+    ensures kept { OnOk result (AreKept S.schema S.seats (c.passes ∷ b.passes ∷ a.passes ∷ [])) }
+    ensures taken { OnOk result (TakenWerePut (c.passes ∷ b.passes ∷ a.passes ∷ [])) }
+    ensures early { OnOk result (All (λ (x : Posting). IsEarly x.letter) c.passes.taken) }
 {
     let mut all = Vec::new(alloc);
     all.push(c.passes)?;
@@ -205,7 +239,7 @@ fn with_three_seats<S: Post + Send + Sync, R: Threads + Wait + Sync>(
     alloc: Global,
     schema: &Schema,
 ) -> Option<bool>
-    requires { (S.schema ≡ schema.now) × (S.seats ≡ 3) }
+    requires { (S.schema ≡ schema.now) × (S.seats ≡ 3) × ForEachState S.found }
 {
     let (mail, passes) = make_mail::<S>(alloc, 3).ok()?;
     exchanged::<S, Brand, _>(rt, alloc, schema, mail, passes)
@@ -239,7 +273,7 @@ fn passed<S: Post, R: Wait>(
     puts: u64,
     fetches: u64,
 ) -> Option<Outcome>
-    requires { (S.schema ≡ schema.now) × (S.seats ≡ 1) }
+    requires { (S.schema ≡ schema.now) × (S.seats ≡ 1) × ForEachState S.found }
 {
     let (mail, mut passes) = make_mail::<S>(alloc, 1).ok()?;
     let mut mine = passes.pop()?;

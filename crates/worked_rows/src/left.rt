@@ -1,6 +1,6 @@
 //! The list of changes that a session leaves: without a QUIT its Bye stands last, however the session ended.
 
-ghost use Rattle.std.specs.Prelude.{Some, []};
+ghost use Rattle.std.specs.Prelude.{◌≡◌, Some, []};
 
 use crate::setting::SCHEMA;
 use be_base::SessionNo;
@@ -19,8 +19,16 @@ const SCRIPT_WITH_QUIT: &[u8] = b"SUB a price >= 10\nQUIT\nPUB price=9\n";
 
 /// A sink that refuses each write for want of memory.
 #[derive(Drop)]
-struct Full {
-    refusals: u64,
+pub struct Full {
+    pub refusals: u64,
+}
+
+impl Full {
+    pub fn make() -> Full
+        ensures { result.refusals ≡ 0 }
+    {
+        Full { refusals: 0 }
+    }
 }
 
 impl Sink for Full {
@@ -102,7 +110,7 @@ fn the_bye_stands_last(rt: HostRuntime) {
 
 #[test]
 fn the_bye_stands_where_the_output_is_full(rt: HostRuntime) {
-    let mut out = Full { refusals: 0 };
+    let mut out = Full::make();
     let leaves = leaves(rt.alloc(), SCRIPT, 0, &mut out, SessionEnd::NoMemory);
     assert!(rt; leaves == Some(true) && out.refusals == 1);
 }

@@ -6,6 +6,8 @@ mod costs;
 #[cfg(test)]
 mod faults;
 #[cfg(test)]
+mod generated;
+#[cfg(test)]
 mod left;
 #[cfg(test)]
 mod limits;

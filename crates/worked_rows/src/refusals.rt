@@ -64,11 +64,7 @@ const WITHOUT_READING: &[&[&str]] = &[
 ];
 
 // Words with a reading that isn't served yet.
-const NOT_SERVED: &[&[&str]] = &[
-    &["run", "S", "--load", "S"],
-    &["run", "--load=-x", "S"],
-    &["gen", "7", "0", "0"],
-];
+const NOT_SERVED: &[&[&str]] = &[&["run", "S", "--load", "S"], &["run", "--load=-x", "S"]];
 
 // Whether the run ends so, untouched, and whether the next ask for the file is refused.
 fn ends<R: Threads + Wait + Sync>(

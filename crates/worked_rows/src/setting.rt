@@ -2,7 +2,7 @@
 
 ghost use Rattle.std.specs.Prelude.{◌<◌};
 
-use be_io::{MemShelf, MemSink, MemSource, NoDoor, NoGate, Pair, Shelf, Source};
+use be_io::{MemShelf, MemSink, MemSource, NoDoor, NoGate, Pair, Shelf, Sink, Source};
 use be_server::{Status, be_main};
 use std::alloc::Global;
 use std::sync::Wait;
@@ -89,23 +89,48 @@ fn input_of(alloc: Global, setting: &Setting) -> Option<MemSource> {
     Some(MemSource::make(script, setting.piece, failing))
 }
 
-/// Runs the program's one call. `None` says that memory ran out here.
-pub fn run<R: Threads + Wait + Sync>(rt: &R, alloc: Global, setting: &Setting) -> Option<Ran> {
-    let failing = vec![in alloc; setting.failing_write].ok()?;
-    let words = strings(alloc, setting.words)?;
-    let mut shelf = shelf_of(alloc, setting)?;
-    let mut input = input_of(alloc, setting)?;
-    let mut out = MemSink::make(alloc, failing);
-    let status = be_main::<_, _, _, _, Peer, _, _>(
+// Runs the program's one call over these objects.
+fn call_over<R: Threads + Wait + Sync, K: Sink>(
+    rt: &R,
+    alloc: Global,
+    words: &[&str],
+    shelf: &mut MemShelf,
+    input: &mut MemSource,
+    out: &mut K,
+) -> Option<Status> {
+    let words = strings(alloc, words)?;
+    let mut door = NoDoor::make();
+    Some(be_main::<_, _, _, _, Peer, _, _>(
         rt,
         alloc,
         words.as_slice(),
-        &mut shelf,
-        &mut input,
-        &mut out,
-        &mut NoDoor::make(),
+        shelf,
+        input,
+        out,
+        &mut door,
         &NoGate,
-    );
+    ))
+}
+
+/// Runs it over this output. `None` says that memory ran out here.
+pub fn call<R: Threads + Wait + Sync, K: Sink>(
+    rt: &R,
+    alloc: Global,
+    setting: &Setting,
+    out: &mut K,
+) -> Option<Status> {
+    let mut shelf = shelf_of(alloc, setting)?;
+    let mut input = input_of(alloc, setting)?;
+    call_over(rt, alloc, setting.words, &mut shelf, &mut input, out)
+}
+
+/// Runs it over an output in memory.
+pub fn run<R: Threads + Wait + Sync>(rt: &R, alloc: Global, setting: &Setting) -> Option<Ran> {
+    let failing = vec![in alloc; setting.failing_write].ok()?;
+    let mut shelf = shelf_of(alloc, setting)?;
+    let mut input = input_of(alloc, setting)?;
+    let mut out = MemSink::make(alloc, failing);
+    let status = call_over(rt, alloc, setting.words, &mut shelf, &mut input, &mut out)?;
     Some(Ran {
         status,
         out: out.take(),

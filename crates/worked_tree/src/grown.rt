@@ -1,6 +1,6 @@
 //! A tree that grows by rows of rising ids.
 
-ghost use Rattle.std.specs.Prelude.{◌≡◌, ◌<◌, ◌+◌, true, nat_lt};
+ghost use Rattle.std.specs.Prelude.{◌≡◌, ◌<◌, ◌+◌, true, nat_lt, OnOk, OnErr};
 ghost use Rattle.std.specs.List.{list_all};
 ghost use Rattle.std.specs.Arc.{arc_value};
 ghost use Rattle.be_base.specs.declared.limits.TheConstants.{LOG_CHANGES};
@@ -47,17 +47,17 @@ impl Grown {
         place_next(&mut self.tree, next, row)
     }
 
-    /// The same, tried a second time with the row that comes back, where memory was wanting.
-    pub(crate) fn put_again(&mut self, row: Arc<Row>) -> bool {
+    /// The same, but the row comes back where memory was wanting, or it can't be placed.
+    pub(crate) fn try_put(&mut self, row: Arc<Row>) -> Result<(), Arc<Row>> {
         if row.id.0 != self.next
             || LOG_CHANGES as u64 <= self.next
             || !row.lies(&self.tree.schema)
         {
-            return false;
+            return Err(row);
         }
-        let next = self.next;
+        place_or_back(&mut self.tree, self.next, row)?;
         self.next += 1;
-        place_again(&mut self.tree, next, row)
+        Ok(())
     }
 
     /// Makes a step.
@@ -93,17 +93,18 @@ fn place_next(tree: &mut Tree, next: u64, row: Arc<Row>) -> bool
     }
 }
 
-// Places a row of the next id, a second time where memory was wanting, and says whether it stands there then.
-fn place_again(tree: &mut Tree, next: u64, row: Arc<Row>) -> bool
+// Places a row of the next id, or hands it back where memory was wanting.
+fn place_or_back(tree: &mut Tree, next: u64, row: Arc<Row>) -> Result<(), Arc<Row>>
     requires below { list_all (λ r. nat_lt r.0 next) (contents (plain tree.old.root)) ≡ true }
     requires id { id_of (arc_value row) ≡ next }
     requires few { next < LOG_CHANGES }
     requires lies { row_lies (arc_value tree.old.schema) (arc_value row) ≡ true }
-    ensures { list_all (λ r. nat_lt r.0 (next + 1)) (contents (plain tree.new.root)) ≡ true }
+    ensures put { OnOk result (list_all (λ r. nat_lt r.0 (next + 1)) (contents (plain tree.new.root)) ≡ true) }
+    ensures back { OnErr result (list_all (λ r. nat_lt r.0 next) (contents (plain tree.new.root)) ≡ true) }
 {
     match place(tree, row) {
-        Ok(()) => true,
-        Err((row, _)) => place_next(tree, next, row),
+        Ok(()) => Ok(()),
+        Err((row, _)) => Err(row),
     }
 }
 

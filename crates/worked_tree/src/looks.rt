@@ -1,7 +1,7 @@
 //! Looks at a tree, beside a plain list.
 
 use crate::plain_walk::{Seen, look};
-use be_base::AttrNo;
+use be_base::{AttrNo, NoMemory};
 use be_match::{cost_of, find_in};
 use be_model::{Event, Found, Row, Values};
 use be_shape::Tree;
@@ -26,7 +26,7 @@ pub(crate) fn cost(alloc: Global, tree: &Tree, values: &[(u16, i64)]) -> Result<
 }
 
 /// Whether the tree has the rows of the list, whose ids rise, each once, and is placed, drawn, pruned and settled.
-pub(crate) fn has_ids(alloc: Global, tree: &Tree, rows: &[Arc<Row>]) -> Result<bool, Fail> {
+pub(crate) fn has_ids(alloc: Global, tree: &Tree, rows: &[Arc<Row>]) -> Result<bool, NoMemory> {
     let mut seen = Seen::make(alloc);
     look(&tree.root, &tree.schema, &mut seen)?;
     seen.ids.sort_unstable();
