@@ -8,7 +8,7 @@ cd "$(dirname "${BASH_SOURCE[0]}")/.." || exit 2
 write=no
 [ "${1-}" != --write ] || { write=yes; shift; }
 scripts=("$@")
-[ $# -gt 0 ] || scripts=(run changes pushes events conditions schemas long_line search mail build)
+[ $# -gt 0 ] || scripts=(run gen changes pushes events conditions schemas long_line search mail build)
 numbers="$(mktemp)"
 trap 'rm -f "$numbers"' EXIT
 

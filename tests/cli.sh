@@ -62,6 +62,10 @@ call run -x; same 'a word that begins with a hyphen' 2 '' 'words refused\n'
 call run -- -x; same 'a separator, and a missing file' 4 '' 'read fault\n'
 call run schema.txt --load schema.txt; same 'a load file, which is not served yet' 2 '' 'words refused\n'
 call run $'\xff'; same 'a word that is no text' 2 '' 'words refused\n'
+call gen 7 1000; same 'gen with two numbers' 2 '' 'words refused\n'
+call gen 7 100001 0; same 'gen over its limit' 2 '' 'words refused\n'
+call gen x 0 0; same 'gen without a number' 2 '' 'words refused\n'
+call gen 18446744073709551616 0 0; same 'gen of a number that is too large' 2 '' 'words refused\n'
 
 # schemas
 call run missing.txt; same 'a missing schema' 4 '' 'read fault\n'
@@ -112,6 +116,12 @@ call run schema.txt; same 'lines about the limit' 0 "LONG\nBAD\n$replies" ''
 printf "$three" | "$program" run schema.txt >out 2>err; code=$?
 same 'input from a pipe' 0 "$replies" ''
 printf "$three" >in
+
+# generated scripts
+call gen 7 1000 200; same 'the sums of a script' 0 'GEN 1000 200 10006 7212 63788\n' ''
+call gen 7 0 0; same 'the sums of an empty script' 0 'GEN 0 0 0 0 0\n' ''
+: >out; "$program" gen 7 0 0 >&- 2>err; code=$?
+same 'sums to a closed output' 5 '' 'write fault\n'
 
 # input and output that fail
 : >out; "$program" run schema.txt <&- >out 2>err; code=$?
@@ -174,7 +184,7 @@ building="justmeadow: building the program, which proves its 3 crates. The log: 
 building+='justmeadow: 1 of 3: low\njustmeadow: 2 of 3: high\n'
 script --help; cp out usage
 same 'the usage' 0 "$(sed 's/%/%%/g' usage)\n" ''
-for words in 'run SCHEMA' 'SUB name condition' 'UNSUB name' 'PUB event' 'COST event' LIST QUIT --help --version --build --unproved; do
+for words in 'run SCHEMA' 'gen NUMBER SUBS EVENTS' 'SUB name condition' 'UNSUB name' 'PUB event' 'COST event' LIST QUIT --help --version --build --unproved; do
     grep -q -- "^    \(./justmeadow \)\?$words" usage || { echo "FAILED: the usage lacks $words"; exit 1; }
 done
 script; same 'the script alone' 2 '' "$(cat usage)\n"
