@@ -78,10 +78,13 @@ fn has_first(alloc: Global, grown: &Grown, rows: &[Arc<Row>], count: usize) -> b
 fn try_again(alloc: Global, grown: &mut Grown, rows: &[Arc<Row>], row: Arc<Row>) -> bool {
     let id = row.id.0;
     let count = id as usize;
+    let Some(after) = count.checked_add(1) else {
+        return false;
+    };
     id == grown.next
         && has_first(alloc, grown, rows, count)
         && grown.try_put(row).is_ok()
-        && has_first(alloc, grown, rows, count + 1)
+        && has_first(alloc, grown, rows, after)
 }
 
 // Places the rows, one of which may come back once.
