@@ -9,6 +9,6 @@ pub place-requires-clause-new : goal.place-requires-clause-new
 place-requires-clause-new c =
     subst (λ n. has_id n (contents (plain c.args.tree.now.root)) ≡ false) (sym c.requires.id) (next_is_new c.args.next (contents (plain c.args.tree.now.root)) c.requires.below)
 
-pub returns-in-Ok-clause-put : goal.returns-in-Ok
+pub returns-in-Ok-clause-put : goal.returns-in-Ok-clause-put
 returns-in-Ok-clause-put c =
     ap (are_below (c.args.next + 1)) c.in-Ok.ensures.put ∙ one_more c.args.next (arc_value c.args.row) (contents (plain c.args.tree.now.root)) c.requires.id c.requires.below
