@@ -7,7 +7,7 @@ use Rattle.be_io.specs.Lines.{text, long, lines}
 use Rattle.be_model.specs.declared.schemas.Domain.TheVariants.{Int}
 use Rattle.be_model.specs.declared.ops.Op.TheVariants.{Lt, Ge, Ne, Between, OneOf}
 use Rattle.be_model.specs.Schemas.{Attributes}
-use Rattle.be_change.specs.Requests.{refused, subscribe, unsubscribe, publish, costing, listing, fetching, tailing, quit, bad, given_twice, too_many, note, refusal, ok, bye, dup, none, hit, cost, listed, sent, notes, dumped, tailed, no_memory}
+use Rattle.be_change.specs.Requests.{refused, subscribe, unsubscribe, publish, costing, listing, sending, fetching, tailing, quit, bad, given_twice, too_many, note, refusal, ok, bye, dup, none, hit, cost, listed, sent, notes, dumped, tailed, no_memory}
 use Rattle.be_change.specs.Requests as asked
 use Rattle.be_change.specs.History.{subscribed, unsubscribed}
 use Rattle.be_change.specs.Made.{row_made}
@@ -94,22 +94,22 @@ a_cost_line : reading example (text (codes "COST price=1")) ≡ costing ((record
 unfolding is_word_byte
 a_cost_line = refl
 
--- commands that aren't read yet
-a_later_send : reading example (text (codes "SEND -")) ≡ refused bad
+-- commands of letters, rows and changes
+a_send : reading example (text (codes "SEND -")) ≡ sending []
 unfolding is_word_byte
-a_later_send = refl
+a_send = refl
 
-a_later_fetch : reading example (text (codes "FETCH 5")) ≡ refused bad
+a_fetch : reading example (text (codes "FETCH 5")) ≡ fetching 5
 unfolding is_word_byte
-a_later_fetch = refl
+a_fetch = refl
 
-a_later_dump : reading example (text (codes "DUMP")) ≡ refused bad
+a_dump : reading example (text (codes "DUMP")) ≡ asked.dumping
 unfolding is_word_byte
-a_later_dump = refl
+a_dump = refl
 
-a_later_tail : reading example (text (codes "TAIL 0 5")) ≡ refused bad
+a_tail : reading example (text (codes "TAIL 0 5")) ≡ tailing 0 5
 unfolding is_word_byte
-a_later_tail = refl
+a_tail = refl
 
 -- what the words after them will ask for
 a_cost : of_event costing example (tokens (codes "price=1")) ≡ costing ((record { 0 = 0 }, pos 1 ∷ []) ∷ [])
@@ -245,10 +245,10 @@ unfolding is_word_byte
 a_quit_among_them free = absurd cc
 
 -- an UNSUB of a live name for which memory was wanting, and one of a name that isn't live
-wanted : RemovalsMayWant [] [] ((subscribe (codes "a") [], ok 1) ∷ (unsubscribe (codes "a"), no_memory) ∷ [])
+wanted : RemovalsMayWant [] 1 [] ((subscribe (codes "a") [], ok 1) ∷ (unsubscribe (codes "a"), no_memory) ∷ [])
 wanted = (tt, (refl, tt))
 
-wanted_for_nothing : RemovalsMayWant [] [] ((subscribe (codes "a") [], ok 1) ∷ (unsubscribe (codes "b"), no_memory) ∷ []) → ⊥
+wanted_for_nothing : RemovalsMayWant [] 1 [] ((subscribe (codes "a") [], ok 1) ∷ (unsubscribe (codes "b"), no_memory) ∷ []) → ⊥
 wanted_for_nothing wants = absurd cc
 
 -- a text that is cut within its last reply, and one that isn't cut

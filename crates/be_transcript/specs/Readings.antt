@@ -1,5 +1,5 @@
 -- What a session's line asks for.
-use Rattle.std.specs.Prelude.{ℕ, ◌&&◌, Bool, true, false, List, [], ◌∷◌, Option, Some, None, Result, Ok, Err, codes, nat_le, if◌then◌else◌}
+use Rattle.std.specs.Prelude.{ℕ, List, [], ◌∷◌, Option, Some, None, Result, Ok, Err, codes, nat_le, if◌then◌else◌}
 use Rattle.be_base.specs.declared.limits.TheConstants.{ASKED}
 use Rattle.be_base.specs.Numbers.{count_of}
 use Rattle.be_base.specs.Text.{Text, same_text, name_of}
@@ -88,44 +88,39 @@ abbrev pub alone : Request → Option (List Lexeme) → Request
 alone r (Some []) = r
 alone r _ = refused bad
 
--- a command's first word, what the words after it ask for, and whether it is read yet
+-- a command's first word, and what the words after it ask for
 pub record Command : Type 0 where
   pub name : Text
   pub asks : Attributes → Option (List Lexeme) → Request
-  pub built : Bool
 
-abbrev pub built : Text → (Attributes → Option (List Lexeme) → Request) → Command
-built name asks = record { name = name; asks = asks; built = true }
-
-abbrev pub unbuilt : Text → (Attributes → Option (List Lexeme) → Request) → Command
-unbuilt name asks = record { name = name; asks = asks; built = false }
+abbrev pub command : Text → (Attributes → Option (List Lexeme) → Request) → Command
+command name asks = record { name = name; asks = asks }
 
 -- the commands of a session's lines
 abbrev pub commands : List Command
 commands =
-    built (codes "SUB") subscription
-    ∷ built (codes "UNSUB") (λ s. removal)
-    ∷ built (codes "PUB") (of_event publish)
-    ∷ built (codes "COST") (of_event costing)
-    ∷ built (codes "LIST") (λ s. alone listing)
-    ∷ unbuilt (codes "SEND") (of_event sending)
-    ∷ unbuilt (codes "FETCH") (λ s. fetch)
-    ∷ unbuilt (codes "DUMP") (λ s. alone dumping)
-    ∷ unbuilt (codes "TAIL") (λ s. tail)
-    ∷ built (codes "QUIT") (λ s. alone quit)
+    command (codes "SUB") subscription
+    ∷ command (codes "UNSUB") (λ s. removal)
+    ∷ command (codes "PUB") (of_event publish)
+    ∷ command (codes "COST") (of_event costing)
+    ∷ command (codes "LIST") (λ s. alone listing)
+    ∷ command (codes "SEND") (of_event sending)
+    ∷ command (codes "FETCH") (λ s. fetch)
+    ∷ command (codes "DUMP") (λ s. alone dumping)
+    ∷ command (codes "TAIL") (λ s. tail)
+    ∷ command (codes "QUIT") (λ s. alone quit)
     ∷ []
 
--- what a command's words ask for. A command that isn't read yet is none
+-- what a command's words ask for. A word that is no command asks nothing
 abbrev pub commanded_by : List Command → Attributes → Text → Option (List Lexeme) → Request
 commanded_by [] s name ts = refused bad
-commanded_by (c ∷ cs) s name ts =
-    if c.built && same_text name c.name then c.asks s ts else commanded_by cs s name ts
+commanded_by (c ∷ cs) s name ts = if same_text name c.name then c.asks s ts else commanded_by cs s name ts
 
 abbrev pub commanded : Attributes → Text → Option (List Lexeme) → Request
 commanded s name ts = commanded_by commands s name ts
 
 abbrev pub request_of : Attributes → Option (List Lexeme) → Request
-request_of s (Some (word command ∷ ts)) = commanded s command (Some ts)
+request_of s (Some (word name ∷ ts)) = commanded s name (Some ts)
 request_of s _ = refused bad
 
 -- what a line asks for, or why it asks nothing

@@ -4,7 +4,8 @@ use Rattle.std.specs.List.{list_all}
 use Rattle.be_io.specs.Lines.{TextLine}
 use Rattle.be_model.specs.Schemas.{Attributes}
 use Rattle.be_change.specs.History.{Entry, IsWellFormed, live, is_live_name}
-use Rattle.be_change.specs.Requests.{Request, unsubscribe, quit, Reply, ok, held, bye, dup, none, other, hit, cost, listed, sent, dumped, tailed, split, no_memory, shut, Exchange}
+use Rattle.be_change.specs.Requests.{Request, unsubscribe, quit, Reply, ok, held, bye, dup, none, other, hit, cost, listed, sent, dumped, tailed, split, no_memory, shut, Note, Exchange}
+use Rattle.be_change.specs.Box.{KeepsBox}
 use Rattle.be_change.specs.Walk.{accepted}
 use Rattle.be_change.specs.Made.{made}
 use Rattle.be_transcript.specs.Readings.{reading}
@@ -53,23 +54,26 @@ RemovalMayWant h (unsubscribe name, no_memory) = is_live_name name (live h) ≡ 
 RemovalMayWant h _ = Unit {0}
 
 -- the same of each exchange, over the list that those before it made
-abbrev pub RemovalsMayWant : List Entry → (before : List Exchange) → List Exchange → Type 0
-RemovalsMayWant opening before [] = Unit {0}
-RemovalsMayWant opening before (p ∷ ps) =
-    RemovalMayWant (made opening 1 before) p × RemovalsMayWant opening (before ++ p ∷ []) ps
+abbrev pub RemovalsMayWant : (opening : List Entry) (k : ℕ) (before : List Exchange) → List Exchange → Type 0
+RemovalsMayWant opening k before [] = Unit {0}
+RemovalsMayWant opening k before (p ∷ ps) =
+    RemovalMayWant (made opening k before) p × RemovalsMayWant opening k (before ++ p ∷ []) ps
 
--- what is more known of replies where one session is alone
-pub record AreAlone (opening : List Entry) (ps : List Exchange) : Type 0 where
+-- what is more known of replies where session k is alone behind an opening
+pub record AreAlone (opening : List Entry) (k : ℕ) (ps : List Exchange) : Type 0 where
   pub plain : list_all (λ (p : Exchange). comes_in_run (is_opened opening) p.1) ps ≡ true
   pub counts : TellsCounts (length opening) ps
-  pub removals : RemovalsMayWant opening [] ps
+  pub removals : RemovalsMayWant opening k [] ps
 
 -- the exchanges of a run with one session, number 1, over the opening and what they make
 pub record AreRun (s : Attributes) (opening : List Entry) (ls : List TextLine) (ps : List Exchange) : Type 0 where
   -- each line has its reply, legal over that list
   pub exchanges : AreExchanges s 1 (length opening) (made opening 1 ps) ls ps
   pub formed : IsWellFormed (made opening 1 ps)
-  pub alone : AreAlone opening ps
+  pub alone : AreAlone opening 1 ps
+  -- letters are put into its box and taken out of it
+  pub box : List Note
+  pub boxed : KeepsBox (made opening 1 ps) ps [] box
 
 abbrev pub is_quit : Request → Bool
 is_quit quit = true
