@@ -1,0 +1,13 @@
+pub mod Requests
+pub mod Short
+pub mod Texts
+pub mod Bearing
+pub mod Ends
+pub mod Tied
+pub mod Given
+pub mod Served
+pub mod Steps
+pub mod Changes
+pub mod Reads
+pub mod Fetching
+pub mod Turns

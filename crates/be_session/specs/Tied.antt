@@ -1,0 +1,49 @@
+-- What a session's replies owe the counts of its board.
+use Rattle.std.specs.Prelude.{ℕ, ◌-◌, Bool, true, false, List, length, filter, take, nat_lt}
+use Rattle.std.specs.List.{sum_by}
+use Rattle.be_base.specs.Counts.{HasRisenBy}
+use Rattle.be_change.specs.History.{Entry, is_of, hit_rows}
+use Rattle.be_change.specs.Requests.{fetching, sending, hit, cost, listed, sent, notes, dumped, tailed, split, shut, Exchange}
+use Rattle.be_board.specs.State.{BoardCounts}
+
+-- the reply tells what a read found
+abbrev pub is_read : Exchange → Bool
+is_read (r, hit n names) = true
+is_read (r, cost n c) = true
+is_read (r, listed n names) = true
+is_read (r, sent n put dropped) = true
+is_read (r, dumped n rows) = true
+is_read (r, tailed n place entries) = true
+is_read (r, _) = false
+
+-- the reply says that a read was refused an entry
+abbrev pub is_shut : Exchange → Bool
+is_shut (r, shut) = true
+is_shut (r, _) = false
+
+-- the reply tells two numbers that differ
+abbrev pub is_split : Exchange → Bool
+is_split (r, split a b) = true
+is_split (r, _) = false
+
+-- FETCH was given fewer letters than it asked for
+abbrev pub is_short : Exchange → Bool
+is_short (fetching max, notes letters) = nat_lt (length letters) max
+is_short (r, _) = false
+
+-- how many letters of a SEND were dropped beside those for rows of session 0
+abbrev pub full_letters : List Entry → Exchange → ℕ
+full_letters h (sending e, sent n put dropped) = dropped - length (filter (is_of 0) (hit_rows (take n h) e))
+full_letters h (r, _) = 0
+
+-- of these replies, and of those that were written whole, no more tell of a read, an entry that was refused, two numbers
+-- that differ, or an empty mailbox, than the board counted
+pub record Tied (ps whole : List Exchange) (before after : BoardCounts) : Type 0 where
+  pub reads : HasRisenBy (length (filter is_read ps)) before.reads after.reads
+  pub shuts : HasRisenBy (length (filter is_shut ps)) before.shuts after.shuts
+  pub splits : HasRisenBy (length (filter is_split ps)) before.splits after.splits
+  pub empties : HasRisenBy (length (filter is_short whole)) before.empties after.empties
+
+-- over this list no more letters found their mailbox full than the board counted
+abbrev pub TiedFull : List Entry → List Exchange → BoardCounts → BoardCounts → Type 0
+TiedFull h ps before after = HasRisenBy (sum_by (full_letters h) ps) before.fulls after.fulls

@@ -1,0 +1,66 @@
+//! SEND and FETCH: letters to the sessions of live rows.
+
+ghost use Rattle.std.specs.Prelude.{◌≡◌, ◌++◌, true, None, codes};
+ghost use Rattle.be_model.specs.Lies.{event_lies};
+ghost use Rattle.be_io.specs.Outside.{sink_state};
+ghost use Rattle.be_io.specs.Sink.{Wrote};
+ghost use Rattle.be_transcript.specs.Replies.{number, with_lf};
+ghost use Rattle.be_change.specs.Requests as asked;
+ghost use Rattle.be_session.specs.Short.{plain_reply};
+ghost use Rattle.be_session.specs.Steps.{Replies, Answered};
+ghost use Rattle.be_session.specs.Ends.{end_after};
+
+use crate::noting::send_note;
+use crate::room::Room;
+use crate::short::{Short, end_text};
+use be_board::{Board, Sent};
+use be_io::{Sink, SinkFault, write_all};
+use be_model::{Event, Schema};
+use std::alloc::Global;
+
+impl Room {
+    /// Sends the event to the session of each live row that it satisfies.
+    pub fn send<B: Board>(&mut self, alloc: Global, board: &mut B, event: &Event) -> Short
+        requires lies { event_lies (B.state board.old).schema event.now ≡ true }
+        ensures replies { Replies (B.state board.old).schema
+            (asked.sending event.now, plain_reply result) (B.state board.old) (B.state board.new) }
+    {
+        match board.send(alloc, event, &mut self.found) {
+            Ok(Sent { n, put, dropped }) => Short::Sent { n, put, dropped },
+            Err(refused) => Short::from(refused),
+        }
+    }
+}
+
+/// Writes the session's next letters, at most `max`, each as soon as it is taken.
+pub fn fetch<B: Board, K: Sink>(
+    schema: &Schema,
+    board: &mut B,
+    max: u64,
+    out: &mut K,
+) -> Result<(), SinkFault>
+    requires schema { (B.state board.old).schema ≡ schema.now }
+    ensures answered { Answered schema.now (asked.fetching max) (B.state board.old) (B.state board.new)
+        (sink_state K.Sink out.old) (sink_state K.Sink out.new) result (λ reply. end_after (asked.fetching max) reply ≡ None) }
+    ensures beside { K.kept_by_write out.new ≡ K.kept_by_write out.old }
+{
+    let mut count: u64 = 0;
+    'letters: loop {
+        if count == max {
+            return say_end(out, count);
+        }
+        let Some(letter) = board.fetch() else {
+            return say_end(out, count);
+        };
+        send_note(out, schema, &letter)?;
+        count += 1;
+    }
+}
+
+// Writes the last line of the reply to a FETCH that was given so many letters.
+fn say_end<K: Sink>(out: &mut K, count: u64) -> Result<(), SinkFault>
+    ensures wrote { Wrote (sink_state K.Sink out.old) (sink_state K.Sink out.new) (with_lf (codes "END" ++ number count)) result }
+    ensures beside { K.kept_by_write out.new ≡ K.kept_by_write out.old }
+{
+    write_all(out, end_text(count).as_str().as_bytes())
+}
