@@ -10,7 +10,9 @@ mod edits;
 mod keys;
 mod live;
 mod places;
+mod reads;
 mod register;
+mod tails;
 mod wanted;
 
 pub use copies::Copy2;

@@ -1,0 +1,78 @@
+//! What is read of a copy: live rows by rising id, what a search costs, and the changes from a place on.
+
+ghost use Rattle.std.specs.Prelude.{◌≡◌, ◌++◌, [], true, OnOk, OnErr, IfOk};
+ghost use Rattle.be_model.specs.Bounds.{IsWithinBound};
+ghost use Rattle.be_model.specs.ByIds.{rows_of, session_rows};
+ghost use Rattle.be_model.specs.Lies.{event_lies};
+ghost use Rattle.be_change.specs.Entries.{entries_in};
+ghost use Rattle.be_change.specs.History.{live, hit_rows};
+ghost use Rattle.be_change.specs.Walk.{live_rows, tail_from};
+
+use crate::copies::Copy2;
+use crate::tails::put_tail;
+use be_base::{NoMemory, SessionNo};
+use be_index::Index;
+use be_model::{Change, Cost, Event, Found};
+use std::sync::Arc;
+
+impl<I: Index> Copy2<I> {
+    /// Finds the live rows that the event satisfies, by rising id, by one search.
+    pub fn find(&self, event: &Event, found: &mut Found) -> Result<Cost, NoMemory>
+        requires { event_lies (I.schema self.now.index) event.now ≡ true }
+        ensures found { OnOk result (found.new.rows ≡ rows_of (hit_rows self.now.list event.now)) }
+        ensures none { OnErr result (found.new.rows ≡ []) }
+        ensures cost { IfOk result (λ cost. cost ≡ I.cost_of self.now.index event.now) }
+        ensures bound { IfOk result (λ cost. I.is_bounded self.now.index ≡ true → IsWithinBound (I.schema self.now.index) event.now (live_rows self.now.list) cost) }
+    {
+        let index = self.index();
+        // That ids rise comes to light at the number of rows.
+        let _ = index.len();
+        found.clear();
+        let cost = index.find(event, found)?;
+        found.order();
+        Ok(cost)
+    }
+
+    /// What a search for the event costs. It takes no memory.
+    pub fn cost(&self, event: &Event) -> Cost
+        requires { event_lies (I.schema self.now.index) event.now ≡ true }
+        ensures exact { result ≡ I.cost_of self.now.index event.now }
+        ensures bound { I.is_bounded self.now.index ≡ true → IsWithinBound (I.schema self.now.index) event.now (live_rows self.now.list) result }
+    {
+        self.index().cost(event)
+    }
+
+    /// Finds the session's live rows, by rising id.
+    pub fn rows_of(&self, session: SessionNo, found: &mut Found) -> Result<(), NoMemory>
+        ensures found { OnOk result (found.new.rows ≡ session_rows session.0 (live self.now.list)) }
+        ensures none { OnErr result (found.new.rows ≡ []) }
+    {
+        let index = self.index();
+        let _ = index.len();
+        found.clear();
+        index.rows_of(session, found)?;
+        found.order();
+        Ok(())
+    }
+
+    /// Finds all live rows, by rising id.
+    pub fn all(&self, found: &mut Found) -> Result<(), NoMemory>
+        ensures found { OnOk result (found.new.rows ≡ live_rows self.now.list) }
+        ensures none { OnErr result (found.new.rows ≡ []) }
+    {
+        let index = self.index();
+        let _ = index.len();
+        found.clear();
+        index.all(found)?;
+        found.order();
+        Ok(())
+    }
+
+    /// Appends the changes from the place `from` on, at most `max`, or none.
+    pub fn tail(&self, from: u64, max: u64, changes: &mut Vec<Arc<Change>>) -> Result<(), NoMemory>
+        ensures put { OnOk result (entries_in changes.new.items ≡ entries_in changes.old.items ++ tail_from from max self.now.list) }
+        ensures refused { OnErr result (changes.new.items ≡ changes.old.items) }
+    {
+        put_tail(self.log(), from, max, changes)
+    }
+}
