@@ -1,0 +1,4 @@
+pub mod Adding
+pub mod Pending
+mod Openings
+mod CoreReads

@@ -1,0 +1,5 @@
+pub mod Histories
+pub mod Notes
+pub mod States
+pub mod Reads
+pub mod Core

@@ -1,0 +1,290 @@
+//! A reader.
+
+ghost use Rattle.std.specs.Prelude.{◌≡◌, ◌≢◌, ◌++◌, ◌↔◌, [], true, length, max, None, Ok, Err, IfOk, IfErr, IfSome, OnOk, OnErr, MatchResult, if◌then◌else◌};
+ghost use Rattle.std.specs.Option.{IfNone};
+ghost use Rattle.be_base.specs.Lists.{BeginsWith};
+ghost use Rattle.be_model.specs.Bounds.{IsWithinBound};
+ghost use Rattle.be_model.specs.ByIds.{rows_of, session_rows};
+ghost use Rattle.be_model.specs.Lies.{event_lies};
+ghost use Rattle.be_change.specs.Entries.{entries_in};
+ghost use Rattle.be_change.specs.History.{live, hit_rows};
+ghost use Rattle.be_change.specs.Sound.{Sound};
+ghost use Rattle.be_change.specs.Walk.{live_rows, tail_from};
+ghost use Rattle.be_published.specs.Reads.{Meets, IsReadAt, Refuses, after_plan, Learns};
+ghost use Rattle.be_published.specs.States.{knowing, one_shut, one_read, one_none, one_plan, new_glass};
+
+use crate::front::Front;
+use crate::history::Naming;
+use crate::shade::Shade;
+use crate::sheet::Sheet;
+use crate::told::Told;
+use be_base::{NoMemory, NoRead, SessionNo};
+use be_model::{Change, Cost, Event, Found, Step};
+use crossbeam_utils::rule::Unruled;
+use left_right::reader::{Reader, Reading};
+use std::marker::Model;
+use std::sync::{Arc, Wait};
+
+/// The copy that was entered.
+type Entered<T> = Reading<T, (), Unruled>;
+
+/// A reader of the published copy. No call of it but `meet` takes a lock or may wait. Contracts see the longest list that it
+/// has seen or learnt, and what it counted.
+#[derive(Drop)]
+pub struct Glass<T: Sheet<J>, J: Naming> {
+    // It is away while a copy is entered.
+    reader: Option<Reader<T, (), Unruled>>,
+    front: Front<J>,
+    shuts: u64,
+    reads: u64,
+    nones: u64,
+    plans: u64,
+}
+
+impl<T: Sheet<J>, J: Naming> Model for Glass<T, J> {
+    ghost use Rattle.be_published.specs.States.{GlassState};
+
+    ghost Value = { GlassState };
+
+    ghost view = { λ g. record { known = g.front; shuts = g.shuts; reads = g.reads; nones = g.nones; plans = g.plans } };
+}
+
+impl<T: Sheet<J>, J: Naming> Glass<T, J> {
+    pub(crate) fn over(reader: Reader<T, (), Unruled>, front: Front<J>) -> Glass<T, J>
+        ensures { result ≡ new_glass front }
+    {
+        Glass {
+            reader: Some(reader),
+            front,
+            shuts: 0,
+            reads: 0,
+            nones: 0,
+            plans: 0,
+        }
+    }
+
+    /// The greatest length that was answered or learnt.
+    pub fn front(&self) -> u64
+        ensures front { result ≡ length self.now.known }
+        ensures sound { Sound J.schema self.now.known }
+    {
+        self.front.len()
+    }
+
+    /// Takes in what was published when it was told.
+    pub fn learn(&mut self, told: Told<J>)
+        ensures counts { self.new ≡ knowing self.new.known self.old }
+        ensures learns { Learns self.old.known told self.new.known }
+        ensures longer { length self.new.known ≡ max (length self.old.known) (length told) }
+    {
+        let Told { front } = told;
+        if self.front.len() < front.len() {
+            self.front.begins(&front);
+            self.front = front;
+        } else {
+            front.begins(&self.front);
+        }
+    }
+
+    /// Finds the live rows that the event satisfies, by rising id, by one search, and says in which first changes.
+    pub fn find(&mut self, event: &Event, found: &mut Found) -> Result<(u64, Cost), NoRead>
+        requires lies { event_lies J.schema event.now ≡ true }
+        ensures read { IfOk result (λ r. IsReadAt self.old self.new r.0) }
+        ensures found { OnOk result (found.new.rows ≡ rows_of (hit_rows self.new.known event.now)) }
+        ensures bound { IfOk result (λ r. IsWithinBound J.schema event.now (live_rows self.new.known) r.1) }
+        ensures refused { IfErr result (Refuses self.old self.new) }
+        ensures none { OnErr result (found.new.rows ≡ []) }
+    {
+        found.clear();
+        let Some(entered) = self.enter() else {
+            return Err(self.refuse());
+        };
+        let done = entered.get().find(event, found);
+        self.answer(entered, done)
+    }
+
+    /// What a search for the event costs. It takes no memory.
+    pub fn cost(&mut self, event: &Event) -> Result<(u64, Cost), NoRead>
+        requires lies { event_lies J.schema event.now ≡ true }
+        ensures read { IfOk result (λ r. IsReadAt self.old self.new r.0) }
+        ensures bound { IfOk result (λ r. IsWithinBound J.schema event.now (live_rows self.new.known) r.1) }
+        ensures refused { IfErr result (Refuses self.old self.new) }
+        ensures memory { result ≢ Err NoRead.NoMemory }
+    {
+        let Some(entered) = self.enter() else {
+            return Err(self.refuse());
+        };
+        let cost = entered.get().cost(event);
+        Ok((self.read(entered), cost))
+    }
+
+    /// Finds the session's live rows, by rising id.
+    pub fn mine(&mut self, session: SessionNo, found: &mut Found) -> Result<u64, NoRead>
+        ensures read { IfOk result (IsReadAt self.old self.new) }
+        ensures found { OnOk result (found.new.rows ≡ session_rows session.0 (live self.new.known)) }
+        ensures refused { IfErr result (Refuses self.old self.new) }
+        ensures none { OnErr result (found.new.rows ≡ []) }
+    {
+        found.clear();
+        let Some(entered) = self.enter() else {
+            return Err(self.refuse());
+        };
+        let done = entered.get().rows_of(session, found);
+        Ok(self.answer(entered, done)?.0)
+    }
+
+    /// Finds all live rows, by rising id.
+    pub fn all(&mut self, found: &mut Found) -> Result<u64, NoRead>
+        ensures read { IfOk result (IsReadAt self.old self.new) }
+        ensures found { OnOk result (found.new.rows ≡ live_rows self.new.known) }
+        ensures refused { IfErr result (Refuses self.old self.new) }
+        ensures none { OnErr result (found.new.rows ≡ []) }
+    {
+        found.clear();
+        let Some(entered) = self.enter() else {
+            return Err(self.refuse());
+        };
+        let done = entered.get().all(found);
+        Ok(self.answer(entered, done)?.0)
+    }
+
+    /// Appends the changes from the place `from` on, at most `max`.
+    pub fn tail(
+        &mut self,
+        from: u64,
+        max: u64,
+        changes: &mut Vec<Arc<Change>>,
+    ) -> Result<u64, NoRead>
+        ensures read { IfOk result (IsReadAt self.old self.new) }
+        ensures put { OnOk result (entries_in changes.new.items ≡ entries_in changes.old.items ++ tail_from from max self.new.known) }
+        ensures refused { IfErr result (Refuses self.old self.new) }
+        ensures kept { OnErr result (changes.new.items ≡ changes.old.items) }
+    {
+        let Some(entered) = self.enter() else {
+            return Err(self.refuse());
+        };
+        let done = entered.get().tail(from, max, changes);
+        Ok(self.answer(entered, done)?.0)
+    }
+
+    /// The step that reshapes the published copy next, where there is one.
+    pub fn plan(&mut self) -> Result<Option<Step>, NoRead>
+        ensures counted { IfOk result (λ step. self.new ≡ after_plan self.old step) }
+        ensures refused { IfErr result (Refuses self.old self.new) }
+    {
+        let Some(entered) = self.enter() else {
+            return Err(self.refuse());
+        };
+        let done = entered.get().plan();
+        self.leave(entered);
+        match done {
+            Ok(step) => {
+                self.count_plan(step.is_some());
+                Ok(step)
+            }
+            Err(NoMemory) => Err(NoRead::NoMemory),
+        }
+    }
+
+    /// Enters the published copy, again and again until it is let in, and gives its length. It may wait. It takes no memory.
+    pub fn meet<R: Wait>(&mut self, rt: &R) -> u64
+        ensures { Meets self.old self.new result }
+    {
+        for _ in rt.forever() {
+            if let Some(entered) = self.enter() {
+                return self.see(entered);
+            }
+        }
+        unreachable!()
+    }
+
+    /// What shows that an entry was refused, where one was.
+    pub fn shade(&self) -> Option<Shade>
+        ensures { (result ≡ None) ↔ (self.now.shuts ≡ 0) }
+    {
+        Shade::of(self.shuts)
+    }
+
+    // Enters the published copy. A copy that is older than what is known is left again.
+    fn enter(&mut self) -> Option<Entered<T>>
+        ensures same { self.new ≡ self.old }
+        ensures begins { IfSome result (λ entered. BeginsWith (T.list entered.part.value) self.old.known) }
+    {
+        match self.reader.take()?.enter_as::<Unruled>() {
+            Err(reader) => {
+                self.reader = Some(reader);
+                None
+            }
+            Ok(entered) => {
+                let front = entered.get().front();
+                if front.len() < self.front.len() {
+                    self.reader = Some(entered.leave());
+                    return None;
+                }
+                self.front.begins(front);
+                Some(entered)
+            }
+        }
+    }
+
+    fn leave(&mut self, entered: Entered<T>)
+        ensures { self.new ≡ self.old }
+    {
+        self.reader = Some(entered.leave());
+    }
+
+    // Leaves the copy. Its list is known from now on.
+    fn see(&mut self, entered: Entered<T>) -> u64
+        ensures known { self.new ≡ knowing (T.list entered.part.value) self.old }
+        ensures length { result ≡ length (T.list entered.part.value) }
+    {
+        let front = entered.get().front().again();
+        self.reader = Some(entered.leave());
+        self.front = front;
+        self.front.len()
+    }
+
+    // The same, of a read that is answered.
+    fn read(&mut self, entered: Entered<T>) -> u64
+        ensures known { self.new ≡ one_read (T.list entered.part.value) self.old }
+        ensures length { result ≡ length (T.list entered.part.value) }
+    {
+        let n = self.see(entered);
+        self.reads = self.reads.saturating_add(1);
+        n
+    }
+
+    fn answer<X>(
+        &mut self,
+        entered: Entered<T>,
+        done: Result<X, NoMemory>,
+    ) -> Result<(u64, X), NoRead>
+        ensures { MatchResult done (λ x. (result ≡ Ok (length (T.list entered.part.value), x)) × (self.new ≡ one_read (T.list entered.part.value) self.old)) (λ _. (result ≡ Err NoRead.NoMemory) × (self.new ≡ self.old)) }
+    {
+        match done {
+            Ok(x) => Ok((self.read(entered), x)),
+            Err(NoMemory) => {
+                self.leave(entered);
+                Err(NoRead::NoMemory)
+            }
+        }
+    }
+
+    fn refuse(&mut self) -> NoRead
+        ensures counted { self.new ≡ one_shut self.old }
+        ensures shut { result ≡ NoRead.Shut }
+    {
+        self.shuts = self.shuts.saturating_add(1);
+        NoRead::Shut
+    }
+
+    fn count_plan(&mut self, found: bool)
+        ensures { self.new ≡ (if found then one_plan self.old else one_none self.old) }
+    {
+        if found {
+            self.plans = self.plans.saturating_add(1);
+        } else {
+            self.nones = self.nones.saturating_add(1);
+        }
+    }
+}

@@ -1,0 +1,122 @@
+//! A copy beside the beginning of the history that its list is.
+
+ghost use Rattle.std.specs.Prelude.{◌≡◌, [], true, MatchResult};
+ghost use Rattle.be_published.specs.Notes.{noted};
+
+use crate::front::Front;
+use crate::history::Naming;
+use crate::notes::Note;
+use crate::sheet::Sheet;
+use be_base::{NoMemory, SessionNo};
+use be_copy::{Copy2, Edit};
+use be_index::Index;
+use be_model::{Change, Cost, Event, Found, Step};
+use left_right::Absorb;
+use std::alloc::{AllocError, Global};
+use std::marker::Model;
+use std::sync::Arc;
+
+/// A copy that names the beginning of the history that its list is. Contracts see it as its list.
+#[derive(Drop)]
+pub struct Page<I: Index, J: Naming> {
+    copy: Copy2<I>,
+    front: Front<J>,
+}
+
+impl<I: Index, J: Naming> Model for Page<I, J> {
+    ghost use Rattle.std.specs.Prelude.{◌≡◌, List, true};
+    ghost use Rattle.be_change.specs.History.{Entry};
+
+    ghost Value = { List Entry };
+
+    ghost view = { λ p. p.copy.list };
+
+    ghost invariant = { λ p. (p.front ≡ p.copy.list) × (I.schema p.copy.index ≡ J.schema) × (I.is_bounded p.copy.index ≡ true) };
+}
+
+impl<I: Index, J: Naming> Page<I, J> {
+    /// A copy of no changes. It takes no memory.
+    pub(crate) fn make(alloc: Global, index: I, front: Front<J>) -> Page<I, J>
+        requires empty { I.rows index ≡ [] }
+        requires schema { I.schema index ≡ J.schema }
+        requires bounded { I.is_bounded index ≡ true }
+        requires first { front ≡ [] }
+        ensures { result ≡ [] }
+    {
+        Page {
+            copy: Copy2::make(alloc, index),
+            front,
+        }
+    }
+
+    /// Takes in a note whole, or nothing of it. A change that isn't the next is passed over.
+    pub(crate) fn take_in(&mut self, note: &Note<J>) -> Result<(), NoMemory>
+        ensures { MatchResult result (λ _. self.new ≡ noted self.old note.now) (λ _. self.new ≡ self.old) }
+    {
+        match &note.edit {
+            Edit::Reshape(_) => {
+                let _done = self.copy.absorb(&note.edit);
+                Ok(())
+            }
+            Edit::Change(_) => {
+                let (here, there) = (self.front.len(), note.front.len());
+                if there < here || there - here != 1 {
+                    return Ok(());
+                }
+                self.front.begins(&note.front);
+                self.copy.absorb(&note.edit)?;
+                self.front = note.front.again();
+                Ok(())
+            }
+        }
+    }
+}
+
+impl<I: Index, J: Naming> Absorb<Note<J>> for Page<I, J> {
+    type State = Page<I, J>;
+
+    ghost state = { λ p. p };
+
+    ghost applied = { noted };
+
+    fn absorb_first(&mut self, note: &Note<J>, _other: &Page<I, J>) -> Result<(), AllocError> {
+        match self.take_in(note) {
+            Ok(()) => Ok(()),
+            Err(NoMemory) => Err(AllocError),
+        }
+    }
+}
+
+impl<I: Index, J: Naming> Sheet<J> for Page<I, J> {
+    ghost list = { λ p. p };
+
+    ghost follows = { λ x y notes e. e };
+
+    fn front(&self) -> &Front<J> {
+        &self.front
+    }
+
+    fn find(&self, event: &Event, found: &mut Found) -> Result<Cost, NoMemory> {
+        self.copy.find(event, found)
+    }
+
+    fn cost(&self, event: &Event) -> Cost {
+        self.copy.cost(event)
+    }
+
+    fn rows_of(&self, session: SessionNo, found: &mut Found) -> Result<(), NoMemory> {
+        self.copy.rows_of(session, found)
+    }
+
+    fn all(&self, found: &mut Found) -> Result<(), NoMemory> {
+        self.copy.all(found)
+    }
+
+    fn tail(&self, from: u64, max: u64, changes: &mut Vec<Arc<Change>>) -> Result<(), NoMemory> {
+        self.copy.tail(from, max, changes)
+    }
+
+    fn plan(&self) -> Result<Option<Step>, NoMemory> {
+        self.copy.index().plan()
+    }
+}

@@ -1,0 +1,60 @@
+//! A copy, as the writer and the readers see it.
+
+ghost use Rattle.std.specs.Prelude.{◌≡◌, ◌++◌, [], true, List, Option, fold, OnOk, OnErr, IfOk};
+ghost use Rattle.be_model.specs.Bounds.{IsWithinBound};
+ghost use Rattle.be_model.specs.ByIds.{rows_of, session_rows};
+ghost use Rattle.be_model.specs.Lies.{event_lies};
+ghost use Rattle.be_change.specs.Entries.{entries_in};
+ghost use Rattle.be_change.specs.History.{Entry, live, hit_rows};
+ghost use Rattle.be_change.specs.Walk.{live_rows, tail_from};
+ghost use Rattle.be_published.specs.Notes.{noted};
+
+use crate::front::Front;
+use crate::history::Naming;
+use crate::notes::Note;
+use be_base::{NoMemory, SessionNo};
+use be_model::{Change, Cost, Event, Found, Step};
+use left_right::Absorb;
+use std::sync::Arc;
+
+/// A copy that the writer shows to readers. Contracts see of it its list. The writer and the readers take it as a
+/// parameter: a field of theirs can't name a `Page` of any index.
+pub trait Sheet<J: Naming>: Absorb<Note<J>> + Drop {
+    ghost list: { Self → List Entry };
+
+    /// The beginning of the history that its list is.
+    fn front(&self) -> &Front<J>
+        ensures { result.now ≡ list self.now };
+
+    /// Finds the live rows that the event satisfies, by rising id, by one search.
+    fn find(&self, event: &Event, found: &mut Found) -> Result<Cost, NoMemory>
+        requires { event_lies J.schema event.now ≡ true }
+        ensures found { OnOk result (found.new.rows ≡ rows_of (hit_rows (list self.now) event.now)) }
+        ensures bound { IfOk result (IsWithinBound J.schema event.now (live_rows (list self.now))) }
+        ensures none { OnErr result (found.new.rows ≡ []) };
+
+    fn cost(&self, event: &Event) -> Cost
+        requires { event_lies J.schema event.now ≡ true }
+        ensures { IsWithinBound J.schema event.now (live_rows (list self.now)) result };
+
+    /// Finds the session's live rows, by rising id.
+    fn rows_of(&self, session: SessionNo, found: &mut Found) -> Result<(), NoMemory>
+        ensures found { OnOk result (found.new.rows ≡ session_rows session.0 (live (list self.now))) }
+        ensures none { OnErr result (found.new.rows ≡ []) };
+
+    /// Finds all live rows, by rising id.
+    fn all(&self, found: &mut Found) -> Result<(), NoMemory>
+        ensures found { OnOk result (found.new.rows ≡ live_rows (list self.now)) }
+        ensures none { OnErr result (found.new.rows ≡ []) };
+
+    /// Appends the changes from the place `from` on, at most `max`, or none.
+    fn tail(&self, from: u64, max: u64, changes: &mut Vec<Arc<Change>>) -> Result<(), NoMemory>
+        ensures put { OnOk result (entries_in changes.new.items ≡ entries_in changes.old.items ++ tail_from from max (list self.now)) }
+        ensures refused { OnErr result (changes.new.items ≡ changes.old.items) };
+
+    /// The step that is to be made next, where there is one.
+    fn plan(&self) -> Result<Option<Step>, NoMemory>;
+
+    /// Notes lead its list as `noted` says.
+    ghost follows: { (x y : Self) (notes : List (Option (List Entry))) → Self.state y ≡ fold Self.applied (Self.state x) notes → list y ≡ fold noted (list x) notes };
+}
