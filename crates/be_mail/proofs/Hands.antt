@@ -2,7 +2,7 @@
 use Rattle.std.proofs.Common.{◌≡◌, ◌≢◌, ℕ, ◌<◌, eqb, eq-eqb, true, List, [], ◌∷◌, ◌++◌, length, map, set, refl, sym, ap, ◌∙◌, subst, ⊎_elim, arith}
 use Rattle.std.proofs.lemmas.List.{map-set, length-map, length-set, get_or-set_same}
 use Rattle.std.proofs.lemmas.List.Elements.{All-head}
-use mathlib.Core.Option.{some, some-injective}
+use mathlib.Core.Option.{some}
 use native.Mathlib.Nat.{mod-lt}
 use lib.ListN.{get_elem?, get_or}
 use Rattle.atomic_table.specs.Seated.{TableId}
@@ -14,11 +14,11 @@ use Rattle.be_base.specs.declared.limits.TheConstants.{BOX_LETTERS}
 use Rattle.be_model.specs.Schemas.{Attributes}
 use Rattle.be_model.specs.Letters.{PlainLetter}
 use Rattle.be_mail.specs.Letters.{Posting, posting, IsFor, letters_from, seat_of}
-use Rattle.be_mail.specs.Mailbox.{Mailbox}
+use Rattle.be_mail.specs.Mailbox.{BoxId, box_id, Mailbox}
 use Rattle.be_mail.specs.Rule.{HandState, SeatPuts, hand, with_put, with_taken, Delivers, Sees}
 use Rattle.be_mail.specs.Boxes.{Box, name_of, AreBoxes}
 use Rattle.be_mail.specs.Passes.{BoxPass, first_put, put_of, put_into, taken_of, box_of, IsHandOf, AreHandsOf, passes_of, after_put, after_fetch, Held}
-use Rattle.be_mail.proofs.Places.{within, at_or, map_same}
+use Rattle.be_mail.proofs.Places.{within, at_or, map_same, same_at}
 use Rattle.be_mail.proofs.Moves as moves
 
 module _ {Q A : Type 0} where
@@ -27,11 +27,11 @@ module _ {Q A : Type 0} where
 
   -- the passes are those of these mailboxes
   pub same_box : (ps : List BoxPass) (bs : List (Box Q A)) (w : ℕ) (p : BoxPass) (b : Box Q A) → map box_of ps ≡ map name_of bs → get_elem? ps w ≡ some p → get_elem? bs w ≡ some b → p.table_id ≡ name_of b
-  same_box ps bs w p b same here there = some-injective _ _ (sym (at_map box_of ps w p here) ∙ ap (λ l. get_elem? l w) same ∙ at_map name_of bs w b there)
+  same_box ps bs w p b same here there = same_at box_of name_of ps bs w p b same here there
 
 -- a pass with this view is the seat's
-pub is_hand : (seat w : ℕ) (p : BoxPass) (xs : List PlainLetter) (taken : List Posting) → p.me.1 ≡ [] → view p ≡ hand w ((seat, xs) ∷ []) (eqb w seat) taken → IsHandOf seat w p
-is_hand seat w p xs taken home is = record { home = home; shows = is ∙ (λ i. hand w ((seat, first_put (sym is i).puts) ∷ []) (eqb w seat) (sym is i).taken) }
+pub is_hand : (seat w : ℕ) (p : BoxPass) (queue : TableId) (xs : List PlainLetter) (taken : List Posting) → box_of p ≡ queue → p.me.1 ≡ [] → view p ≡ hand (box_id queue w) ((seat, xs) ∷ []) (eqb w seat) taken → IsHandOf seat w p
+is_hand seat w p queue xs taken of home is = record { home = home; shows = is ∙ (λ i. hand (box_id (sym of i) w) ((seat, first_put (sym is i).puts) ∷ []) (eqb w seat) (sym is i).taken) }
 
 pub hands_set : (seat : ℕ) (ps : List BoxPass) (w : ℕ) (p : BoxPass) → AreHandsOf seat ps → IsHandOf seat w p → AreHandsOf seat (set ps w p)
 hands_set seat ps w p all one = record {
@@ -73,20 +73,20 @@ fetched_at seat ps p p' fulls empties x here box put taken =
     let t = ap (λ l. get_or l seat []) (map-set taken_of ps seat p') ∙ get_or-set_same (map taken_of ps) seat (taken_of p') [] less ∙ taken ∙ ap (λ l. l ++ x ∷ []) (sym (taken_here seat ps p here)) in
     λ i. record { boxes = b i; seat = seat; puts = q i; taken = t i; fulls = fulls; empties = empties }
 
-module _ (schema : Attributes) (seats : ℕ) (found : ℕ → Mailbox → Type 0) where
-  pub may_put : (n pass seat w : ℕ) (p : BoxPass) (letter : PlainLetter) → IsHandOf seat w p → IsFor schema seats w (posting seat letter)
+module _ (schema : Attributes) (seats : ℕ) (found : BoxId → Mailbox → Type 0) where
+  pub may_put : (n pass seat w : ℕ) (p : BoxPass) (letter : PlainLetter) → n ≡ BOX_LETTERS → IsHandOf seat w p → IsFor schema seats w (posting seat letter)
       → Pushes (Delivers schema seats found) n pass (view p) (posting seat letter) (λ v. v ≡ with_put (view p) (posting seat letter)) × Learns (Delivers schema seats found) pass (view p) (Sees schema seats found (view p))
-  may_put n pass seat w p letter is fit =
+  may_put n pass seat w p letter capacity is fit =
       subst (λ (v : HandState). Pushes (Delivers schema seats found) n pass v (posting seat letter) (λ u. u ≡ with_put v (posting seat letter)) × Learns (Delivers schema seats found) pass v (Sees schema seats found v)) (sym is.shows)
-      (moves.puts schema seats found n pass w (put_of p) (eqb w seat) (taken_of p) (posting seat letter) fit, moves.learns schema seats found pass (hand w ((seat, put_of p) ∷ []) (eqb w seat) (taken_of p)) (seat, put_of p) [] refl)
+      (moves.puts schema seats found n pass (box_id (box_of p) w) (put_of p) (eqb w seat) (taken_of p) (posting seat letter) capacity fit, moves.learns schema seats found pass (hand (box_id (box_of p) w) ((seat, put_of p) ∷ []) (eqb w seat) (taken_of p)) (seat, put_of p) [] refl)
 
   pub may_fetch : (pass seat : ℕ) (p : BoxPass) → IsHandOf seat seat p
-      → Pops (Delivers schema seats found) pass (view p) (λ x v. (v ≡ with_taken (view p) x) × IsFor schema seats (view p).at x) × Learns (Delivers schema seats found) pass (view p) (Sees schema seats found (view p))
+      → Pops (Delivers schema seats found) pass (view p) (λ x v. (v ≡ with_taken (view p) x) × IsFor schema seats (view p).at.seat x) × Learns (Delivers schema seats found) pass (view p) (Sees schema seats found (view p))
   may_fetch pass seat p is =
-      let key : HandState → Type 0 = λ v. Pops (Delivers schema seats found) pass v (λ x u. (u ≡ with_taken v x) × IsFor schema seats v.at x) × Learns (Delivers schema seats found) pass v (Sees schema seats found v) in
+      let key : HandState → Type 0 = λ v. Pops (Delivers schema seats found) pass v (λ x u. (u ≡ with_taken v x) × IsFor schema seats v.at.seat x) × Learns (Delivers schema seats found) pass v (Sees schema seats found v) in
       subst key (sym is.shows)
-      (subst (λ b. key (hand seat ((seat, put_of p) ∷ []) b (taken_of p))) (sym (eq-eqb seat seat refl))
-      (moves.fetches schema seats found pass seat ((seat, put_of p) ∷ []) (taken_of p), moves.learns schema seats found pass (hand seat ((seat, put_of p) ∷ []) true (taken_of p)) (seat, put_of p) [] refl))
+      (subst (λ b. key (hand (box_id (box_of p) seat) ((seat, put_of p) ∷ []) b (taken_of p))) (sym (eq-eqb seat seat refl))
+      (moves.fetches schema seats found pass (box_id (box_of p) seat) ((seat, put_of p) ∷ []) (taken_of p), moves.learns schema seats found pass (hand (box_id (box_of p) seat) ((seat, put_of p) ∷ []) true (taken_of p)) (seat, put_of p) [] refl))
 
   -- what a step showed of a mailbox
   pub held : (seat : ℕ) (ps : List BoxPass) (w : ℕ) (p : BoxPass) (fulls empties n : ℕ) → get_elem? ps w ≡ some p → IsHandOf seat w p → fifo.Held n (Sees schema seats found (view p)) → Held schema seats found (passes_of seat ps fulls empties) w n
@@ -94,9 +94,9 @@ module _ (schema : Attributes) (seats : ℕ) (found : ℕ → Mailbox → Type 0
       let t = subst (λ (v : HandState). Sees schema seats found v items) is.shows sees in
       record {
         state = record { taken = t.taken; queued = items };
-        receipt = t.receipt;
+        seen = record { queue = box_of p; named = at_map box_of ps w p here; receipt = t.receipt };
         count = count;
-        only = t.only;
+        sound = record { only = t.only; room = t.room };
         agrees = record {
           put = All-head (λ (e : SeatPuts). letters_from e.0 (t.taken ++ items) ≡ e.1) (seat, put_of p) [] t.puts ∙ sym (put_here seat ps fulls empties w p here);
           taken = λ own. t.own (eq-eqb w seat (sym own)) ∙ sym (subst (λ i. get_or (map taken_of ps) i [] ≡ taken_of p) (sym own) (taken_here w ps p here));

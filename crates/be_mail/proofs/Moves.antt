@@ -1,5 +1,6 @@
 -- Each step keeps the rule of a mailbox.
 use Rattle.std.proofs.Common.{◌≡◌, ◌≢◌, ◌⊎◌, ℕ, zero, suc, ◌+◌, ◌<◌, ◌≤◌, eqb, eq-eqb, ne_eqb, Bool, true, false, true≢false, ◌&&◌, ◌||◌, not, if◌then◌else◌, List, [], ◌∷◌, ◌++◌, length, set, refl, sym, ap, ◌∙◌, subst, inl, inr, ⊎_elim, arith, append_assoc}
+use Rattle.std.proofs.lemmas.List.{length-append}
 use Rattle.std.proofs.lemmas.List.Elements.{All-nil, All-cons, All-head, All-tail, All-append, All-push, All-weaker, All-contains, Contains-append_right}
 use Rattle.std.specs.Prelude.{All, Contains}
 use mathlib.Core.Option.{some, some-ne-none}
@@ -8,11 +9,12 @@ use native.Mathlib.Decide.{ℕ_discrete}
 use lib.ListN.{get_elem?}
 use Rattle.crossbeam_queue.specs.Fifo.{Pushes, Pops, Forks, Merges, Learns}
 use Rattle.crossbeam_queue.proofs.Lists.{at_set}
+use Rattle.be_base.specs.declared.limits.TheConstants.{BOX_LETTERS}
 use Rattle.be_model.specs.Schemas.{Attributes}
 use Rattle.be_model.specs.Letters.{PlainLetter}
 use Rattle.be_mail.specs.Letters.{Posting, IsFor, letters_from}
-use Rattle.be_mail.specs.Mailbox.{Mailbox, ForEachState}
-use Rattle.be_mail.specs.Rule.{SeatPuts, HandState, hand, idle, no_puts, first_hand, both, BoxState, Shows, Takes, Fits, Delivers, Sees}
+use Rattle.be_mail.specs.Mailbox.{BoxId, Mailbox, ForEachState}
+use Rattle.be_mail.specs.Rule.{SeatPuts, HandState, hand, no_box, idle, no_puts, first_hand, both, BoxState, Shows, Takes, Fits, Delivers, Sees}
 use Rattle.be_mail.proofs.Places.{at_end, All-both}
 use Rattle.be_mail.proofs.Senders.{letters_from-put, letters_from-other, nobody_put}
 
@@ -67,25 +69,26 @@ heir_of new gone j was e = ap (λ b. if b then new else was) (eq-eqb j gone e)
 heir_else : (new gone j was : ℕ) → j ≢ gone → heir new gone j was ≡ was
 heir_else new gone j was ne = ap (λ b. if b then new else was) (ne_eqb j gone ne)
 
-module _ (schema : Attributes) (seats : ℕ) (found : ℕ → Mailbox → Type 0) where
+module _ (schema : Attributes) (seats : ℕ) (found : BoxId → Mailbox → Type 0) where
   pub begins : ForEachState found → Delivers schema seats found [] (first_hand seats ∷ [])
   begins receipts =
-      let s : BoxState = record { at = 0; owner = λ seat. 0; taker = 0; taken = [] } in (
+      let s : BoxState = record { at = no_box; owner = λ seat. 0; taker = 0; taken = [] } in (
         s,
         record {
           receipts = receipts;
           only = All-nil (IsFor schema seats 0);
+          room = omega arith;
           fits = each_end (Fits seats s []) [] (first_hand seats) (λ j u e. absurd (some-ne-none u (sym e)))
               (record {
-                puts = each_new (Shows seats s [] 0 0) 0 seats (λ seat a b. record { seat = omega arith; place = refl; owner = refl; order = refl });
+                puts = each_new (Shows seats s [] 0 no_box) 0 seats (λ seat a b. record { seat = omega arith; place = refl; owner = refl; order = refl });
                 takes = λ _. record { place = refl; taker = refl; taken = refl };
               });
         },
       )
 
-  pub puts : (n pass at : ℕ) (xs : List PlainLetter) (takes : Bool) (taken : List Posting) (x : Posting) → IsFor schema seats at x
+  pub puts : (n pass : ℕ) (at : BoxId) (xs : List PlainLetter) (takes : Bool) (taken : List Posting) (x : Posting) → n ≡ BOX_LETTERS → IsFor schema seats at.seat x
       → Pushes (Delivers schema seats found) n pass (hand at ((x.from, xs) ∷ []) takes taken) x (λ w. w ≡ hand at ((x.from, xs ++ x.letter ∷ []) ∷ []) takes taken)
-  puts n pass at xs takes taken x fit items views room h here =
+  puts n pass at xs takes taken x capacity fit items views less h here =
       let s : BoxState = h.0 in
       let k = h.1 in
       let v = hand at ((x.from, xs) ∷ []) takes taken in
@@ -100,7 +103,8 @@ module _ (schema : Attributes) (seats : ℕ) (found : ℕ → Mailbox → Type 0
           s,
           record {
             receipts = k.receipts;
-            only = subst (All (IsFor schema seats s.at)) same (All-push (IsFor schema seats s.at) (s.taken ++ items) x k.only (subst (λ a. IsFor schema seats a x) own.place fit));
+            only = subst (All (IsFor schema seats s.at.seat)) same (All-push (IsFor schema seats s.at.seat) (s.taken ++ items) x k.only (subst (λ (a : BoxId). IsFor schema seats a.seat x) own.place fit));
+            room = one_more (length items) n (length now) (length-append items (x ∷ [])) capacity less;
             fits = each_set F views pass w
                 (record {
                   puts = All-cons (Shows seats s now pass at) (x.from, xs ++ x.letter ∷ []) []
@@ -118,9 +122,12 @@ module _ (schema : Attributes) (seats : ℕ) (found : ℕ → Mailbox → Type 0
         ),
         refl,
       )
+    where
+      one_more : (before n after : ℕ) → after ≡ before + 1 → n ≡ BOX_LETTERS → before < n → after ≤ BOX_LETTERS
+      one_more before n after longer capacity less = omega arith
 
-  pub fetches : (pass at : ℕ) (es : List SeatPuts) (taken : List Posting)
-      → Pops (Delivers schema seats found) pass (hand at es true taken) (λ x w. (w ≡ hand at es true (taken ++ x ∷ [])) × IsFor schema seats at x)
+  pub fetches : (pass : ℕ) (at : BoxId) (es : List SeatPuts) (taken : List Posting)
+      → Pops (Delivers schema seats found) pass (hand at es true taken) (λ x w. (w ≡ hand at es true (taken ++ x ∷ [])) × IsFor schema seats at.seat x)
   fetches pass at es taken x items views h here =
       let s : BoxState = h.0 in
       let k = h.1 in
@@ -129,20 +136,21 @@ module _ (schema : Attributes) (seats : ℕ) (found : ℕ → Mailbox → Type 0
       let w = hand at es true (taken ++ x ∷ []) in
       let s' : BoxState = record { at = s.at; owner = s.owner; taker = s.taker; taken = s.taken ++ x ∷ [] } in
       let same : (s.taken ++ x ∷ []) ++ items ≡ s.taken ++ x ∷ items = append_assoc s.taken (x ∷ []) items in
-      let still : (j a : ℕ) (l : List SeatPuts) → All (Shows seats s (x ∷ items) j a) l → All (Shows seats s' items j a) l = λ j a l all.
+      let still : (j : ℕ) (a : BoxId) (l : List SeatPuts) → All (Shows seats s (x ∷ items) j a) l → All (Shows seats s' items j a) l = λ j a l all.
       All-weaker (Shows seats s (x ∷ items) j a) (Shows seats s' items j a) (λ y is. record { seat = is.seat; place = is.place; owner = is.owner; order = ap (letters_from y.0) same ∙ is.order }) l all in (
         w,
         (
           s',
           record {
             receipts = k.receipts;
-            only = subst (All (IsFor schema seats s.at)) (sym same) k.only;
+            only = subst (All (IsFor schema seats s.at.seat)) (sym same) k.only;
+            room = let r = k.room in omega arith;
             fits = each_set (Fits seats s' items) views pass w
                 (record { puts = still pass at es mine.puts; takes = λ _. record { place = key.place; taker = key.taker; taken = ap (λ l. l ++ x ∷ []) key.taken } })
                 (λ j u other e. let theirs = k.fits j u e in record { puts = still j u.at u.puts theirs.puts; takes = λ t. absurd (other (sym (theirs.takes t).taker ∙ key.taker)) });
           },
         ),
-        (refl, subst (λ a. IsFor schema seats a x) (sym key.place) (All-contains (IsFor schema seats s.at) (s.taken ++ x ∷ items) x k.only (Contains-append_right s.taken (x ∷ items) x (0, omega arith, refl)))),
+        (refl, subst (λ (a : BoxId). IsFor schema seats a.seat x) (sym key.place) (All-contains (IsFor schema seats s.at.seat) (s.taken ++ x ∷ items) x k.only (Contains-append_right s.taken (x ∷ items) x (0, omega arith, refl)))),
       )
 
   -- what a pass shows holds of the whole mailbox
@@ -154,45 +162,47 @@ module _ (schema : Attributes) (seats : ℕ) (found : ℕ → Mailbox → Type 0
       let own = All-head (Shows seats s items pass v.at) e es (subst (All (Shows seats s items pass v.at)) first mine.puts) in
       record {
         taken = s.taken;
-        only = subst (λ a. All (IsFor schema seats a) (s.taken ++ items)) (sym own.place) k.only;
+        only = subst (λ (a : BoxId). All (IsFor schema seats a.seat) (s.taken ++ items)) (sym own.place) k.only;
+        room = k.room;
         puts = All-weaker (Shows seats s items pass v.at) (λ (y : SeatPuts). letters_from y.0 (s.taken ++ items) ≡ y.1) (λ y is. is.order) v.puts mine.puts;
         own = λ t. (mine.takes t).taken;
         receipt = k.receipts v.at (record { taken = s.taken; queued = items });
       }
 
-  -- while nothing was put, the mailbox may become that of the next seat
-  pub places : (pass at : ℕ) → Forks (Delivers schema seats found) pass (hand at (no_puts 0 seats) true []) (hand (suc at) (no_puts 0 seats) true []) idle
-  places pass at items views h here =
+  -- while nothing was put, the mailbox may get another name
+  pub names : (pass : ℕ) (at name : BoxId) → Forks (Delivers schema seats found) pass (hand at (no_puts 0 seats) true []) (hand name (no_puts 0 seats) true []) idle
+  names pass at name items views h here =
       let s : BoxState = h.0 in
       let k = h.1 in
       let v = hand at (no_puts 0 seats) true [] in
-      let w = hand (suc at) (no_puts 0 seats) true [] in
+      let w = hand name (no_puts 0 seats) true [] in
       let mine = k.fits pass v here in
       let key = mine.takes refl in
-      let s' : BoxState = record { at = suc at; owner = s.owner; taker = s.taker; taken = s.taken } in
+      let s' : BoxState = record { at = name; owner = s.owner; taker = s.taker; taken = s.taken } in
       let own : (seat : ℕ) → seat < seats → Shows seats s items pass at (seat, []) = λ seat h. All-contains (Shows seats s items pass at) (no_puts 0 seats) (seat, []) mine.puts (new_at 0 seats seat (omega arith) (omega arith)) in
-      let nothing : s.taken ++ items ≡ [] = nobody_put seats (s.taken ++ items) (All-weaker (IsFor schema seats s.at) (λ (x : Posting). x.from < seats) (λ x is. is.from) (s.taken ++ items) k.only) (λ seat h. (own seat h).order) in
+      let nothing : s.taken ++ items ≡ [] = nobody_put seats (s.taken ++ items) (All-weaker (IsFor schema seats s.at.seat) (λ (x : Posting). x.from < seats) (λ x is. is.from) (s.taken ++ items) k.only) (λ seat h. (own seat h).order) in
       let F = Fits seats s' items in (
         s',
         record {
           receipts = k.receipts;
-          only = subst (All (IsFor schema seats (suc at))) (sym nothing) (All-nil (IsFor schema seats (suc at)));
+          only = subst (All (IsFor schema seats name.seat)) (sym nothing) (All-nil (IsFor schema seats name.seat));
+          room = k.room;
           fits = each_end F (set views pass w) idle
               (each_set F views pass w
               (record {
-                puts = All-weaker (Shows seats s items pass at) (Shows seats s' items pass (suc at)) (λ y is. record { seat = is.seat; place = refl; owner = is.owner; order = is.order }) (no_puts 0 seats) mine.puts;
+                puts = All-weaker (Shows seats s items pass at) (Shows seats s' items pass name) (λ y is. record { seat = is.seat; place = refl; owner = is.owner; order = is.order }) (no_puts 0 seats) mine.puts;
                 takes = λ _. record { place = refl; taker = key.taker; taken = key.taken };
               })
               (λ q y other e. let theirs = k.fits q y e in record {
                 puts = All-weaker (Shows seats s items q y.at) (Shows seats s' items q y.at) (λ z is. absurd (other (sym is.owner ∙ (own z.0 is.seat).owner))) y.puts theirs.puts;
                 takes = λ t. absurd (other (sym (theirs.takes t).taker ∙ key.taker));
               }))
-              (record { puts = All-nil (Shows seats s' items (length (set views pass w)) 0); takes = λ t. off t });
+              (record { puts = All-nil (Shows seats s' items (length (set views pass w)) no_box); takes = λ t. off t });
         },
       )
 
   -- the first seat of a pass gets a pass of its own, which takes where `key`
-  pub hands_out : (pass at low : ℕ) (xs : List PlainLetter) (rest : List SeatPuts) (takes key : Bool) (taken : List Posting) → All (λ (e : SeatPuts). e.0 ≢ low) rest
+  pub hands_out : (pass : ℕ) (at : BoxId) (low : ℕ) (xs : List PlainLetter) (rest : List SeatPuts) (takes key : Bool) (taken : List Posting) → All (λ (e : SeatPuts). e.0 ≢ low) rest
       → Forks (Delivers schema seats found) pass (hand at ((low, xs) ∷ rest) takes taken) (hand at rest (takes && not key) taken) (hand at ((low, xs) ∷ []) (takes && key) taken)
   hands_out pass at low xs rest takes key taken apart items views h here =
       let s : BoxState = h.0 in
@@ -205,12 +215,13 @@ module _ (schema : Attributes) (seats : ℕ) (found : ℕ → Mailbox → Type 0
       let own = All-head (Shows seats s items pass at) (low, xs) rest mine.puts in
       let s' : BoxState = record { at = s.at; owner = λ j. heir new low j (s.owner j); taker = if takes && key then new else s.taker; taken = s.taken } in
       let F = Fits seats s' items in
-      let still : (j a : ℕ) (e : SeatPuts) → e.0 ≢ low → Shows seats s items j a e → Shows seats s' items j a e = λ j a e ne is.
+      let still : (j : ℕ) (a : BoxId) (e : SeatPuts) → e.0 ≢ low → Shows seats s items j a e → Shows seats s' items j a e = λ j a e ne is.
       record { seat = is.seat; place = is.place; owner = heir_else new low e.0 (s.owner e.0) ne ∙ is.owner; order = is.order } in (
         s',
         record {
           receipts = k.receipts;
           only = k.only;
+          room = k.room;
           fits = each_end F (set views pass l) r
               (each_set F views pass l
               (record {
@@ -255,13 +266,14 @@ module _ (schema : Attributes) (seats : ℕ) (found : ℕ → Mailbox → Type 0
       let s' : BoxState = record { at = s.at; owner = λ j. heir pass other (s.owner j) (s.owner j); taker = heir pass other s.taker s.taker; taken = s.taken } in
       let F = Fits seats s' items in
       let kept : heir pass other pass pass ≡ pass = heir_else pass other pass pass (λ e. apart (sym e)) in
-      let still : (j a : ℕ) → j ≢ other → (e : SeatPuts) → Shows seats s items j a e → Shows seats s' items j a e = λ j a ne e is.
+      let still : (j : ℕ) (a : BoxId) → j ≢ other → (e : SeatPuts) → Shows seats s items j a e → Shows seats s' items j a e = λ j a ne e is.
       record { seat = is.seat; place = is.place; owner = heir_else pass other (s.owner e.0) (s.owner e.0) (λ e. ne (sym is.owner ∙ e)) ∙ is.owner; order = is.order } in (
         s',
         record {
           receipts = k.receipts;
           only = k.only;
-          fits = each_set F (set views pass w) other idle (record { puts = All-nil (Shows seats s' items other 0); takes = λ t. off t })
+          room = k.room;
+          fits = each_set F (set views pass w) other idle (record { puts = All-nil (Shows seats s' items other no_box); takes = λ t. off t })
               (λ j y not_other e. each_set (λ q z. q ≢ other → F q z) views pass w
               (λ ne. record {
                 puts = All-append (Shows seats s' items pass v.at) v.puts u.puts

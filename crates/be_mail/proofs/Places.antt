@@ -38,3 +38,7 @@ map_same f l i a b here same = map-set f l i b ∙ ap (set (map f l) i) same ∙
 
 pub All-both : {A : Type 0} (P Q R : A → Type 0) → ((a : A) → P a → Q a → R a) → (l : List A) → All P l → All Q l → All R l
 All-both P Q R step l ps qs i d h = step _ (ps i d h) (qs i d h)
+
+-- what two lists tell alike, they tell alike at each place
+pub same_at : {A B C : Type 0} (f : A → C) (g : B → C) (xs : List A) (ys : List B) (i : ℕ) (a : A) (b : B) → map f xs ≡ map g ys → get_elem? xs i ≡ some a → get_elem? ys i ≡ some b → f a ≡ g b
+same_at f g xs ys i a b same here there = some-injective _ _ (sym (at_map f xs i a here) ∙ ap (λ l. get_elem? l i) same ∙ at_map g ys i b there)

@@ -11,7 +11,7 @@ use Rattle.crossbeam_queue.specs.Passes.{view}
 use Rattle.crossbeam_queue.proofs.Lists.{at_set}
 use Rattle.be_model.specs.Schemas.{Attributes}
 use Rattle.be_mail.specs.Letters.{Posting}
-use Rattle.be_mail.specs.Mailbox.{Mailbox}
+use Rattle.be_mail.specs.Mailbox.{BoxId, box_id, Mailbox}
 use Rattle.be_mail.specs.Rule.{HandState, SeatPuts, hand, no_puts, one_seat, later_seats, Delivers}
 use Rattle.be_mail.specs.Boxes.{IsNewHand, IsNewRow, AreRows, AreRowsUpTo}
 use Rattle.be_mail.specs.Passes.{BoxPass, put_of, box_of, first_put, taken_of, passes_of, new_passes, AreHandsOf}
@@ -76,25 +76,28 @@ key_is t seat place has = dite (ℕ_discrete seat place)
 -- the first pass of a mailbox, once n seats have theirs
 pub record IsRoot (seats place n : ℕ) (root : BoxPass) : Type 0 where
   pub takes : Bool
-  pub shows : view root ≡ hand place (no_puts n (seats - n)) takes []
+  pub shows : view root ≡ hand (box_id (box_of root) place) (no_puts n (seats - n)) takes []
   pub keeps : n ≤ place → takes ≡ true
 
-turn : (seats place n : ℕ) (root : BoxPass) → n < seats → (is : IsRoot seats place n root) → view root ≡ hand place ((n, []) ∷ no_puts (suc n) (seats - suc n)) is.takes []
-turn seats place n root h is = let e : seats - n ≡ suc (seats - suc n) = omega arith in is.shows ∙ ap (λ k. hand place (no_puts n k) is.takes []) e
+turn : (seats place n : ℕ) (root : BoxPass) → n < seats → (is : IsRoot seats place n root) → view root ≡ hand (box_id (box_of root) place) ((n, []) ∷ no_puts (suc n) (seats - suc n)) is.takes []
+turn seats place n root h is = let e : seats - n ≡ suc (seats - suc n) = omega arith in is.shows ∙ ap (λ k. hand (box_id (box_of root) place) (no_puts n k) is.takes []) e
 
-pub may_hand_out : (schema : Attributes) (seats : ℕ) (found : ℕ → Mailbox → Type 0) (pass place n : ℕ) (root : BoxPass) → n < seats → IsRoot seats place n root → Forks (Delivers schema seats found) pass (view root) (later_seats (view root)) (one_seat (view root))
+pub may_hand_out : (schema : Attributes) (seats : ℕ) (found : BoxId → Mailbox → Type 0) (pass place n : ℕ) (root : BoxPass) → n < seats → IsRoot seats place n root → Forks (Delivers schema seats found) pass (view root) (later_seats (view root)) (one_seat (view root))
 may_hand_out schema seats found pass place n root h is =
     subst (λ (v : HandState). Forks (Delivers schema seats found) pass v (later_seats v) (one_seat v)) (sym (turn seats place n root h is))
-    (moves.hands_out schema seats found pass place n [] (no_puts (suc n) (seats - suc n)) is.takes (eqb n place) []
+    (moves.hands_out schema seats found pass (box_id (box_of root) place) n [] (no_puts (suc n) (seats - suc n)) is.takes (eqb n place) []
     (moves.each_new (λ (e : SeatPuts). e.0 ≢ n) (suc n) (seats - suc n) (λ seat a b e. omega arith)))
 
-pub handed : (seats place n : ℕ) (root p : BoxPass) → n < seats → IsRoot seats place n root → p.me.1 ≡ [] → view p ≡ one_seat (view root) → IsNewHand n place p
-handed seats place n root p h is home e = record { home = home; shows = e ∙ ap one_seat (turn seats place n root h is) ∙ ap (λ b. hand place ((n, []) ∷ []) b []) (key_is is.takes n place is.keeps) }
+pub handed : (seats place n : ℕ) (root p : BoxPass) → n < seats → IsRoot seats place n root → box_of p ≡ box_of root → p.me.1 ≡ [] → view p ≡ one_seat (view root) → IsNewHand n place p
+handed seats place n root p h is same home e = record {
+  home = home;
+  shows = e ∙ ap one_seat (turn seats place n root h is) ∙ (λ i. hand (box_id (sym same i) place) ((n, []) ∷ []) (key_is is.takes n place is.keeps i) []);
+}
 
-pub next_root : (seats place n : ℕ) (root root' : BoxPass) → n < seats → IsRoot seats place n root → view root' ≡ later_seats (view root) → IsRoot seats place (n + 1) root'
-next_root seats place n root root' h is e = record {
+pub next_root : (seats place n : ℕ) (root root' : BoxPass) → n < seats → IsRoot seats place n root → box_of root' ≡ box_of root → view root' ≡ later_seats (view root) → IsRoot seats place (n + 1) root'
+next_root seats place n root root' h is same e = record {
   takes = is.takes && not (eqb n place);
-  shows = e ∙ ap later_seats (turn seats place n root h is) ∙ (let one : suc n ≡ n + 1 = omega arith in ap (λ k. hand place (no_puts k (seats - k)) (is.takes && not (eqb n place)) []) one);
+  shows = e ∙ ap later_seats (turn seats place n root h is) ∙ (let one : suc n ≡ n + 1 = omega arith in λ i. hand (box_id (sym same i) place) (no_puts (one i) (seats - one i)) (is.takes && not (eqb n place)) []);
   keeps = λ less. ap (λ b. b && not (eqb n place)) (is.keeps (omega arith)) ∙ ap not (ne_eqb n place (λ e. omega arith));
 }
 
@@ -114,4 +117,4 @@ seats_new seat ps h row =
     λ i. record { boxes = map box_of ps; seat = seat; puts = q i; taken = t i; fulls = 0; empties = 0 }
 
 pub hands_new : (seat : ℕ) (ps : List BoxPass) → seat < length ps → IsNewRow seat (map box_of ps) ps → AreHandsOf seat ps
-hands_new seat ps h row = record { own = h; each = λ w p e. let t = row.each w p e in is_hand seat w p [] [] t.home t.shows }
+hands_new seat ps h row = record { own = h; each = λ w p e. let t = row.each w p e in is_hand seat w p (box_of p) [] [] refl t.home t.shows }

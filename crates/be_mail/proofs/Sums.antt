@@ -13,12 +13,12 @@ use Rattle.crossbeam_queue.specs.Passes.{view}
 use Rattle.crossbeam_queue.proofs.Lists.{at_set, at_index, set_else}
 use Rattle.be_model.specs.Schemas.{Attributes}
 use Rattle.be_mail.specs.Letters.{Posting, IsFor, letters_from}
-use Rattle.be_mail.specs.Mailbox.{Mailbox, all_of}
+use Rattle.be_mail.specs.Mailbox.{BoxId, box_id, Mailbox, all_of}
 use Rattle.be_mail.specs.Rule.{SeatPuts, HandState, hand, both, Sees}
 use Rattle.be_mail.specs.Boxes.{Box, name_of}
 use Rattle.be_mail.specs.Passes.{BoxPass, Passes, put_of, taken_of, box_of, passes_of, AreHandsOf, Agrees}
 use Rattle.be_mail.specs.Settled.{AreAll, IsKept, AreKept, WasPut, TakenWerePut, CanJoin, CanJoinAll, IsJoined, AreJoined, entry_at, IsSum, AreSums}
-use Rattle.be_mail.proofs.Places.{within, some_at, map_same, All-both}
+use Rattle.be_mail.proofs.Places.{within, some_at, map_same, same_at, All-both}
 use Rattle.be_mail.proofs.Senders.{among}
 use Rattle.be_mail.proofs.Hands.{put_here, taken_here, same_box, same_length}
 
@@ -43,19 +43,19 @@ first_sum mail seat ps fulls empties same hands =
             home = h.home;
             takes = eqb w seat;
             taken = taken_of p;
-            shows = h.shows ∙ ap (λ l. hand w ((seat, l) ∷ []) (eqb w seat) (taken_of p)) (sym (put_here seat ps fulls empties w p e));
+            shows = h.shows ∙ ap (λ l. hand (box_id (box_of p) w) ((seat, l) ∷ []) (eqb w seat) (taken_of p)) (sym (put_here seat ps fulls empties w p e));
             own = All-cons Own q [] (λ own. (eq-eqb w seat (sym own), own_taken seat w ps fulls empties p e own)) (All-nil Own);
           };
     }
 
-pub can_join : (mail : List TableId) (qs : List Passes) (ps os : List BoxPass) (seat : ℕ) → AreSums mail qs ps → AreHandsOf seat os → CanJoinAll ps os
-can_join mail qs ps os seat sums hands w p o here there =
+pub can_join : (mail : List TableId) (qs : List Passes) (ps os : List BoxPass) (seat : ℕ) → AreSums mail qs ps → map box_of os ≡ mail → AreHandsOf seat os → CanJoinAll ps os
+can_join mail qs ps os seat sums others hands w p o here there =
     let s = sums.each w p here in
     let h = hands.each w o there in
     record {
       home = s.home;
       other_home = h.home;
-      place = ap (λ (v : HandState). v.at) h.shows ∙ sym (ap (λ (v : HandState). v.at) s.shows);
+      place = ap (λ (v : HandState). v.at) h.shows ∙ ap (λ t. box_id t w) (same_at box_of box_of os ps w o p (others ∙ sym sums.boxes) there here) ∙ sym (ap (λ (v : HandState). v.at) s.shows);
     }
 
 -- one seat more
@@ -91,6 +91,8 @@ next_sum mail qs ps os ps' seat fulls empties sums hands fresh others same joine
         let h = hands.each w o b.1 in
         let j = joined w p o p' a.1 b.1 at in
         let puts : (seat, put_of o) ≡ entry_at w new = ap (λ l. (seat, l)) (sym (put_here seat os fulls empties w o b.1)) in
+        let of : box_of p ≡ box_of p' = same_at box_of box_of ps ps' w p p' (sums.boxes ∙ sym same) a.1 at in
+        let entries = ap (λ x. map (entry_at w) qs ++ x ∷ []) puts ∙ sym (map-append (entry_at w) qs (new ∷ [])) in
         let takes : Bool = s.takes || eqb w seat in
         let taken : List Posting = if eqb w seat then taken_of o else s.taken in
         let Own : Passes → Type 0 = λ q. q.seat ≡ w → (takes ≡ true) × (q.taken ≡ taken) in
@@ -98,7 +100,7 @@ next_sum mail qs ps os ps' seat fulls empties sums hands fresh others same joine
           home = j.home;
           takes = takes;
           taken = taken;
-          shows = j.shows ∙ (λ i. both (s.shows i) (h.shows i)) ∙ ap (λ l. hand w l takes taken) (ap (λ x. map (entry_at w) qs ++ x ∷ []) puts ∙ sym (map-append (entry_at w) qs (new ∷ [])));
+          shows = j.shows ∙ (λ i. both (s.shows i) (h.shows i)) ∙ (λ i. hand (box_id (of i) w) (entries i) takes taken);
           own = All-push Own qs new
               (All-both (λ (q : Passes). q.seat ≢ seat) (λ (q : Passes). q.seat ≡ w → (s.takes ≡ true) × (q.taken ≡ s.taken)) Own
               (λ q other is own. let k = is own in (ap (λ b. b || eqb w seat) k.0, k.1 ∙ sym (ap (λ b. if b then taken_of o else s.taken) (ne_eqb w seat (λ e. other (own ∙ e))))))
@@ -113,7 +115,7 @@ looked mail qs ps w p p' sums here box none same = record {
   nonempty = sums.nonempty;
   within = sums.within;
   each = λ i q e. ⊎_elim
-      (λ (t : (i ≡ w) × (p' ≡ q)). subst (λ (y : ℕ × BoxPass). IsSum qs y.0 y.1) (λ k. (sym t.0 k, t.1 k)) (let s = sums.each w p here in record { home = none ∙ s.home; takes = s.takes; taken = s.taken; shows = same ∙ s.shows; own = s.own }))
+      (λ (t : (i ≡ w) × (p' ≡ q)). subst (λ (y : ℕ × BoxPass). IsSum qs y.0 y.1) (λ k. (sym t.0 k, t.1 k)) (let s = sums.each w p here in record { home = none ∙ s.home; takes = s.takes; taken = s.taken; shows = same ∙ s.shows ∙ ap (λ t. hand (box_id t w) (map (entry_at w) qs) s.takes s.taken) (sym box); own = s.own }))
       (λ (t : (i ≢ w) × (get_elem? ps i ≡ some q)). sums.each i q t.1)
       (at_set ps w i p' q e);
 }
@@ -124,13 +126,15 @@ some_seat [] w p many sum = absurd (omega arith)
 some_seat (q ∷ qs) w p many sum = (entry_at w q, map (entry_at w) qs, ap (λ (v : HandState). v.puts) sum.shows)
 
 -- what a look shows
-pub kept : (schema : Attributes) (seats : ℕ) (found : ℕ → Mailbox → Type 0) (qs : List Passes) (w : ℕ) (p : BoxPass) → IsSum qs w p → (queued : List Posting) × Sees schema seats found (view p) queued → IsKept schema seats qs w
-kept schema seats found qs w p sum (queued, h) =
+pub kept : (schema : Attributes) (seats : ℕ) (found : BoxId → Mailbox → Type 0) (mail : List TableId) (qs : List Passes) (w : ℕ) (p : BoxPass) → get_elem? mail w ≡ some (box_of p) → IsSum qs w p → (queued : List Posting) × Sees schema seats found (view p) queued
+    → IsKept schema seats found mail qs w
+kept schema seats found mail qs w p here sum (queued, h) =
     let s = subst (λ (v : HandState). Sees schema seats found v queued) sum.shows h in
     let Put : SeatPuts → Type 0 = λ e. letters_from e.0 (s.taken ++ queued) ≡ e.1 in
     record {
       state = record { taken = s.taken; queued = queued };
-      only = s.only;
+      seen = record { queue = box_of p; named = here; receipt = s.receipt };
+      sound = record { only = s.only; room = s.room };
       agree = All-both (λ (q : Passes). Put (entry_at w q)) (λ (q : Passes). q.seat ≡ w → (sum.takes ≡ true) × (q.taken ≡ sum.taken)) (Agrees w (record { taken = s.taken; queued = queued }))
           (λ q put own. record { put = put; taken = λ e. let k = own e in s.own k.0 ∙ sym k.1 })
           qs
@@ -144,8 +148,8 @@ kept schema seats found qs w p sum (queued, h) =
 any_at : (qs : List Passes) (P Q : Passes → Type 0) → ((q : Passes) → P q → Q q) → Any P qs → Any Q qs
 any_at qs P Q step (k, q, h, is, p) = (k, q, h, is, step q p)
 
-pub taken_were_put : (schema : Attributes) (seats : ℕ) (mail : List TableId) (qs : List Passes) → length mail ≡ seats → AreAll mail qs → All (λ (q : Passes). q.seat < length mail) qs → AreKept schema seats qs → TakenWerePut qs
-taken_were_put schema seats mail qs n all less kept =
+pub taken_were_put : (schema : Attributes) (seats : ℕ) (found : BoxId → Mailbox → Type 0) (mail : List TableId) (qs : List Passes) → length mail ≡ seats → AreAll mail qs → All (λ (q : Passes). q.seat < length mail) qs → AreKept schema seats found mail qs → TakenWerePut qs
+taken_were_put schema seats found mail qs n all less kept =
     All-weaker (λ (q : Passes). (q.seat < length mail) × Contains qs q) (λ (q : Passes). All (WasPut qs q.seat) q.taken) one qs
     (λ i d h. (less i d h, Contains-get_or qs i d h))
   where
@@ -161,7 +165,7 @@ taken_were_put schema seats mail qs n all less kept =
         let taken : m.taken ≡ q.taken = (All-contains (Agrees q.seat m) qs q k.agree there).taken refl in
         let x = get_or q.taken i d in
         let here : Contains (all_of m) x = Contains-append_left m.taken m.queued x (subst (λ l. Contains l x) (sym taken) (Contains-get_or q.taken i d within)) in
-        let from = (All-contains (IsFor schema seats q.seat) (all_of m) x k.only here).from in
+        let from = (All-contains (IsFor schema seats q.seat) (all_of m) x k.sound.only here).from in
         sender q.seat m k.agree x here (all.seats x.from (omega arith))
 
 -- joining in progress

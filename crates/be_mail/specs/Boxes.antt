@@ -9,6 +9,7 @@ use Rattle.crossbeam_queue.specs.declared.array_queue.Doing.{Doing}
 use Rattle.crossbeam_queue.specs.declared.array_queue.Slotted.{Slotted}
 use Rattle.be_mail.specs.Letters.{Posting}
 use Rattle.be_mail.specs.Rule.{HandState, hand}
+use Rattle.be_mail.specs.Mailbox.{box_id}
 use Rattle.be_mail.specs.Passes.{BoxPass, box_of}
 
 -- a queue of letters under the rule
@@ -33,7 +34,7 @@ module _ {Q A : Type 0} where
 -- a pass of the seat at a mailbox, with which nothing was put or taken
 pub record IsNewHand (seat mailbox : ℕ) (p : BoxPass) : Type 0 where
   pub home : p.me.1 ≡ []
-  pub shows : view p ≡ hand mailbox ((seat, []) ∷ []) (mailbox == seat) []
+  pub shows : view p ≡ hand (box_id (box_of p) mailbox) ((seat, []) ∷ []) (mailbox == seat) []
 
 -- new passes of the seat at these mailboxes
 pub record IsNewRow (seat : ℕ) (names : List TableId) (ps : List BoxPass) : Type 0 where

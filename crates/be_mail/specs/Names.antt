@@ -1,13 +1,13 @@
 -- Names of nothing, from which a caller picks others.
-use Rattle.std.specs.Prelude.{ℕ, List, [], ⊤}
+use Rattle.std.specs.Prelude.{List, [], ⊤}
 use Rattle.atomic_table.specs.Seated.{TableId}
 use Rattle.be_model.specs.Schemas.{Attributes}
-use Rattle.be_mail.specs.Mailbox.{Mailbox}
+use Rattle.be_mail.specs.Mailbox.{BoxId, Mailbox}
 
 abbrev pub no_attributes : Attributes
 no_attributes = []
 
-abbrev pub always_found : ℕ → Mailbox → Type 0
+abbrev pub always_found : BoxId → Mailbox → Type 0
 always_found mailbox state = ⊤
 
 abbrev pub no_boxes : List TableId

@@ -8,7 +8,7 @@ use Rattle.be_base.specs.Counts.{raised}
 use Rattle.be_model.specs.Schemas.{Attributes}
 use Rattle.be_model.specs.Letters.{PlainLetter}
 use Rattle.be_mail.specs.Letters.{Posting, letters_from}
-use Rattle.be_mail.specs.Mailbox.{Mailbox, all_of, HasOnlyFit}
+use Rattle.be_mail.specs.Mailbox.{BoxId, box_id, Mailbox, all_of, IsMailboxOf}
 use Rattle.be_mail.specs.Rule.{HandState, SeatPuts, hand}
 
 -- which mailboxes these are, whose passes they are, what the seat put into each, what it took out of its own, how often a put found a mailbox full, and how often a fetch found the seat's own empty
@@ -55,12 +55,18 @@ pub record Agrees (mailbox : ℕ) (m : Mailbox) (q : Passes) : Type 0 where
   pub put : letters_from q.seat (all_of m) ≡ put_into mailbox q
   pub taken : q.seat ≡ mailbox → m.taken ≡ q.taken
 
+-- this mailbox, of these, was found in the state
+pub record WasFound (found : BoxId → Mailbox → Type 0) (boxes : List TableId) (mailbox : ℕ) (state : Mailbox) : Type 0 where
+  pub queue : TableId
+  pub named : get_elem? boxes mailbox ≡ some queue
+  pub receipt : found (box_id queue mailbox) state
+
 -- the mailbox was found with n letters, at a moment that agrees with the passes
-pub record Held (schema : Attributes) (seats : ℕ) (found : ℕ → Mailbox → Type 0) (q : Passes) (mailbox n : ℕ) : Type 0 where
+pub record Held (schema : Attributes) (seats : ℕ) (found : BoxId → Mailbox → Type 0) (q : Passes) (mailbox n : ℕ) : Type 0 where
   pub state : Mailbox
-  pub receipt : found mailbox state
+  pub seen : WasFound found q.boxes mailbox state
   pub count : length state.queued ≡ n
-  pub only : HasOnlyFit schema seats mailbox state
+  pub sound : IsMailboxOf schema seats mailbox state
   pub agrees : Agrees mailbox state q
 
 -- what stands behind: one pass of the kit's queue for each mailbox
@@ -84,7 +90,7 @@ taken_of p = (view p).taken
 -- the pass of this seat at a mailbox
 pub record IsHandOf (seat mailbox : ℕ) (p : BoxPass) : Type 0 where
   pub home : p.me.1 ≡ []
-  pub shows : view p ≡ hand mailbox ((seat, put_of p) ∷ []) (mailbox == seat) (taken_of p)
+  pub shows : view p ≡ hand (box_id (box_of p) mailbox) ((seat, put_of p) ∷ []) (mailbox == seat) (taken_of p)
 
 -- one pass for each mailbox, with a mailbox of its own
 pub record AreHandsOf (seat : ℕ) (ps : List BoxPass) : Type 0 where

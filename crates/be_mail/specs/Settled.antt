@@ -6,9 +6,9 @@ use Rattle.atomic_table.specs.Seated.{TableId}
 use Rattle.crossbeam_queue.specs.Passes.{view}
 use Rattle.be_model.specs.Schemas.{Attributes}
 use Rattle.be_mail.specs.Letters.{Posting}
-use Rattle.be_mail.specs.Mailbox.{Mailbox, HasOnlyFit}
+use Rattle.be_mail.specs.Mailbox.{BoxId, box_id, Mailbox, IsMailboxOf}
 use Rattle.be_mail.specs.Rule.{SeatPuts, hand, both}
-use Rattle.be_mail.specs.Passes.{Passes, BoxPass, box_of, put_into, Agrees}
+use Rattle.be_mail.specs.Passes.{Passes, BoxPass, box_of, put_into, Agrees, WasFound}
 
 -- the passes of these mailboxes, those of each seat once, in any order
 pub record AreAll (mail : List TableId) (qs : List Passes) : Type 0 where
@@ -16,14 +16,15 @@ pub record AreAll (mail : List TableId) (qs : List Passes) : Type 0 where
   pub once : AllPairs (λ (p q : Passes). p.seat ≢ q.seat) qs
   pub seats : (seat : ℕ) → seat < length mail → Any (λ (q : Passes). q.seat ≡ seat) qs
 
--- there is a mailbox with which all passes agree: of each seat, the letters that were taken and then those still queued are in order those that the seat put there
-pub record IsKept (schema : Attributes) (seats : ℕ) (qs : List Passes) (mailbox : ℕ) : Type 0 where
+-- the mailbox was found in a state with which all passes agree: of each seat, the letters that were taken and then those still queued are in order those that the seat put there
+pub record IsKept (schema : Attributes) (seats : ℕ) (found : BoxId → Mailbox → Type 0) (mail : List TableId) (qs : List Passes) (mailbox : ℕ) : Type 0 where
   pub state : Mailbox
-  pub only : HasOnlyFit schema seats mailbox state
+  pub seen : WasFound found mail mailbox state
+  pub sound : IsMailboxOf schema seats mailbox state
   pub agree : All (Agrees mailbox state) qs
 
-abbrev pub AreKept : Attributes → ℕ → List Passes → Type 0
-AreKept schema seats qs = (mailbox : ℕ) → mailbox < seats → IsKept schema seats qs mailbox
+abbrev pub AreKept : Attributes → ℕ → (BoxId → Mailbox → Type 0) → List TableId → List Passes → Type 0
+AreKept schema seats found mail qs = (mailbox : ℕ) → mailbox < seats → IsKept schema seats found mail qs mailbox
 
 -- the letter was put into the mailbox by the seat that it carries
 abbrev pub WasPut : List Passes → ℕ → Posting → Type 0
@@ -59,7 +60,7 @@ pub record IsSum (qs : List Passes) (mailbox : ℕ) (p : BoxPass) : Type 0 where
   pub home : p.me.1 ≡ []
   pub takes : Bool
   pub taken : List Posting
-  pub shows : view p ≡ hand mailbox (map (entry_at mailbox) qs) takes taken
+  pub shows : view p ≡ hand (box_id (box_of p) mailbox) (map (entry_at mailbox) qs) takes taken
   pub own : All (λ (q : Passes). q.seat ≡ mailbox → (takes ≡ true) × (q.taken ≡ taken)) qs
 
 -- for each mailbox such a pass

@@ -4,18 +4,18 @@ ghost use Rattle.std.specs.Prelude.{◌≡◌, ℕ, ◌+◌, ◌<◌, ◌≤◌,
 ghost use Rattle.std.specs.List.{range_with_len};
 ghost use Rattle.be_base.specs.declared.limits.TheConstants.{SEATS, BOX_LETTERS};
 ghost use Rattle.crossbeam_queue.specs.Passes.{view, IsPassOf, ruled_capacity};
-ghost use Rattle.be_mail.specs.Rule.{hand, no_puts};
+ghost use Rattle.be_mail.specs.Rule.{hand, no_puts, first_hand};
 ghost use Rattle.be_mail.specs.Passes.{new_passes, box_of};
-ghost use Rattle.be_mail.specs.Mailbox.{ForEachState};
+ghost use Rattle.be_mail.specs.Mailbox.{box_id, ForEachState};
 ghost use Rattle.be_mail.specs.Boxes.{name_of, HaveRoom, AreRows, IsNewRow};
 
 use crate::mail::Mail;
-use crate::naming::Post;
+use crate::naming::{Post, ThisBox};
 use crate::passes::MailPasses;
-use crate::rule::{BoxPass, HandOut, Mailbox, Next};
+use crate::rule::{BoxPass, HandOut, Mailbox, Names};
 use be_base::{BOX_LETTERS, NoMemory};
 use std::alloc::{AllocError, Global};
-use std::marker::Model;
+use std::marker::{Brand, Model};
 
 // The passes of one seat so far. Contracts see the list.
 #[derive(Drop)]
@@ -100,17 +100,24 @@ fn add_mailbox<S: Post>(
     Ok(())
 }
 
-// An empty mailbox, which knows its place, and the pass that has every seat.
+// An empty mailbox, whose rule knows its name and its place, and the pass that has every seat.
 fn open_mailbox<S: Post>(alloc: Global, place: u32) -> Result<(Mailbox<S>, BoxPass), AllocError>
     requires { ForEachState S.found }
-    ensures pass { IfOk result (λ r. IsPassOf r.0 r.1 × (view r.1 ≡ hand place (no_puts 0 S.seats) true [])) }
+    ensures pass { IfOk result (λ r. IsPassOf r.0 r.1 × (view r.1 ≡ hand (box_id (name_of r.0) place) (no_puts 0 S.seats) true [])) }
     ensures room { IfOk result (λ r. ruled_capacity r.0 ≡ BOX_LETTERS) }
 {
     let (mailbox, mut root) = Mailbox::<S>::ruled(alloc, BOX_LETTERS)?;
-    for _ in 0..place {
-        mailbox.another::<Next>(&mut root);
-    }
+    name_mailbox::<S, Brand>(&mailbox, &mut root, place);
     Ok((mailbox, root))
+}
+
+// Tells the rule of a new mailbox which one it is.
+fn name_mailbox<S: Post, N: ThisBox>(mailbox: &Mailbox<S>, root: &mut BoxPass, place: u32)
+    requires named { N.mailbox ≡ box_id (name_of mailbox.now) place }
+    requires pass { IsPassOf mailbox.now root.old × (view root.old ≡ first_hand S.seats) }
+    ensures pass { IsPassOf mailbox.now root.new × (view root.new ≡ hand (box_id (name_of mailbox.now) place) (no_puts 0 S.seats) true []) }
+{
+    mailbox.another::<Names<N>>(root);
 }
 
 fn all_seated<S: Post>(

@@ -1,4 +1,4 @@
-//! What the types of one mail agree on. Both traits are for proofs alone.
+//! What the types of one mail agree on. The traits are for proofs alone.
 
 use std::marker::Brand;
 
@@ -6,7 +6,7 @@ use std::marker::Brand;
 pub trait Post {
     ghost use Rattle.std.specs.Prelude.{ℕ};
     ghost use Rattle.be_model.specs.Schemas.{Attributes};
-    ghost use Rattle.be_mail.specs.Mailbox.{Mailbox};
+    ghost use Rattle.be_mail.specs.Mailbox.{BoxId, Mailbox};
 
     ghost schema: { Attributes };
 
@@ -14,7 +14,7 @@ pub trait Post {
 
     /// A receipt: this mailbox was found in this state. `make_mail` is given all receipts and shuts them into the rule of
     /// the queues. So code that is proved for every `Post` has one only from a step at a queue, for the state that it found.
-    ghost found: { ℕ → Mailbox → Type 0 };
+    ghost found: { BoxId → Mailbox → Type 0 };
 }
 
 impl Post for Brand {
@@ -25,6 +25,19 @@ impl Post for Brand {
     ghost seats = { 1 };
 
     ghost found = { always_found };
+}
+
+/// One mailbox. It is chosen once its queue is made, and gets into the queue's rule by the first step.
+pub trait ThisBox {
+    ghost use Rattle.be_mail.specs.Mailbox.{BoxId};
+
+    ghost mailbox: { BoxId };
+}
+
+impl ThisBox for Brand {
+    ghost use Rattle.be_mail.specs.Rule.{no_box};
+
+    ghost mailbox = { no_box };
 }
 
 /// The mailboxes of one mail. It is chosen once they are made, and says of what shares a mail and its passes that they

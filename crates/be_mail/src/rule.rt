@@ -1,6 +1,6 @@
 //! The rule of one mailbox, and what each kind of step does to a pass.
 
-use crate::naming::Post;
+use crate::naming::{Post, ThisBox};
 use be_model::Letter;
 use crossbeam_queue::protocol::{Join, Lesson, Outcome, Protocol, Split};
 use crossbeam_queue::{Pass, RuledArrayQueue};
@@ -80,7 +80,7 @@ impl<S: Post> Outcome<Posted, Hand> for Fetches<S> {
     ghost use Rattle.be_mail.specs.Letters.{IsFor};
     ghost use Rattle.be_mail.specs.Rule.{with_taken};
 
-    ghost then = { λ v x w. (w ≡ with_taken v x) × IsFor S.schema S.seats v.at x };
+    ghost then = { λ v x w. (w ≡ with_taken v x) × IsFor S.schema S.seats v.at.seat x };
 }
 
 impl<S: Post> Lesson<Posted, Hand> for Fetches<S> {
@@ -100,13 +100,15 @@ impl<S: Post> Lesson<Posted, Hand> for Looks<S> {
     ghost fact = { Sees S.schema S.seats S.found };
 }
 
-/// The mailbox becomes that of the next seat, while nothing was put.
-pub struct Next;
+/// The rule is told which mailbox it is, while nothing was put.
+pub struct Names<N: ThisBox> {
+    of: PhantomData<N>,
+}
 
-impl Split<Hand> for Next {
-    ghost use Rattle.be_mail.specs.Rule.{next_place, idle};
+impl<N: ThisBox> Split<Hand> for Names<N> {
+    ghost use Rattle.be_mail.specs.Rule.{named, idle};
 
-    ghost left = { next_place };
+    ghost left = { named N.mailbox };
 
     ghost right = { λ v. idle };
 }

@@ -13,7 +13,7 @@ impl<S: Post> Mail<S> {
     /// Joins the passes of all seats, in any order. It takes no memory.
     pub fn settle(&self, passes: Vec<MailPasses>)
         requires { AreAll self.now passes.items }
-        ensures kept { AreKept S.schema S.seats passes.items }
+        ensures kept { AreKept S.schema S.seats S.found self.now passes.items }
         ensures taken { TakenWerePut passes.items }
     {
         let boxes = self.boxes.len();

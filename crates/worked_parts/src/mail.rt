@@ -221,7 +221,7 @@ fn close<S: Post, N: BoxNames>(
 ) -> Result<(), NoMemory>
     requires boxes { length hub.now.mail ≡ 3 }
     requires seats { (a.passes.seat ≡ 0) × (b.passes.seat ≡ 1) × (c.passes.seat ≡ 2) }
-    ensures kept { OnOk result (AreKept S.schema S.seats (c.passes ∷ b.passes ∷ a.passes ∷ [])) }
+    ensures kept { OnOk result (AreKept S.schema S.seats S.found hub.now.mail (c.passes ∷ b.passes ∷ a.passes ∷ [])) }
     ensures taken { OnOk result (TakenWerePut (c.passes ∷ b.passes ∷ a.passes ∷ [])) }
     ensures early { OnOk result (All (λ (x : Posting). IsEarly x.letter) c.passes.taken) }
 {

@@ -5,6 +5,7 @@ use Rattle.crossbeam_queue.proofs.Lists.{at_index}
 use Rattle.std.proofs.lemmas.List.Elements.{All-push}
 use Rattle.be_base.specs.declared.limits.TheConstants.{BOX_LETTERS}
 use Rattle.crossbeam_queue.specs.Passes.{ruled_capacity}
+use Rattle.be_mail.specs.Mailbox.{box_id}
 use Rattle.be_mail.specs.Rule.{hand, no_puts}
 use Rattle.be_mail.specs.Boxes.{IsNewHand, name_of, HaveRoom, AreRows, AreRowsUpTo}
 use Rattle.be_mail.proofs.Rows.{begins_row, ends_row, next_row, may_hand_out, handed, next_root}
@@ -19,7 +20,7 @@ loop-seat-init g c =
       m.room,
       c.requires.place,
       c.len-seat-end.ensures ∙ rows,
-      record { takes = true; shows = m.pass.1 ∙ ap (λ k. hand c.args.place (no_puts 0 k) true []) (let e : seats ≡ seats - 0 = omega arith in e); keeps = λ _. refl },
+      record { takes = true; shows = m.pass.1 ∙ (let e : seats ≡ seats - 0 = omega arith in λ i. hand (box_id (sym m.pass.0.0 i) c.args.place) (no_puts 0 (e i)) true []); keeps = λ _. refl },
       begins_row seats _ (name_of c.in_ok-mailbox.mailbox) _ c.requires.rows,
     )
 
@@ -40,13 +41,13 @@ loop-seat-preserved g c =
     let e = c.another-pass.ensures in
     let pass = c.another-pass.result in
     let here = at_index c.loop-seat.rows.items seat c.index_mut.result.now (let r = i.5.count in omega arith) c.index_mut.ensures.value in
-    let new = handed seats c.args.place seat root pass less i.4 e.queue.1.1 e.rule.1 in
+    let new = handed seats c.args.place seat root pass less i.4 (e.queue.1.0 ∙ sym i.0.0) e.queue.1.1 e.rule.1 in
     let row = next_row seat seats names (name_of c.in_ok-mailbox.mailbox) c.loop-seat.rows.items c.index_mut.result.now pass i.5 here e.queue.1.0 (subst (λ w. IsNewHand seat w pass) (sym m) new) in (
       (e.queue.0.0 ∙ i.0.0, e.queue.0.2 ∙ i.0.1),
       i.1,
       i.2,
       i.3,
-      next_root seats c.args.place seat root c.another-pass.new.pass less i.4 e.rule.0,
+      next_root seats c.args.place seat root c.another-pass.new.pass less i.4 e.queue.0.0 e.rule.0,
       subst (λ r. AreRowsUpTo (seat + 1) seats names (name_of c.in_ok-mailbox.mailbox) (set c.loop-seat.rows.items seat r)) (sym c.in_ok-push.ensures) row,
     )
 

@@ -16,7 +16,7 @@ settle-requires g c =
 pub returns-clause-kept : goal.returns-clause-kept
 returns-clause-kept g c =
     let items = three_pushed _ _ _ _ c.args.c.passes c.args.b.passes c.args.a.passes c.new-all.ensures.items c.in_ok-push.ensures.items c.in_ok-push-2.ensures.items c.in_ok-push-3.ensures.items in
-    subst (AreKept g.S.Post.schema g.S.Post.seats) items c.settle.ensures.kept
+    subst (AreKept g.S.Post.schema g.S.Post.seats g.S.Post.found c.args.hub.now.mail) items c.settle.ensures.kept
 
 pub returns-clause-taken : goal.returns-clause-taken
 returns-clause-taken g c =

@@ -19,13 +19,13 @@ pub invariant_of-pass : goal.invariant_of-pass
 invariant_of-pass g c =
     let at = at_own c.pass.invariant c.self.invariant (ap (λ (q : Passes). q.boxes) c.pass.view_is ∙ c.requires.passes) c.self.view_is _ _ c.index_mut.ensures.value c.index.ensures in
     let is = c.in-Some.ensures.rule.0 ∙ ap (λ (v : HandState). with_taken v c.in-Some.posted) at.is_hand.shows in
-    hands_set c.pass.inside.seat c.pass.inside.passes.items c.pass.inside.seat c.pop_as.new.pass c.pass.invariant (is_hand c.pass.inside.seat c.pass.inside.seat c.pop_as.new.pass _ _ (c.in-Some.ensures.queue.2 ∙ at.is_hand.home) is)
+    hands_set c.pass.inside.seat c.pass.inside.passes.items c.pass.inside.seat c.pop_as.new.pass c.pass.invariant (is_hand c.pass.inside.seat c.pass.inside.seat c.pop_as.new.pass _ _ _ c.in-Some.ensures.queue.0 (c.in-Some.ensures.queue.2 ∙ at.is_hand.home) is)
 
 pub invariant_of-pass-in-None : goal.invariant_of-pass-in-None
 invariant_of-pass-in-None g c =
     let at = at_own c.pass.invariant c.self.invariant (ap (λ (q : Passes). q.boxes) c.pass.view_is ∙ c.requires.passes) c.self.view_is _ _ c.index_mut.ensures.value c.index.ensures in
     hands_set c.pass.inside.seat c.pass.inside.passes.items c.pass.inside.seat c.pop_as.new.pass c.pass.invariant
-    (is_hand c.pass.inside.seat c.pass.inside.seat c.pop_as.new.pass _ _ (c.in-None.ensures.queue.2 ∙ at.is_hand.home) (c.in-None.ensures.rule.0 ∙ at.is_hand.shows))
+    (is_hand c.pass.inside.seat c.pass.inside.seat c.pop_as.new.pass _ _ _ c.in-None.ensures.queue.0 (c.in-None.ensures.queue.2 ∙ at.is_hand.home) (c.in-None.ensures.rule.0 ∙ at.is_hand.shows))
 
 pub returns-in-Some-clause-fetched : goal.returns-in-Some-clause-fetched
 returns-in-Some-clause-fetched g c =
@@ -36,7 +36,7 @@ returns-in-Some-clause-fetched g c =
     let x = c.in-Some.posted in
     let is = fetched_at c.pass.inside.seat c.pass.inside.passes.items c.index_mut.result.now c.pop_as.new.pass c.pass.inside.fulls c.pass.inside.empties x at.here c.in-Some.ensures.queue.0 (ap (λ (v : HandState). first_put v.puts) r.0) (ap (λ (v : HandState). v.taken) r.0)
     ∙ ap (λ (q : Passes). after_fetch q x) c.pass.view_is in
-    let fit = subst (λ n. IsFor schema seats n x) (ap (λ (v : HandState). v.at) at.is_hand.shows ∙ ap (λ (q : Passes). q.seat) c.pass.view_is) r.1 in
+    let fit = subst (λ n. IsFor schema seats n x) (ap (λ (v : HandState). v.at.seat) at.is_hand.shows ∙ ap (λ (q : Passes). q.seat) c.pass.view_is) r.1 in
     let both = subst (λ y. (passes_of c.pass.inside.seat (set c.pass.inside.passes.items c.pass.inside.seat c.pop_as.new.pass) c.pass.inside.fulls c.pass.inside.empties ≡ after_fetch c.args.pass.now y) × IsFor schema seats c.args.pass.now.seat y) (sym c.posted.view_is) (is, fit) in
     (c.posted.inside.from, both.0, both.1)
 

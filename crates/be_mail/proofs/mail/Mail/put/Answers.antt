@@ -17,20 +17,20 @@ push_as-requires-clause-queue g c =
 pub push_as-requires-clause-rule : goal.push_as-requires-clause-rule
 push_as-requires-clause-rule g c =
     let at = at_session c.pass.invariant c.self.invariant (ap (λ (q : Passes). q.boxes) c.pass.view_is ∙ c.requires.passes) c.self.view_is c.args.to _ _ _ c.requires.to c.index_mut.ensures.value c.index.ensures in
-    may_put g.S.Post.schema g.S.Post.seats g.S.Post.found _ c.index_mut.result.now.id c.pass.inside.seat c.args.to c.index_mut.result.now (plain_letter c.args.letter) at.is_hand
+    may_put g.S.Post.schema g.S.Post.seats g.S.Post.found _ c.index_mut.result.now.id c.pass.inside.seat c.args.to c.index_mut.result.now (plain_letter c.args.letter) at.room at.is_hand
     (record { from = at.from; fit = c.requires.fit; here = sym c.requires.to })
 
 pub invariant_of-pass : goal.invariant_of-pass
 invariant_of-pass g c =
     let at = at_session c.pass.invariant c.self.invariant (ap (λ (q : Passes). q.boxes) c.pass.view_is ∙ c.requires.passes) c.self.view_is c.args.to _ _ _ c.requires.to c.index_mut.ensures.value c.index.ensures in
     let is = c.in-Ok.ensures.rule ∙ ap (λ (v : HandState). with_put v (posting c.pass.inside.seat (plain_letter c.args.letter))) at.is_hand.shows in
-    hands_set c.pass.inside.seat c.pass.inside.passes.items c.args.to c.push_as.new.pass c.pass.invariant (is_hand c.pass.inside.seat c.args.to c.push_as.new.pass _ _ (c.in-Ok.ensures.queue.2 ∙ at.is_hand.home) is)
+    hands_set c.pass.inside.seat c.pass.inside.passes.items c.args.to c.push_as.new.pass c.pass.invariant (is_hand c.pass.inside.seat c.args.to c.push_as.new.pass _ _ _ c.in-Ok.ensures.queue.0 (c.in-Ok.ensures.queue.2 ∙ at.is_hand.home) is)
 
 pub invariant_of-pass-in-Err : goal.invariant_of-pass-in-Err
 invariant_of-pass-in-Err g c =
     let at = at_session c.pass.invariant c.self.invariant (ap (λ (q : Passes). q.boxes) c.pass.view_is ∙ c.requires.passes) c.self.view_is c.args.to _ _ _ c.requires.to c.index_mut.ensures.value c.index.ensures in
     hands_set c.pass.inside.seat c.pass.inside.passes.items c.args.to c.push_as.new.pass c.pass.invariant
-    (is_hand c.pass.inside.seat c.args.to c.push_as.new.pass _ _ (c.in-Err.ensures.queue.2 ∙ at.is_hand.home) (c.in-Err.ensures.rule.1 ∙ at.is_hand.shows))
+    (is_hand c.pass.inside.seat c.args.to c.push_as.new.pass _ _ _ c.in-Err.ensures.queue.0 (c.in-Err.ensures.queue.2 ∙ at.is_hand.home) (c.in-Err.ensures.rule.1 ∙ at.is_hand.shows))
 
 pub returns-in-Ok-clause-put : goal.returns-in-Ok-clause-put
 returns-in-Ok-clause-put g c =

@@ -1,10 +1,13 @@
-use Rattle.std.proofs.Common.{◌≡◌, ℕ, ◌<◌, ◌≤◌, [], ◌∷◌, ◌++◌, length, sym, ap, ◌∙◌, subst, append_assoc, arith}
+use Rattle.std.proofs.Common.{◌≡◌, ℕ, ◌<◌, ◌≤◌, List, [], ◌∷◌, ◌++◌, length, sym, ap, ◌∙◌, subst, append_assoc, arith}
 use Rattle.std.proofs.lemmas.List.{length-map}
 use mathlib.Core.Logic.{dite}
 use native.Mathlib.Decide.{ℕ_discrete}
 use Rattle.crossbeam_queue.specs.Passes.{view}
-use Rattle.crossbeam_queue.proofs.Lists.{at_index}
-use Rattle.be_mail.specs.Passes.{Passes}
+use mathlib.Core.Option.{some}
+use lib.ListN.{get_elem?}
+use Rattle.atomic_table.specs.Seated.{TableId}
+use Rattle.crossbeam_queue.proofs.Lists.{at_index, at_map}
+use Rattle.be_mail.specs.Passes.{Passes, box_of}
 use Rattle.be_mail.specs.Boxes.{name_of}
 use Rattle.be_mail.specs.Settled.{AreAll, IsSum}
 use Rattle.be_mail.proofs.Moves.{learns}
@@ -39,7 +42,7 @@ pub take_in-requires-clause-join : goal.take_in-requires-clause-join
 take_in-requires-clause-join g c =
     let i = c.loop-other.invariant.2 in
     let os = c.other.inside in
-    can_join c.args.self.now (i.0 ∷ c.loop-other.yielded) c.loop-other.sum.items os.passes.items os.seat i.2 c.other.invariant
+    can_join c.args.self.now (i.0 ∷ c.loop-other.yielded) c.loop-other.sum.items os.passes.items os.seat i.2 (take_in-requires-clause-boxes g c).1 c.other.invariant
 
 pub loop-other-preserved : goal.loop-other-preserved
 loop-other-preserved g c =
@@ -98,10 +101,11 @@ loop-place-preserved g c =
     let less : n < length bs = let h = c.loop-place-test.true in let e = c.len-boxes.ensures in let o = c.self.inside.boxes.ok.0 in omega arith in
     let at_p = at_index ps n p (omega arith) c.index_mut.ensures.value in
     let sum = i.0.each n p at_p in
+    let named = subst (λ (l : List TableId). get_elem? l n ≡ some (box_of p)) i.0.boxes (at_map box_of ps n p at_p) in
     let e = c.learn_as.ensures in (
       looked c.args.self.now qs ps n p c.learn_as.new.pass i.0 at_p e.queue.0.0 e.queue.0.2 e.queue.1,
       λ w h. dite (ℕ_discrete w n)
-          (λ is. kept g.S.Post.schema g.S.Post.seats g.S.Post.found qs w p (subst (λ k. IsSum qs k p) (sym is) sum) e.rule)
+          (λ is. kept g.S.Post.schema g.S.Post.seats g.S.Post.found c.args.self.now qs w p (subst (λ k. get_elem? c.args.self.now k ≡ some (box_of p)) (sym is) named) (subst (λ k. IsSum qs k p) (sym is) sum) e.rule)
           (λ ne. i.1 w (omega arith)),
     )
 
@@ -116,7 +120,7 @@ pub returns-clause-taken : goal.returns-clause-taken
 returns-clause-taken g c =
     let bs = c.self.inside.boxes.items in
     let n : length c.args.self.now ≡ g.S.Post.seats = ap length (sym c.self.view_is) ∙ length-map bs name_of ∙ c.self.invariant.count in
-    taken_were_put g.S.Post.schema g.S.Post.seats c.args.self.now c.args.passes.items n c.requires c.loop-place.invariant.0.within (returns-clause-kept g c)
+    taken_were_put g.S.Post.schema g.S.Post.seats g.S.Post.found c.args.self.now c.args.passes.items n c.requires c.loop-place.invariant.0.within (returns-clause-kept g c)
 
 -- there is a seat, and so there are passes
 pub returns-in_default-clause-kept : goal.returns-in_default-clause-kept

@@ -11,4 +11,4 @@ invariant-loop-other g l =
 
 abbrev pub invariant-loop-place : goal.invariant-loop-place
 invariant-loop-place g l =
-    AreSums l.self l.fn.passes.items l.sum.items × ((mailbox : ℕ) → mailbox < l.place → IsKept g.S.Post.schema g.S.Post.seats l.fn.passes.items mailbox)
+    AreSums l.self l.fn.passes.items l.sum.items × ((mailbox : ℕ) → mailbox < l.place → IsKept g.S.Post.schema g.S.Post.seats g.S.Post.found l.self l.fn.passes.items mailbox)
