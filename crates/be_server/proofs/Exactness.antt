@@ -1,23 +1,29 @@
--- What the file holds decides the status.
+-- What the files hold decides the status.
 use Rattle.std.proofs.Common.{◌≡◌, ◌⊎◌, inl, inr, ℕ, ◌<◌, ◌≤◌, List, length, Option, Some, None, Result, Ok, Err, refl, sym, subst, ◌∙◌, arith}
 use Rattle.be_base.specs.Text.{Text}
 use Rattle.be_base.specs.declared.limits.TheConstants.{FILE_BYTES}
 use Rattle.be_event.specs.declared.schema_texts.SchemaFault.{SchemaFault}
-use Rattle.be_event.specs.declared.schema_texts.SchemaFault.TheVariants.{Line}
+use Rattle.be_event.specs.declared.schema_texts.SchemaFault.TheVariants as schema
+use Rattle.be_event.specs.declared.schema_texts.SchemaKind.{SchemaKind}
 use Rattle.be_event.specs.SchemaTexts.{schema_of}
 use Rattle.be_io.specs.Counts.{HasRisen}
 use Rattle.be_io.specs.Shelf.{HoldsFile}
-use Rattle.be_model.specs.Schemas.{Attributes}
-use Rattle.be_server.specs.declared.status.Status.{Status}
-use Rattle.be_server.specs.declared.status.Status.TheVariants.{Done, Words, SchemaBad, NoMemory, ReadFault, LongFile, WriteFault, Spent, Split, Stray, Shut}
-use Rattle.be_server.specs.Exact.{IsFaultless, IsExact, EndsExactly}
-use Rattle.be_server.specs.Files.{ToldFile, FileReads, IsSchemaOf}
-use Rattle.be_server.specs.Promise.{CommandState, RunEnds, Ends}
 use Rattle.be_io.specs.Sink.{SinkState}
+use Rattle.be_model.specs.declared.changes.Row.{Row}
+use Rattle.be_model.specs.Schemas.{Attributes}
+use Rattle.be_table.specs.declared.faults.TableFault.{TableFault}
+use Rattle.be_table.specs.declared.faults.TableFault.TheVariants as table
+use Rattle.be_table.specs.declared.faults.TableKind.{TableKind}
+use Rattle.be_table.specs.Tables.{table_of}
+use Rattle.be_words.specs.Words.{Request, run, gen}
+use Rattle.be_server.specs.declared.status.Status.{Status}
+use Rattle.be_server.specs.declared.status.Status.TheVariants.{Done, Words, SchemaBad, LoadBad, NoMemory, ReadFault, LongFile, WriteFault, Spent, Split, Stray, Shut}
+use Rattle.be_server.specs.Exact.{IsFaultless, FileIsRefused, ToldAs, ToldLong, LoadIsGood, SchemaDecides, LoadDecides, IsExact, EndsExactly}
+use Rattle.be_server.specs.Files.{ToldFile, RunFiles, run_files, FileReads, FileIsLong, IsSchemaOf, IfLoads, TableReads, AreRowsOf, SchemaIsBad, LoadIsBad, OneIsLong}
 use Rattle.be_server.specs.Generated.{GenEnds}
-use Rattle.be_server.specs.Words.{Command, run, gen}
+use Rattle.be_server.specs.Promise.{CommandState, RunEnds, Ends}
 
--- what is told of the file
+-- what is told of a file
 told : (file : ToldFile) (text : List ℕ) (P : List ℕ → Type 0) → file ≡ Some (Some text) → HoldsFile file P → P text
 told file text P e h = subst (λ (o : ToldFile). HoldsFile o P) e h
 
@@ -27,59 +33,153 @@ gone file P e h = subst (λ (o : ToldFile). HoldsFile o P) e h
 too_long : (text : List ℕ) → length text ≤ FILE_BYTES → FILE_BYTES < length text → ⊥
 too_long text a b = omega arith
 
-reads : (file : ToldFile) (text : List ℕ) (r : Result Attributes SchemaFault) → FileReads file r → file ≡ Some (Some text) → (length text ≤ FILE_BYTES) × (schema_of text ≡ r)
-reads file text r f is = told file text (λ t. (length t ≤ FILE_BYTES) × (schema_of t ≡ r)) is f
+-- a file is read as one thing
+one_reading : {A : Type 0} (reader : List ℕ → A) (file : ToldFile) (a b : A) → FileReads reader file a → ToldAs reader file b → a ≡ b
+one_reading reader file a b f t =
+    let read = told file t.0 (λ x. (length x ≤ FILE_BYTES) × (reader x ≡ a)) t.1 f in
+    sym read.1 ∙ t.3
 
--- a session was served with the file's schema, so the file is as it should be, and where no call failed all is done
-exact_served : (file : ToldFile) (before after : CommandState) (status : Status) (s : Attributes) → IsSchemaOf file s
-    → (IsFaultless before after → (status ≡ Done) ⊎ (status ≡ NoMemory)) → IsExact file before after status
-exact_served file before after status s is_schema ends = record {
-  schema_bad = λ text line kind is short bad.
-      let read = reads file text (Ok s) is_schema.1 is in
-      let clash : Ok s ≡ Err (Line line kind) = sym read.1 ∙ bad in absurd cc;
-  long_file = λ text is long. absurd (too_long text (reads file text (Ok s) is_schema.1 is).0 long);
-  missing = λ none. absurd (gone file (λ t. (length t ≤ FILE_BYTES) × (schema_of t ≡ Ok s)) none is_schema.1);
-  complete = λ text t is short good. ends;
+not_long : {A : Type 0} (reader : List ℕ → A) (file : ToldFile) (a : A) → FileReads reader file a → ToldLong file → ⊥
+not_long reader file a f t =
+    let read = told file t.0 (λ x. (length x ≤ FILE_BYTES) × (reader x ≡ a)) t.1 f in
+    too_long t.0 read.0 t.2
+
+not_gone : {A : Type 0} (reader : List ℕ → A) (file : ToldFile) (a : A) → FileReads reader file a → file ≡ Some None → ⊥
+not_gone reader file a f none = gone file (λ x. (length x ≤ FILE_BYTES) × (reader x ≡ a)) none f
+
+not_short : {A : Type 0} (reader : List ℕ → A) (file : ToldFile) (a : A) → FileIsLong file → ToldAs reader file a → ⊥
+not_short reader file a f t = too_long t.0 t.2 (told file t.0 (λ x. FILE_BYTES < length x) t.1 f)
+
+long_stays : (file : ToldFile) → FileIsLong file → file ≡ Some None → ⊥
+long_stays file f none = gone file (λ x. FILE_BYTES < length x) none f
+
+-- one schema
+same_schema : (file : ToldFile) (s t : Attributes) → FileReads schema_of file (Ok s) → ToldAs schema_of file (Ok t) → s ≡ t
+same_schema file s t f told_as = let e : Ok s ≡ Ok t = one_reading schema_of file (Ok s) (Ok t) f told_as in cc
+
+schema_good : (file : ToldFile) (s : Attributes) (before after : CommandState) (status : Status) → FileReads schema_of file (Ok s) → SchemaDecides file before after status
+schema_good file s before after status f = record {
+  bad = λ line kind t. let clash : Ok s ≡ Err (schema.Line line kind) = one_reading schema_of file (Ok s) (Err (schema.Line line kind)) f t in absurd cc;
+  long = λ t. absurd (not_long schema_of file (Ok s) f t);
+  missing = λ none. absurd (not_gone schema_of file (Ok s) f none);
+}
+
+load_good : (s : Attributes) (file : ToldFile) (rows : List Row) (before after : CommandState) (status : Status) → FileReads (table_of s) file (Ok rows) → LoadDecides s file before after status
+load_good s file rows before after status f = record {
+  bad = λ line kind t. let clash : Ok rows ≡ Err (table.Line line kind) = one_reading (table_of s) file (Ok rows) (Err (table.Line line kind)) f t in absurd cc;
+  long = λ t. absurd (not_long (table_of s) file (Ok rows) f t);
+  missing = λ none. absurd (not_gone (table_of s) file (Ok rows) f none);
+}
+
+-- the rows of a load file that is named
+rows_named : (s : Attributes) (load : Option ToldFile) (file : ToldFile) (rows : List Row) → AreRowsOf s load rows → load ≡ Some file → FileReads (table_of s) file (Ok rows)
+rows_named s load file rows are named = subst (λ (o : Option ToldFile). TableReads s o rows) named are.1
+
+load_named : (load : Option ToldFile) (file : ToldFile) (P : ToldFile → Type 0) → IfLoads load P → load ≡ Some file → P file
+load_named load file P is named = subst (λ (o : Option ToldFile). IfLoads o P) named is
+
+good_named : (s : Attributes) (load : Option ToldFile) (P : ToldFile → Type 0) → IfLoads load P → LoadIsGood s load → (file : ToldFile) × P file × (rows : List Row) × ToldAs (table_of s) file (Ok rows)
+good_named s None P is good = absurd is
+good_named s (Some file) P is good = (file, is, good.0, good.1)
+
+-- a session was served with the files, so they are as they should be, and where no call failed all is done
+exact_served : (files : RunFiles) (before after : CommandState) (status : Status) (s : Attributes) (rows : List Row) → IsSchemaOf files.schema s → AreRowsOf s files.load rows
+    → (IsFaultless before after → (status ≡ Done) ⊎ (status ≡ NoMemory)) → IsExact files before after status
+exact_served files before after status s rows is_schema are ends = record {
+  schema = schema_good files.schema s before after status is_schema.1;
+  load = λ t file good named.
+      let same = same_schema files.schema s t is_schema.1 good in
+      subst (λ (x : Attributes). LoadDecides x file before after status) same (load_good s file rows before after status (rows_named s files.load file rows are named));
+  complete = λ t good loads. ends;
 }
 
 -- memory was wanting, or the shelf failed
-exact_refused : (file : ToldFile) (before after : CommandState) (status : Status) → ((status ≡ ReadFault) × HasRisen before.shelf after.shelf) ⊎ ((status ≡ NoMemory) × (after.shelf ≡ before.shelf))
-    → (IsFaultless before after → (status ≡ Done) ⊎ (status ≡ NoMemory)) → IsExact file before after status
-exact_refused file before after status refused ends = record {
-  schema_bad = λ text line kind is short bad. inr refused;
-  long_file = λ text is long. inr refused;
-  missing = λ none. refused;
-  complete = λ text t is short good. ends;
+exact_refused : (files : RunFiles) (before after : CommandState) (status : Status) → FileIsRefused before after status
+    → (IsFaultless before after → (status ≡ Done) ⊎ (status ≡ NoMemory)) → IsExact files before after status
+exact_refused files before after status refused ends = record {
+  schema = record { bad = λ line kind t. inr refused; long = λ t. inr refused; missing = λ none. refused };
+  load = λ s file good named. record { bad = λ line kind t. inr refused; long = λ t. inr refused; missing = λ none. refused };
+  complete = λ s good loads. ends;
 }
 
-exact_run : (Untouched : Type 0) (file : ToldFile) (before after : CommandState) (status : Status) → RunEnds Untouched file before after status → IsExact file before after status
-exact_run U file before after Done (_, inl r) = exact_served file before after Done r.schema r.is_schema (λ quiet. inl refl)
-exact_run U file before after Done (_, inr r) = exact_served file before after Done r.schema r.is_schema (λ quiet. inl refl)
-exact_run U file before after Words r = absurd r
-exact_run U file before after (SchemaBad l k) r = record {
-  schema_bad = λ text line kind is short bad.
-      let read = reads file text (Err (Line l k)) r.2 is in
-      let same : Err (Line l k) ≡ Err (Line line kind) = sym read.1 ∙ bad in inl cc;
-  long_file = λ text is long. absurd (too_long text (reads file text (Err (Line l k)) r.2 is).0 long);
-  missing = λ none. absurd (gone file (λ t. (length t ≤ FILE_BYTES) × (schema_of t ≡ Err (Line l k))) none r.2);
-  complete = λ text s is short good quiet.
-      let read = reads file text (Err (Line l k)) r.2 is in
-      let clash : Err (Line l k) ≡ Ok s = sym read.1 ∙ good in absurd cc;
+-- the schema is faulty
+exact_schema : (files : RunFiles) (before after : CommandState) (status : Status) (read : Result Attributes SchemaFault) → FileReads schema_of files.schema read
+    → ((s : Attributes) → read ≡ Ok s → ⊥) → SchemaDecides files.schema before after status → IsExact files before after status
+exact_schema files before after status read f none decides = record {
+  schema = decides;
+  load = λ s file good named. absurd (none s (one_reading schema_of files.schema read (Ok s) f good));
+  complete = λ s good loads quiet. absurd (none s (one_reading schema_of files.schema read (Ok s) f good));
 }
-exact_run U file before after NoMemory r = exact_refused file before after NoMemory (inr (refl, r.0)) (λ quiet. inr refl)
-exact_run U file before after ReadFault (inl r) = exact_refused file before after ReadFault (inl (refl, r.0)) (λ quiet. absurd (quiet.shelf r.0))
-exact_run U file before after ReadFault (inr r) = exact_served file before after ReadFault r.1.schema r.1.is_schema (λ quiet. absurd (quiet.source r.1.ends.0))
-exact_run U file before after LongFile r = record {
-  schema_bad = λ text line kind is short bad. absurd (too_long text short (told file text (λ t. FILE_BYTES < length t) is r.2));
-  long_file = λ text is long. inl refl;
-  missing = λ none. absurd (gone file (λ t. FILE_BYTES < length t) none r.2);
-  complete = λ text s is short good quiet. absurd (too_long text short (told file text (λ t. FILE_BYTES < length t) is r.2));
+
+exact_schema_bad : (files : RunFiles) (before after : CommandState) (l : ℕ) (k : SchemaKind) → SchemaIsBad files l k → IsExact files before after (SchemaBad l k)
+exact_schema_bad files before after l k f = exact_schema files before after (SchemaBad l k) (Err (schema.Line l k)) f (λ s e. absurd cc) (record {
+  bad = λ line kind t. let same : Err (schema.Line l k) ≡ Err (schema.Line line kind) = one_reading schema_of files.schema (Err (schema.Line l k)) (Err (schema.Line line kind)) f t in inl cc;
+  long = λ t. absurd (not_long schema_of files.schema (Err (schema.Line l k)) f t);
+  missing = λ none. absurd (not_gone schema_of files.schema (Err (schema.Line l k)) f none);
+})
+
+-- the load file is faulty
+exact_load_bad : (files : RunFiles) (before after : CommandState) (l : ℕ) (k : TableKind) → LoadIsBad files l k → IsExact files before after (LoadBad l k)
+exact_load_bad files before after l k f =
+    let s = f.0 in
+    let P = λ (file : ToldFile). FileReads (table_of s) file (Err (table.Line l k)) in
+    record {
+      schema = schema_good files.schema s before after (LoadBad l k) f.1.1;
+      load = λ t file good named.
+          let here = load_named files.load file P f.2 named in
+          subst (λ (x : Attributes). LoadDecides x file before after (LoadBad l k)) (same_schema files.schema s t f.1.1 good) (record {
+            bad = λ line kind told_as. let same : Err (table.Line l k) ≡ Err (table.Line line kind) = one_reading (table_of s) file (Err (table.Line l k)) (Err (table.Line line kind)) here told_as in inl cc;
+            long = λ told_long. absurd (not_long (table_of s) file (Err (table.Line l k)) here told_long);
+            missing = λ none. absurd (not_gone (table_of s) file (Err (table.Line l k)) here none);
+          });
+      complete = λ t good loads quiet.
+          let loads_s = subst (λ (x : Attributes). LoadIsGood x files.load) (sym (same_schema files.schema s t f.1.1 good)) loads in
+          let named = good_named s files.load P f.2 loads_s in
+          let clash : Err (table.Line l k) ≡ Ok named.2 = one_reading (table_of s) named.0 (Err (table.Line l k)) (Ok named.2) named.1 named.3 in absurd cc;
+    }
+
+-- a file is over the limit
+exact_long : (files : RunFiles) (before after : CommandState) → OneIsLong files → IsExact files before after LongFile
+exact_long files before after (inl f) = record {
+  schema = record {
+    bad = λ line kind t. absurd (not_short schema_of files.schema (Err (schema.Line line kind)) f t);
+    long = λ t. inl refl;
+    missing = λ none. absurd (long_stays files.schema f none);
+  };
+  load = λ s file good named. absurd (not_short schema_of files.schema (Ok s) f good);
+  complete = λ s good loads quiet. absurd (not_short schema_of files.schema (Ok s) f good);
 }
-exact_run U file before after WriteFault r = exact_served file before after WriteFault r.1.schema r.1.is_schema (λ quiet. absurd (quiet.sink r.1.ends.0))
-exact_run U file before after Spent r = exact_served file before after Spent r.1.schema r.1.is_schema (λ quiet. absurd (quiet.bytes r.1.ends.0))
-exact_run U file before after (Split rift) r = absurd r
-exact_run U file before after (Stray stray) r = absurd r
-exact_run U file before after (Shut shade) r = absurd r
+exact_long files before after (inr f) =
+    let s = f.0 in
+    record {
+      schema = schema_good files.schema s before after LongFile f.1.1;
+      load = λ t file good named.
+          let here = load_named files.load file FileIsLong f.2 named in
+          record {
+            bad = λ line kind told_as. absurd (not_short (table_of t) file (Err (table.Line line kind)) here told_as);
+            long = λ told_long. inl refl;
+            missing = λ none. absurd (long_stays file here none);
+          };
+      complete = λ t good loads quiet.
+          let named = good_named t files.load FileIsLong f.2 loads in
+          absurd (not_short (table_of t) named.0 (Ok named.2) named.1 named.3);
+    }
+
+exact_run : (Untouched : Type 0) (files : RunFiles) (before after : CommandState) (status : Status) → RunEnds Untouched files before after status → IsExact files before after status
+exact_run U files before after Done (_, inl r) = exact_served files before after Done r.schema r.rows r.is_schema r.are_rows (λ quiet. inl refl)
+exact_run U files before after Done (_, inr r) = exact_served files before after Done r.schema r.rows r.is_schema r.are_rows (λ quiet. inl refl)
+exact_run U files before after Words r = absurd r
+exact_run U files before after (SchemaBad l k) r = exact_schema_bad files before after l k r.2
+exact_run U files before after (LoadBad l k) r = exact_load_bad files before after l k r.2
+exact_run U files before after NoMemory r = exact_refused files before after NoMemory (inr (refl, r.0)) (λ quiet. inr refl)
+exact_run U files before after ReadFault (inl r) = exact_refused files before after ReadFault (inl (refl, r.0)) (λ quiet. absurd (quiet.shelf r.0))
+exact_run U files before after ReadFault (inr r) = exact_served files before after ReadFault r.1.schema r.1.rows r.1.is_schema r.1.are_rows (λ quiet. absurd (quiet.source r.1.ends.0))
+exact_run U files before after LongFile r = exact_long files before after r.2
+exact_run U files before after WriteFault r = exact_served files before after WriteFault r.1.schema r.1.rows r.1.is_schema r.1.are_rows (λ quiet. absurd (quiet.sink r.1.ends.0))
+exact_run U files before after Spent r = exact_served files before after Spent r.1.schema r.1.rows r.1.is_schema r.1.are_rows (λ quiet. absurd (quiet.bytes r.1.ends.0))
+exact_run U files before after (Split rift) r = absurd r
+exact_run U files before after (Stray stray) r = absurd r
+exact_run U files before after (Shut shade) r = absurd r
 
 exact_gen : (Kept : Type 0) (number subs events : ℕ) (before after : SinkState) (status : Status) → GenEnds Kept number subs events before after status
     → (HasRisen before.faults after.faults → ⊥) → (status ≡ Done) ⊎ (status ≡ NoMemory)
@@ -88,8 +188,8 @@ exact_gen K number subs events before after WriteFault e quiet = absurd (quiet e
 exact_gen K number subs events before after NoMemory e quiet = inr refl
 exact_gen K number subs events before after _ e quiet = absurd e
 
-pub exact_ends : (c : Option Command) (InputKept OutKept : Type 0) (content : Text → ToldFile) (before after : CommandState) (status : Status)
+pub exact_ends : (c : Option Request) (InputKept OutKept : Type 0) (content : Text → ToldFile) (before after : CommandState) (status : Status)
     → Ends c InputKept OutKept content before after status → EndsExactly c content before after status
 exact_ends None I O content before after status e = tt
-exact_ends (Some (run schema)) I O content before after status e = exact_run (I × O) (content schema) before after status e
+exact_ends (Some (run schema load)) I O content before after status e = exact_run (I × O) (run_files content schema load) before after status e
 exact_ends (Some (gen number subs events)) I O content before after status e = exact_gen O number subs events before.link.sink after.link.sink status e.2

@@ -1,11 +1,8 @@
-pub mod Commanded
-pub mod Steps
-pub mod Serves
-pub mod Turning
 pub mod Exactness
-pub mod Alone
-pub mod Told
-pub mod Ordered
+pub mod Quits
+pub mod Runs
+pub mod Loading
+pub mod Ended
 pub mod ScriptLists
 pub mod Tallies
 pub mod ScriptSteps

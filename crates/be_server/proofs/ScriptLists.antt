@@ -1,5 +1,6 @@
 -- The list of changes that a workload's subscriptions make, and what is live in it.
 use Rattle.std.proofs.Common.{◌≡◌, ℕ, suc, ◌+◌, ◌^◌, ◌<◌, ◌≤◌, false, List, [], ◌∷◌, ◌++◌, length, append_assoc, append-nil, refl, sym, ap, ◌∙◌, arith, decimal}
+use Rattle.std.specs.List.{list_any}
 use Rattle.std.proofs.lemmas.Bool.{false_from_ne_true}
 use Rattle.std.proofs.lemmas.Fmt.{decimal_injective}
 use Rattle.be_base.specs.Text.{same_text}
@@ -8,11 +9,13 @@ use Rattle.be_model.specs.declared.changes.Row.{Row}
 use Rattle.be_model.specs.declared.preds.Pred.{Pred}
 use Rattle.be_model.specs.ByIds.{ByIds, rows_of}
 use Rattle.be_model.specs.Matching.{Assignments}
-use Rattle.be_change.specs.History.{Entry, subscribed, live, live_from, has_left, is_live_name}
+use Rattle.be_change.specs.History.{Entry, subscribed, live, live_from, is_leave_of, placed_from, is_live_name}
 use Rattle.be_change.specs.Made.{row_made, change_named}
 use Rattle.be_change.specs.Requests.{subscribe}
 use Rattle.be_change.specs.Walk.{live_rows}
 use Rattle.be_workload.specs.Asked.{name_of_sub, subscribing, publishing}
+use Rattle.be_board.specs.LocalCopy.{local_word}
+use Rattle.be_board.specs.Word.{own_of, own_in}
 use Rattle.be_server.specs.Sums.{rows_subscribed, published, costed}
 
 -- from this place on
@@ -84,9 +87,17 @@ name_is_new conjs small =
     ap (is_live_name (name_of_sub (length conjs))) (live_from-list_of [] 0 conjs) ∙ no_name (length conjs) 0 conjs (omega arith) small
 
 -- the session goes on
-pub list_goes_on : (place : ℕ) (conjs : List (List Pred)) → has_left 1 (list_of place conjs) ≡ false
-list_goes_on place [] = refl
-list_goes_on place (conj ∷ conjs) = list_goes_on (place + 1) conjs
+pub list_goes_on : (n place : ℕ) (conjs : List (List Pred)) → list_any (λ (p : ℕ × Entry). is_leave_of 1 p.1) (placed_from 1 n (list_of place conjs)) ≡ false
+list_goes_on n place [] = refl
+list_goes_on n place (conj ∷ conjs) = list_goes_on (n + 1) (place + 1) conjs
+
+-- each entry is its own
+serials_from : (n place : ℕ) (conjs : List (List Pred)) → length (own_of 1 (placed_from 1 n (list_of place conjs))) ≡ length conjs
+serials_from n place [] = refl
+serials_from n place (conj ∷ conjs) = ap (λ (m : ℕ). suc m) (serials_from (n + 1) (place + 1) conjs)
+
+pub serial-list_of : (place : ℕ) (conjs : List (List Pred)) → length (own_in (local_word (list_of place conjs))) ≡ length conjs
+serial-list_of place conjs = serials_from 0 place conjs
 
 no_rows : (place : ℕ) (es : List Assignments) → rows_subscribed place (publishing es) ≡ []
 no_rows place [] = refl

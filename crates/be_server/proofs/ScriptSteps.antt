@@ -1,6 +1,6 @@
 -- A workload's script is counted request by request: first its subscriptions, then its events.
 use Rattle.std.proofs.Common.{◌≡◌, ◌⊎◌, inl, inr, ℕ, ◌+◌, ◌^◌, ◌<◌, ◌≤◌, false, List, [], ◌∷◌, ◌++◌, length, length-append, map, append_assoc, append-nil, refl, sym, ap, ◌∙◌, subst, arith}
-use Rattle.std.specs.List.{All}
+use Rattle.std.specs.List.{All, list_any}
 use Rattle.std.proofs.lemmas.List.Elements.{All-head, All-tail}
 use Rattle.be_base.specs.declared.limits.TheConstants.{GENERATED_SUBSCRIPTIONS, GENERATED_EVENTS}
 use Rattle.be_base.specs.Text.{Text}
@@ -10,15 +10,17 @@ use Rattle.be_model.specs.declared.changes.Row.{Row}
 use Rattle.be_model.specs.declared.preds.Pred.{Pred}
 use Rattle.be_model.specs.Bounds.{IsWithinBound}
 use Rattle.be_model.specs.Matching.{Assignments}
-use Rattle.be_change.specs.History.{Entry, live, has_left, is_live_name}
+use Rattle.be_change.specs.History.{Entry, live, is_leave_of, placed_of, is_live_name}
 use Rattle.be_change.specs.Made.{change_named}
 use Rattle.be_change.specs.Requests.{Request, subscribe, publish, costing}
 use Rattle.be_change.specs.Walk.{live_rows}
 use Rattle.be_transcript.specs.Readings.{reading}
+use Rattle.be_board.specs.LocalCopy.{local_word}
+use Rattle.be_board.specs.Word.{own_in}
 use Rattle.be_workload.specs.Asked.{schema, asked_by_lines, name_of_sub, subscribing, publishing, IsOfSchema, AreRequests}
 use Rattle.be_server.specs.declared.sums.Sums.{Sums}
 use Rattle.be_server.specs.Sums.{published, costed, no_sums, MayCount, Counts, AreSums, AreCountable, rows_subscribed}
-use Rattle.be_server.proofs.ScriptLists.{list_of, rows_made, length-list_of, length-rows_made, list_of-snoc, live_rows-list_of, name_is_new, list_goes_on, rows-script, published-events, costed-events, published-script, costed-script}
+use Rattle.be_server.proofs.ScriptLists.{list_of, rows_made, length-list_of, length-rows_made, list_of-snoc, live_rows-list_of, name_is_new, list_goes_on, serial-list_of, rows-script, published-events, costed-events, published-script, costed-script}
 use Rattle.be_server.proofs.Tallies.{Tallies, few_satisfied, small_cost, tally_none, tally_hits, tally_cost}
 
 -- an event of the schema is published, or its cost is asked for
@@ -77,8 +79,8 @@ serve_begin requests k = record {
 }
 
 -- the session hasn't left
-pub serve_goes_on : (requests left : List Request) (list : List Entry) (sums : Sums) → Serving requests list left sums → has_left 1 list ≡ false
-serve_goes_on requests left list sums k = ap (has_left 1) k.list_is ∙ list_goes_on 0 k.subbed
+pub serve_goes_on : (requests left : List Request) (list : List Entry) (sums : Sums) → Serving requests list left sums → list_any (λ (p : ℕ × Entry). is_leave_of 1 p.1) (placed_of 1 list) ≡ false
+serve_goes_on requests left list sums k = ap (λ (h : List Entry). list_any (λ (p : ℕ × Entry). is_leave_of 1 p.1) (placed_of 1 h)) k.list_is ∙ list_goes_on 0 0 k.subbed
 
 published-append : (xs ys : List Request) → published (xs ++ ys) ≡ published xs ++ published ys
 published-append [] ys = refl
@@ -189,8 +191,9 @@ sub_step requests list sums r rest k after counted conj conjs some none later c 
       first = inr none;
       list_is =
           c.0
-          ∙ ap (λ (h : List Entry). h ++ change_named 1 (length h) (length h) (subscribe (name_of_sub n) conj)) k.list_is
-          ∙ ap (λ (m : ℕ). list_of 0 k.subbed ++ change_named 1 m m (subscribe (name_of_sub n) conj)) (length-list_of 0 k.subbed)
+          ∙ ap (λ (h : List Entry). h ++ change_named 1 (length (own_in (local_word h))) (length h) (subscribe (name_of_sub n) conj)) k.list_is
+          ∙ ap (λ (m : ℕ). list_of 0 k.subbed ++ change_named 1 m (length (list_of 0 k.subbed)) (subscribe (name_of_sub n) conj)) (serial-list_of 0 k.subbed)
+          ∙ ap (λ (m : ℕ). list_of 0 k.subbed ++ change_named 1 n m (subscribe (name_of_sub n) conj)) (length-list_of 0 k.subbed)
           ∙ ap (λ (m : ℕ). list_of 0 k.subbed ++ change_named 1 m m (subscribe (name_of_sub m) conj)) (zero_left n)
           ∙ sym (list_of-snoc 0 k.subbed conj);
       left_is = later ∙ ap (λ (m : ℕ). subscribing m conjs ++ k.todo) (sym (length-append k.subbed (conj ∷ [])));

@@ -1,18 +1,22 @@
--- Which status is due: a faulty schema and a file over the limit are named, unless reading the file failed or memory was wanting,
--- and where nothing is wrong all is done, or memory was wanting.
+-- Which status is due: the first fault of the files, or a file over the limit, is named, unless reading a file failed or memory was
+-- wanting, and where nothing is wrong all is done, or memory was wanting.
 use Rattle.std.specs.Prelude.{◌≡◌, ℕ, ◌<◌, ◌≤◌, ◌⊎◌, List, length, Option, Some, None, Ok, Err}
 use Rattle.be_base.specs.Text.{Text}
 use Rattle.be_base.specs.declared.limits.TheConstants.{SOURCE_BYTES, FILE_BYTES}
-use Rattle.be_event.specs.declared.schema_texts.SchemaFault.TheVariants.{Line}
+use Rattle.be_event.specs.declared.schema_texts.SchemaFault.TheVariants as schema
 use Rattle.be_event.specs.declared.schema_texts.SchemaKind.{SchemaKind}
 use Rattle.be_event.specs.SchemaTexts.{schema_of}
 use Rattle.be_io.specs.Counts.{HasRisen, HasRisenBy}
+use Rattle.be_model.specs.declared.changes.Row.{Row}
 use Rattle.be_model.specs.Schemas.{Attributes}
+use Rattle.be_table.specs.declared.faults.TableFault.TheVariants as table
+use Rattle.be_table.specs.declared.faults.TableKind.{TableKind}
+use Rattle.be_table.specs.Tables.{table_of}
+use Rattle.be_words.specs.Words.{Request, run, gen}
 use Rattle.be_server.specs.declared.status.Status.{Status}
-use Rattle.be_server.specs.declared.status.Status.TheVariants.{Done, SchemaBad, NoMemory, ReadFault, LongFile}
-use Rattle.be_server.specs.Files.{ToldFile}
+use Rattle.be_server.specs.declared.status.Status.TheVariants.{Done, SchemaBad, LoadBad, NoMemory, ReadFault, LongFile}
+use Rattle.be_server.specs.Files.{ToldFile, RunFiles, run_files}
 use Rattle.be_server.specs.Promise.{CommandState}
-use Rattle.be_server.specs.Words.{Command, run, gen}
 
 -- no count of faults rose, and the source gave less than 2^40 bytes
 pub record IsFaultless (before after : CommandState) : Type 0 where
@@ -26,22 +30,43 @@ abbrev pub FileIsRefused : CommandState → CommandState → Status → Type 0
 FileIsRefused before after status =
     ((status ≡ ReadFault) × HasRisen before.shelf after.shelf) ⊎ ((status ≡ NoMemory) × (after.shelf ≡ before.shelf))
 
--- what the file holds decides the status
-pub record IsExact (file : ToldFile) (before after : CommandState) (status : Status) : Type 0 where
+-- the shelf tells of the file, which is within the limit and is read as this
+abbrev pub ToldAs : {A : Type 0} → (List ℕ → A) → ToldFile → A → Type 0
+ToldAs reader file read = (text : List ℕ) × (file ≡ Some (Some text)) × (length text ≤ FILE_BYTES) × (reader text ≡ read)
+
+abbrev pub ToldLong : ToldFile → Type 0
+ToldLong file = (text : List ℕ) × (file ≡ Some (Some text)) × (FILE_BYTES < length text)
+
+-- the shelf tells that the schema is good, and there is no load file or it is good too
+abbrev pub LoadIsGood : Attributes → Option ToldFile → Type 0
+LoadIsGood s None = Unit {0}
+LoadIsGood s (Some file) = (rows : List Row) × ToldAs (table_of s) file (Ok rows)
+
+-- what the first file holds decides the status
+pub record SchemaDecides (file : ToldFile) (before after : CommandState) (status : Status) : Type 0 where
   -- a faulty schema is named, or the file was refused
-  pub schema_bad : (text : List ℕ) (line : ℕ) (kind : SchemaKind) → file ≡ Some (Some text) → length text ≤ FILE_BYTES
-      → schema_of text ≡ Err (Line line kind) → (status ≡ SchemaBad line kind) ⊎ FileIsRefused before after status
+  pub bad : (line : ℕ) (kind : SchemaKind) → ToldAs schema_of file (Err (schema.Line line kind)) → (status ≡ SchemaBad line kind) ⊎ FileIsRefused before after status
   -- a file over the limit is named, or it was refused otherwise
-  pub long_file : (text : List ℕ) → file ≡ Some (Some text) → FILE_BYTES < length text → (status ≡ LongFile) ⊎ FileIsRefused before after status
+  pub long : ToldLong file → (status ≡ LongFile) ⊎ FileIsRefused before after status
   -- a missing file is refused
   pub missing : file ≡ Some None → FileIsRefused before after status
-  -- where nothing is wrong all is done, want of memory aside
-  pub complete : (text : List ℕ) (s : Attributes) → file ≡ Some (Some text) → length text ≤ FILE_BYTES
-      → schema_of text ≡ Ok s → IsFaultless before after → (status ≡ Done) ⊎ (status ≡ NoMemory)
 
--- for `run` what the file of the schema holds decides. Where no write failed, all of `gen` is done, want of memory aside
-abbrev pub EndsExactly : Option Command → (Text → ToldFile) → CommandState → CommandState → Status → Type 0
+-- and behind a good schema what the load file holds
+pub record LoadDecides (s : Attributes) (file : ToldFile) (before after : CommandState) (status : Status) : Type 0 where
+  pub bad : (line : ℕ) (kind : TableKind) → ToldAs (table_of s) file (Err (table.Line line kind)) → (status ≡ LoadBad line kind) ⊎ FileIsRefused before after status
+  pub long : ToldLong file → (status ≡ LongFile) ⊎ FileIsRefused before after status
+  pub missing : file ≡ Some None → FileIsRefused before after status
+
+-- what the files hold decides the status
+pub record IsExact (files : RunFiles) (before after : CommandState) (status : Status) : Type 0 where
+  pub schema : SchemaDecides files.schema before after status
+  pub load : (s : Attributes) (file : ToldFile) → ToldAs schema_of files.schema (Ok s) → files.load ≡ Some file → LoadDecides s file before after status
+  -- where nothing is wrong all is done, want of memory aside
+  pub complete : (s : Attributes) → ToldAs schema_of files.schema (Ok s) → LoadIsGood s files.load → IsFaultless before after → (status ≡ Done) ⊎ (status ≡ NoMemory)
+
+-- for `run` what the files hold decides. Where no write failed, all of `gen` is done, want of memory aside
+abbrev pub EndsExactly : Option Request → (Text → ToldFile) → CommandState → CommandState → Status → Type 0
 EndsExactly None content before after status = Unit {0}
-EndsExactly (Some (run schema)) content before after status = IsExact (content schema) before after status
+EndsExactly (Some (run schema load)) content before after status = IsExact (run_files content schema load) before after status
 EndsExactly (Some (gen number subs events)) content before after status =
     (HasRisen before.link.sink.faults after.link.sink.faults → ⊥) → (status ≡ Done) ⊎ (status ≡ NoMemory)

@@ -1,9 +1,4 @@
 pub mod Words
-pub mod Requests
-pub mod Short
-pub mod Naming
-pub mod Subscriptions
-pub mod Session
 pub mod Status
 pub mod Files
 pub mod Promise

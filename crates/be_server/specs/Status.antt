@@ -1,19 +1,23 @@
--- The codes and texts of statuses, and the statuses of sessions.
-use Rattle.std.specs.Prelude.{ℕ, List, [], ◌∷◌, ◌++◌, codes, decimal}
+-- The codes and texts of statuses, and the statuses of faults.
+use Rattle.std.specs.Prelude.{ℕ, List, [], ◌∷◌, ◌++◌, Option, Some, None, codes, decimal}
 use Rattle.be_event.specs.declared.schema_texts.SchemaFault.{SchemaFault}
 use Rattle.be_event.specs.declared.schema_texts.SchemaFault.TheVariants as schema
 use Rattle.be_io.specs.declared.faults.ShelfFault.{ShelfFault}
 use Rattle.be_io.specs.declared.faults.ShelfFault.TheVariants as shelf
 use Rattle.be_event.specs.Declarations.{kind_name}
-use Rattle.be_server.specs.declared.session.SessionEnd.{SessionEnd}
-use Rattle.be_server.specs.declared.session.SessionEnd.TheVariants as ends
+use Rattle.be_session.specs.declared.serve.SessionEnd.{SessionEnd}
+use Rattle.be_session.specs.declared.serve.SessionEnd.TheVariants as ends
+use Rattle.be_table.specs.Faults as tables
+use Rattle.be_table.specs.declared.faults.TableFault.{TableFault}
+use Rattle.be_table.specs.declared.faults.TableFault.TheVariants as table
 use Rattle.be_server.specs.declared.status.Status.{Status}
-use Rattle.be_server.specs.declared.status.Status.TheVariants.{Done, Words, SchemaBad, NoMemory, ReadFault, LongFile, WriteFault, Spent, Split, Stray, Shut}
+use Rattle.be_server.specs.declared.status.Status.TheVariants.{Done, Words, SchemaBad, LoadBad, NoMemory, ReadFault, LongFile, WriteFault, Spent, Split, Stray, Shut}
 
 abbrev pub code_of : Status → ℕ
 code_of Done = 0
 code_of Words = 2
 code_of (SchemaBad line kind) = 3
+code_of (LoadBad line kind) = 3
 code_of ReadFault = 4
 code_of LongFile = 4
 code_of WriteFault = 5
@@ -28,6 +32,7 @@ abbrev pub status_text : Status → List ℕ
 status_text Done = []
 status_text Words = codes "words refused"
 status_text (SchemaBad line kind) = codes "schema line " ++ decimal line ++ codes ": " ++ kind_name kind
+status_text (LoadBad line kind) = codes "load line " ++ decimal line ++ codes ": " ++ tables.kind_name kind
 status_text NoMemory = codes "out of memory"
 status_text ReadFault = codes "read fault"
 status_text LongFile = codes "file over 67108864 bytes"
@@ -37,16 +42,17 @@ status_text (Split rift) = codes "split " ++ decimal rift.read ++ 32 ∷ decimal
 status_text (Stray stray) = codes "stray " ++ decimal stray.at
 status_text (Shut shade) = codes "reader refused"
 
--- the status of a session that ended so
-abbrev pub status_of : SessionEnd → Status
-status_of ends.Eof = Done
-status_of ends.Quit = Done
-status_of ends.ReadFault = ReadFault
-status_of ends.WriteFault = WriteFault
-status_of ends.Spent = Spent
-status_of ends.NoMemory = NoMemory
+-- the status of a run whose session ended so. It never ends by a SPLIT
+abbrev pub status_of : SessionEnd → Option Status
+status_of ends.Eof = Some Done
+status_of ends.Quit = Some Done
+status_of ends.ReadFault = Some ReadFault
+status_of ends.WriteFault = Some WriteFault
+status_of ends.Spent = Some Spent
+status_of ends.NoMemory = Some NoMemory
+status_of (ends.Split seen written) = None
 
--- the status where a file couldn't be read, and where its schema has a fault
+-- the status where a file couldn't be read, and where its schema or its table has a fault
 abbrev pub status_of_shelf : ShelfFault → Status
 status_of_shelf shelf.Failed = ReadFault
 status_of_shelf shelf.Long = LongFile
@@ -55,3 +61,7 @@ status_of_shelf shelf.NoMemory = NoMemory
 abbrev pub status_of_schema : SchemaFault → Status
 status_of_schema (schema.Line line kind) = SchemaBad line kind
 status_of_schema schema.NoMemory = NoMemory
+
+abbrev pub status_of_table : TableFault → Status
+status_of_table (table.Line line kind) = LoadBad line kind
+status_of_table table.NoMemory = NoMemory

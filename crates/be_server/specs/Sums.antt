@@ -15,6 +15,8 @@ use Rattle.be_change.specs.Requests.{Request, subscribe, publish, costing}
 use Rattle.be_change.specs.Walk.{live_rows}
 use Rattle.be_transcript.specs.Replies.{number, with_lf}
 use Rattle.be_workload.specs.Asked.{AreRequests}
+use Rattle.be_board.specs.LocalCopy.{local_word}
+use Rattle.be_board.specs.Word.{own_in}
 use Rattle.be_server.specs.declared.sums.Sums.{Sums}
 
 -- the row that each subscription of a run makes, in order, where the first has this place in the list
@@ -80,7 +82,7 @@ MayCount s _ h sums = Unit {0}
 -- a request was answered over the list, and its reply counted
 abbrev pub Counts : Attributes → Request → List Entry → Sums → List Entry → Sums → Type 0
 Counts s (subscribe name conj) h sums after counted =
-    (after ≡ h ++ change_named 1 (length h) (length h) (subscribe name conj)) × (counted ≡ sums)
+    (after ≡ h ++ change_named 1 (length (own_in (local_word h))) (length h) (subscribe name conj)) × (counted ≡ sums)
 Counts s (publish e) h sums after counted = (after ≡ h) × (counted ≡ with_hits (length (satisfied e (live_rows h))) sums)
 Counts s (costing e) h sums after counted =
     (after ≡ h) × (c : Cost) × IsWithinBound s e (live_rows h) c × (counted ≡ with_cost c sums)

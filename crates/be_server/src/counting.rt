@@ -2,18 +2,19 @@
 
 ghost use Rattle.std.specs.Prelude.{◌≡◌, [], length, false, OnOk, IfOk};
 ghost use Rattle.be_io.specs.Lines as line;
-ghost use Rattle.be_change.specs.History.{has_left};
+ghost use Rattle.be_board.specs.Local.{local_state};
+ghost use Rattle.be_board.specs.State.{is_gone};
 ghost use Rattle.be_transcript.specs.Readings.{reading};
 ghost use Rattle.be_workload.specs.Asked as made;
 ghost use Rattle.be_server.specs.Sums.{published, MayCount, Counts, AreSums, AreCountable};
 
 use crate::counted::CountedBoard;
-use crate::requests::{Request, read_line};
 use crate::sums::Sums;
 use be_base::NoMemory;
 use be_index::Index;
 use be_io::first_line;
 use be_model::Schema;
+use be_session::{Request, read_line};
 use std::alloc::Global;
 
 /// A run so far, and the sums of its replies.
@@ -26,12 +27,12 @@ struct Counting<I: Index> {
 impl<I: Index> Counting<I> {
     // Answers a line, and counts its reply. Where memory is wanting the sums don't count.
     fn answer(&mut self, alloc: Global, schema: &Schema, text: &[u8]) -> Result<(), NoMemory>
-        requires going { has_left 1 self.old.board.subscriptions.list ≡ false }
-        requires schema { I.schema self.old.board.subscriptions.index ≡ schema.now }
-        requires may { MayCount schema.now (reading schema.now (line.text text.now)) self.old.board.subscriptions.list self.old.sums }
+        requires present { is_gone (local_state (I.schema self.old.board.board.index) self.old.board.board) ≡ false }
+        requires schema { I.schema self.old.board.board.index ≡ schema.now }
+        requires may { MayCount schema.now (reading schema.now (line.text text.now)) self.old.board.board.list self.old.sums }
         ensures counted { OnOk result (Counts schema.now (reading schema.now (line.text text.now))
-            self.old.board.subscriptions.list self.old.sums self.new.board.subscriptions.list self.new.sums) }
-        ensures schema { I.schema self.new.board.subscriptions.index ≡ I.schema self.old.board.subscriptions.index }
+            self.old.board.board.list self.old.sums self.new.board.board.list self.new.sums) }
+        ensures schema { I.schema self.new.board.board.index ≡ I.schema self.old.board.board.index }
     {
         match read_line(alloc, schema, text)? {
             Request::Subscribe(subscription) => {
@@ -47,9 +48,7 @@ impl<I: Index> Counting<I> {
                 Ok(())
             }
             // The script of a workload has no other line.
-            Request::Unsubscribe(_) | Request::Listing | Request::Quit | Request::Refused(_) => {
-                Ok(())
-            }
+            _ => Ok(()),
         }
     }
 }
@@ -61,8 +60,8 @@ pub fn count_script<I: Index>(
     schema: &Schema,
     script: &[u8],
 ) -> Result<Sums, NoMemory>
-    requires empty { board.subscriptions.list ≡ [] }
-    requires index { I.schema board.subscriptions.index ≡ schema.now }
+    requires empty { board.board.list ≡ [] }
+    requires index { I.schema board.board.index ≡ schema.now }
     requires schema { schema.now ≡ made.schema }
     requires countable { AreCountable (made.asked_by_lines script.now) }
     ensures { IfOk result (AreSums made.schema (made.asked_by_lines script.now) (length (published (made.asked_by_lines script.now)))) }

@@ -5,9 +5,10 @@ ghost use Rattle.be_server.specs.Exact.{EndsExactly};
 ghost use Rattle.be_server.specs.Files.{AsksFor};
 ghost use Rattle.be_io.specs.Counts.{HasRisen};
 ghost use Rattle.be_io.specs.Outside.{source_state, sink_state};
-ghost use Rattle.be_server.specs.Promise.{command_state, Ends, TakesWithin};
-ghost use Rattle.be_server.specs.Words.{command_of, files};
-ghost use Rattle.be_words.specs.Words.{words_of};
+ghost use Rattle.be_server.specs.Promise.{command_state, Ends};
+ghost use Rattle.be_server.specs.Words.{files};
+ghost use Rattle.be_session.specs.Served.{TakesWithin};
+ghost use Rattle.be_words.specs.Words.{reading, words_of};
 
 use crate::generated::generate;
 use crate::run::run;
@@ -20,7 +21,8 @@ use std::thread::Threads;
 
 /// Reads the words after the program's name, and does what they ask.
 ///
-/// `run SCHEMA` serves one session over `input` and `out`, and `gen NUMBER SUBS EVENTS` writes the sums over a generated
+/// `run SCHEMA` serves one session over `input` and `out`, with `--load FILE` over the rows of that file, and
+/// `gen NUMBER SUBS EVENTS` writes the sums over a generated
 /// script to `out`. The door and the gate aren't used yet.
 #[tactic(auto, using(crate::proofs::Exactness::exact_ends))]
 pub fn be_main<R, F, S, K, L, D, G>(
@@ -42,21 +44,21 @@ where
     D: Door<L> + Sync,
     G: Gate + Sync,
     // How the command ends: each status with its cause, and with what was read and written.
-    ensures ends { Ends (command_of (words_of words.now)) (input.new ≡ input.old) (out.new ≡ out.old) (F.content shelf.old)
+    ensures ends { Ends (reading (words_of words.now)) (input.new ≡ input.old) (out.new ≡ out.old) (F.content shelf.old)
         (command_state (F.read_faults shelf.old) (source_state S.Source input.old) (sink_state K.Sink out.old))
         (command_state (F.read_faults shelf.new) (source_state S.Source input.new) (sink_state K.Sink out.new))
         result }
 
-    // A faulty schema and a file over the limit are named, unless reading the file failed or memory was wanting. Where nothing
-    // is wrong, all is done, or memory was wanting.
-    ensures exact { EndsExactly (command_of (words_of words.now)) (F.content shelf.old)
+    // A faulty schema or load file and a file over the limit are named, unless reading a file failed or memory was wanting. Where
+    // nothing is wrong, all is done, or memory was wanting.
+    ensures exact { EndsExactly (reading (words_of words.now)) (F.content shelf.old)
         (command_state (F.read_faults shelf.old) (source_state S.Source input.old) (sink_state K.Sink out.old))
         (command_state (F.read_faults shelf.new) (source_state S.Source input.new) (sink_state K.Sink out.new))
         result }
 
     // The words are refused exactly where they have no reading, want of memory aside.
-    ensures words { (result ≡ Status.Words → command_of (words_of words.now) ≡ None)
-        × (command_of (words_of words.now) ≡ None → (result ≡ Status.Words) ⊎ (result ≡ Status.NoMemory)) }
+    ensures words { (result ≡ Status.Words → reading (words_of words.now) ≡ None)
+        × (reading (words_of words.now) ≡ None → (result ≡ Status.Words) ⊎ (result ≡ Status.NoMemory)) }
 
     // Where memory was wanting, nothing was written yet, or the output refused a write for want of it.
     ensures memory { result ≡ Status.NoMemory → (HasRisen (K.refusals out.old) (K.refusals out.new) → ⊥)
@@ -71,9 +73,7 @@ where
 {
     let _ = door;
     match read_words(alloc, words) {
-        Ok(Request::Run { schema, load: None }) => run(alloc, schema, shelf, input, out),
-        // It isn't served yet.
-        Ok(Request::Run { load: Some(_), .. }) => Status::Words,
+        Ok(Request::Run { schema, load }) => run(alloc, schema, load, shelf, input, out),
         Ok(
             Request::Gen {
                 number,

@@ -45,7 +45,7 @@ fn sums_of(alloc: Global, number: u64, subs: u64, events: u64) -> Result<Sums, N
     let schema = read_made_schema(alloc, workload.schema.as_slice())?;
     let schema = Arc::new(alloc, schema)?;
     let shared = Arc::try_clone(&schema)?;
-    let board = CountedBoard::make(alloc, BeTree::make(alloc, shared));
+    let board = CountedBoard::make(alloc, BeTree::make(alloc, shared))?;
     count_script(alloc, board, &schema, workload.script.as_slice())
 }
 

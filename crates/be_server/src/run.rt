@@ -1,23 +1,37 @@
 //! The command `run`: one session over the input and the output.
 
-ghost use Rattle.std.specs.Prelude.{◌≡◌, ◌∷◌, [], List};
+ghost use Rattle.std.specs.Prelude.{◌≡◌, [], List, Some, true, is_some, option_map};
+ghost use Rattle.std.specs.List.{list_all};
+ghost use Rattle.be_base.specs.Readers.{now_of};
 ghost use Rattle.be_change.specs.History.{Entry};
-ghost use Rattle.be_server.specs.Files.{Loads, AsksFor};
+ghost use Rattle.be_change.specs.Opening.{opening_of, IsTable};
+ghost use Rattle.be_model.specs.Lies.{row_lies};
 ghost use Rattle.be_io.specs.Outside.{source_state, sink_state};
-ghost use Rattle.be_server.specs.Promise.{command_state, link, RunEnds, SessionEnds, TakesWithin};
+ghost use Rattle.be_board.specs.Word.{own_in};
+ghost use Rattle.be_session.specs.Served.{SessionEnds, TakesWithin};
+ghost use Rattle.be_words.specs.Words.{run};
+ghost use Rattle.be_server.specs.Files.{AsksFor, run_files};
+ghost use Rattle.be_server.specs.Promise.{command_state, link, RunEnds, SessionRuns};
 ghost use Rattle.be_server.specs.Status.{status_of};
+ghost use Rattle.be_server.specs.Words.{files_of};
 
-use crate::session::{Session, SessionEnd};
+use crate::files::{Loaded, load_files};
 use crate::status::Status;
-use be_event::{SchemaFault, read_schema};
-use be_io::{Shelf, ShelfFault, Sink, Source};
+use be_board::{Board, LocalBoard};
+use be_io::{NoGate, Pair, Shelf, Sink, Source};
 use be_model::Schema;
+use be_session::{SessionEnd, serve_link};
 use be_tree::BeTree;
 use std::alloc::Global;
 use std::sync::Arc;
 
+/// The worker of a run's session.
+const WORKER: u32 = 1;
+
+// Nobody else changes the list of a run, so its session never ends by a SPLIT.
 fn status_of(end: SessionEnd) -> Status
-    ensures { result ≡ status_of end }
+    requires { is_some (status_of end) ≡ true }
+    ensures { status_of end ≡ Some result }
 {
     match end {
         SessionEnd::Eof | SessionEnd::Quit => Status::Done,
@@ -25,61 +39,84 @@ fn status_of(end: SessionEnd) -> Status
         SessionEnd::WriteFault => Status::WriteFault,
         SessionEnd::Spent => Status::Spent,
         SessionEnd::NoMemory => Status::NoMemory,
+        SessionEnd::Split { .. } => unreachable!(),
     }
 }
 
-// Reads the schema in the file of this name.
-fn load_schema<F: Shelf>(alloc: Global, shelf: &mut F, name: &str) -> Result<Schema, Status>
-    ensures loads { Loads (F.content shelf.old name.now) (F.read_faults shelf.old) (F.read_faults shelf.new) result }
-    ensures asked { AsksFor (name.now ∷ []) (F.asked shelf.old) (F.asked shelf.new) }
-{
-    let text = shelf.read_file(alloc, name)?;
-    let schema = read_schema(alloc, text.as_slice())?;
-    // That a schema has its form comes to light at a call on it.
-    let _form = schema.count();
-    Ok(schema)
-}
-
-// Serves one session over a tree of the schema's rows.
+// Serves one session, number 1, over a tree that begins with the loaded rows.
 fn serve<S: Source, K: Sink>(
     alloc: Global,
-    schema: Schema,
+    loaded: Loaded,
     input: &mut S,
     out: &mut K,
 ) -> SessionEnd
-    ensures ends { (list : List Entry) × SessionEnds ((input.new ≡ input.old) × (out.new ≡ out.old)) schema
+    requires table { IsTable loaded.rows.items }
+    requires lies { list_all (row_lies loaded.schema) loaded.rows.items ≡ true }
+    ensures ends { (list : List Entry) × SessionRuns ((input.new ≡ input.old) × (out.new ≡ out.old)) loaded.schema (opening_of loaded.rows.items)
         (link (source_state S.Source input.old) (sink_state K.Sink out.old))
         (link (source_state S.Source input.new) (sink_state K.Sink out.new))
         list result }
     ensures within { TakesWithin (S.taken input.old) (S.taken input.new) }
 {
+    let Loaded { schema, rows } = loaded;
     let Ok(schema) = Arc::new(alloc, schema) else {
         return SessionEnd::NoMemory;
     };
     let Ok(shared) = Arc::try_clone(&schema) else {
         return SessionEnd::NoMemory;
     };
-    let mut session = Session::make(alloc, BeTree::make(alloc, shared));
-    session.serve(alloc, &schema, input, out)
+    let Ok(mut board) = LocalBoard::open(alloc, BeTree::make(alloc, shared), rows) else {
+        return SessionEnd::NoMemory;
+    };
+    // That the list keeps the board's word comes to light at the list.
+    let _ = board.log();
+    serve_pair(alloc, &schema, &mut board, input, out)
 }
 
-/// Serves one session, number 1, over the input and the output, with the schema in the file of this name.
+// Serves the board's session over two objects.
+#[tactic(auto, using(crate::proofs::Runs::kept_so))]
+fn serve_pair<B: Board, S: Source, K: Sink>(
+    alloc: Global,
+    schema: &Schema,
+    board: &mut B,
+    input: &mut S,
+    out: &mut K,
+) -> SessionEnd
+    requires first { own_in (B.state board.old).word ≡ [] }
+    requires schema { (B.state board.old).schema ≡ schema.now }
+    ensures ends { SessionEnds ((input.new ≡ input.old) × (out.new ≡ out.old) × (board.new ≡ board.old)) schema.now
+        (link (source_state S.Source input.old) (sink_state K.Sink out.old))
+        (link (source_state S.Source input.new) (sink_state K.Sink out.new))
+        (B.state board.old) (B.state board.new) result }
+    ensures within { TakesWithin (S.taken input.old) (S.taken input.new) }
+{
+    let mut peer = Pair {
+        source: input,
+        sink: out,
+    };
+    serve_link(alloc, schema, board, &mut peer, &NoGate, WORKER)
+}
+
+/// Serves one session, number 1, over the input and the output, with the schema in the file of this name, and over the opening
+/// table of the load file, where there is one.
+#[tactic(auto, using(crate::proofs::Ended::has_status, crate::proofs::Ended::run_ended, crate::proofs::Ended::run_refused))]
 pub fn run<F: Shelf, S: Source, K: Sink>(
     alloc: Global,
     schema: &str,
+    load: Option<&str>,
     shelf: &mut F,
     input: &mut S,
     out: &mut K,
 ) -> Status
-    ensures ends { RunEnds ((input.new ≡ input.old) × (out.new ≡ out.old)) (F.content shelf.old schema.now)
+    ensures ends { RunEnds ((input.new ≡ input.old) × (out.new ≡ out.old)) (run_files (F.content shelf.old) schema.now (option_map now_of load.entry))
         (command_state (F.read_faults shelf.old) (source_state S.Source input.old) (sink_state K.Sink out.old))
         (command_state (F.read_faults shelf.new) (source_state S.Source input.new) (sink_state K.Sink out.new))
         result }
     ensures within { TakesWithin (S.taken input.old) (S.taken input.new) }
-    ensures asked { AsksFor (schema.now ∷ []) (F.asked shelf.old) (F.asked shelf.new) }
+    ensures asked { AsksFor (files_of (Some (run schema.now (option_map now_of load.entry)))) (F.asked shelf.old) (F.asked shelf.new) }
 {
-    match load_schema(alloc, shelf, schema) {
-        Ok(schema) => status_of(serve(alloc, schema, input, out)),
+    match load_files(alloc, shelf, schema, load) {
+        Ok(loaded) => status_of(serve(alloc, loaded, input, out)),
         Err(status) => status,
     }
 }

@@ -1,10 +1,11 @@
 //! How the program ends.
 
 ghost use Rattle.std.specs.Prelude.{◌≡◌, Some};
-ghost use Rattle.be_server.specs.Status.{code_of, status_text, status_of_shelf, status_of_schema};
+ghost use Rattle.be_server.specs.Status.{code_of, status_text, status_of_shelf, status_of_schema, status_of_table};
 
 use be_event::{SchemaFault, SchemaKind};
 use be_io::ShelfFault;
+use be_table::{TableFault, TableKind};
 use std::fmt;
 
 /// Two numbers of a desk that should agree and don't. No part of the program makes one yet.
@@ -36,6 +37,8 @@ pub enum Status {
     Words,
     /// The first faulty line of the schema, from 1.
     SchemaBad { line: u64, kind: SchemaKind },
+    /// The first faulty line of the load file, from 1.
+    LoadBad { line: u64, kind: TableKind },
     NoMemory,
     ReadFault,
     /// A file is over the limit.
@@ -71,6 +74,17 @@ impl From<SchemaFault> for Status {
     }
 }
 
+impl From<TableFault> for Status {
+    ghost from_gives = { λ fault status. status ≡ status_of_table fault };
+
+    fn from(fault: TableFault) -> Status {
+        match fault {
+            TableFault::Line { line, kind } => Status::LoadBad { line, kind },
+            TableFault::NoMemory => Status::NoMemory,
+        }
+    }
+}
+
 impl Status {
     /// The exit code of the process.
     pub fn code(self) -> u8
@@ -79,7 +93,7 @@ impl Status {
         match self {
             Status::Done => 0,
             Status::Words => 2,
-            Status::SchemaBad { .. } => 3,
+            Status::SchemaBad { .. } | Status::LoadBad { .. } => 3,
             Status::ReadFault | Status::LongFile => 4,
             Status::WriteFault => 5,
             Status::NoMemory => 6,
@@ -99,6 +113,7 @@ impl fmt::Display for Status {
             Status::Done => write!(f, ""),
             Status::Words => write!(f, "words refused"),
             Status::SchemaBad { line, kind } => write!(f, "schema line {line}: {kind}"),
+            Status::LoadBad { line, kind } => write!(f, "load line {line}: {kind}"),
             Status::NoMemory => write!(f, "out of memory"),
             Status::ReadFault => write!(f, "read fault"),
             Status::LongFile => write!(f, "file over 67108864 bytes"),

@@ -7,8 +7,8 @@ use Rattle.be_server.proofs.counting.count_script.Given as goal
 abbrev pub invariant-loop-rest : goal.invariant-loop-rest
 invariant-loop-rest g l =
     record {
-      serving : Serving (asked_by_lines l.fn.script) l.counting.board.subscriptions.list (asked_by_lines l.rest) l.counting.sums;
-      schema : g.I.Index.schema l.counting.board.subscriptions.index ≡ l.schema;
+      serving : Serving (asked_by_lines l.fn.script) l.counting.board.board.list (asked_by_lines l.rest) l.counting.sums;
+      schema : g.I.Index.schema l.counting.board.board.index ≡ l.schema;
     }
 
 abbrev pub decreases-loop-rest : goal.decreases-loop-rest

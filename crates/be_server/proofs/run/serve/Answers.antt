@@ -1,14 +1,20 @@
--- The session's end, with the list that it left.
-use Rattle.std.proofs.Common.{rules, ◌≡◌, subst}
-use Rattle.be_model.specs.Schemas.{Attributes}
-use Rattle.be_io.specs.Outside.{source_state, sink_state}
-use Rattle.be_server.specs.Promise.{SessionEnds, link}
+-- The session of a run, with the list that it left.
+use Rattle.std.proofs.Common.{rules, ◌≡◌, inl, refl}
+use Rattle.be_change.specs.Opening.{opening_of}
+use Rattle.be_server.proofs.Runs.{ran_over}
 use Rattle.be_server.proofs.run.serve.Goals as goal
+
+pub returns-in_default-clause-ends : goal.returns-in_default-clause-ends
+returns-in_default-clause-ends g c = (opening_of c.args.loaded.rows.items, inl ((refl, refl), refl))
+
+pub returns-in_default-try_clone-clause-ends : goal.returns-in_default-try_clone-clause-ends
+returns-in_default-try_clone-clause-ends g c = (opening_of c.args.loaded.rows.items, inl ((refl, refl), refl))
+
+pub returns-in_default-open-clause-ends : goal.returns-in_default-open-clause-ends
+returns-in_default-open-clause-ends g c = (opening_of c.args.loaded.rows.items, inl ((refl, refl), refl))
 
 pub returns-clause-ends : goal.returns-clause-ends
 returns-clause-ends g c =
-    let before = link (source_state g.S.Source c.args.input.now) (sink_state g.K.Sink c.args.out.now) in
-    let after = link (source_state g.S.Source c.serve.new.input) (sink_state g.K.Sink c.serve.new.out) in
-    let list = c.serve.new.self.subscriptions.list in
-    let same : c.deref.result.now ≡ c.args.schema = search rules in
-    (list, subst (λ (s : Attributes). SessionEnds ((c.serve.new.input ≡ c.args.input.now) × (c.serve.new.out ≡ c.args.out.now)) s before after list c.serve.result) same c.serve.ensures.ends)
+    let same : c.deref.result.now ≡ c.args.loaded.schema = search rules in
+    ran_over _ ((c.serve_pair.new.input ≡ c.args.input.now) × (c.serve_pair.new.out ≡ c.args.out.now)) c.args.loaded.schema _ _ c.args.loaded.rows.items _ _ _ _ c.serve_pair.result
+    (λ u. ((u.0, u.1), rw u.2 refl)) c.in-Ok-open.ensures c.log.ensures.keeps (search rules) same c.serve_pair.ensures.ends

@@ -1,0 +1,50 @@
+-- The files of a run are read one after another.
+use Rattle.std.proofs.Common.{◌≡◌, inl, inr, ℕ, List, [], ◌∷◌, ◌++◌, Option, Some, None, Result, Ok, Err, refl, sym, ap, ◌∙◌, subst, append_assoc}
+use Rattle.std.specs.declared.alloc.Global.{Global}
+use Rattle.std.specs.declared.vec.Vec.{Vec}
+use Rattle.be_base.specs.Text.{Text}
+use Rattle.be_change.specs.Opening.{IsTable}
+use Rattle.be_model.specs.declared.changes.Row.{Row}
+use Rattle.be_model.specs.Schemas.{Attributes}
+use Rattle.be_words.specs.Words.{run}
+use Rattle.be_server.specs.declared.status.Status.{Status}
+use Rattle.be_server.specs.declared.status.Status.TheVariants.{Done, Words, SchemaBad, LoadBad, NoMemory, ReadFault, LongFile, WriteFault, Spent, Split, Stray, Shut}
+use Rattle.be_server.specs.Files.{ToldFile, run_files, IsSchemaOf, AreRowsOf, LoadsSchema, LoadsTable, LoadsRun, AsksFor}
+use Rattle.be_server.specs.Words.{files_of}
+
+-- no rows are a table
+pub none_are_table : IsTable []
+none_are_table = record { owner = refl; ids = tt; names = refl }
+
+-- there is no schema
+pub schema_refused : (content : Text → ToldFile) (schema : Text) (load : Option Text) (f f' : ℕ) (status : Status) → LoadsSchema (content schema) f f' (Err status)
+    → LoadsRun (run_files content schema load) f f' (Err status)
+schema_refused content schema load f f' ReadFault l = l
+schema_refused content schema load f f' LongFile l = (l.0, inl l.1)
+schema_refused content schema load f f' NoMemory l = l
+schema_refused content schema load f f' (SchemaBad line kind) l = l
+schema_refused content schema load f f' _ l = absurd l
+
+-- there is no table
+pub table_refused : (content : Text → ToldFile) (schema load : Text) (file : ToldFile) (f f' f'' : ℕ) (s : Attributes) (status : Status) → file ≡ content load → f' ≡ f → IsSchemaOf (content schema) s
+    → LoadsTable s file f' f'' (Err status) → LoadsRun (run_files content schema (Some load)) f f'' (Err status)
+table_refused content schema load file f f' f'' s status same quiet is_schema l =
+    refused status (subst (λ (x : ℕ). LoadsTable s (content load) x f'' (Err status)) quiet (subst (λ (x : ToldFile). LoadsTable s x f' f'' (Err status)) same l))
+  where
+    refused : (status : Status) → LoadsTable s (content load) f f'' (Err status) → LoadsRun (run_files content schema (Some load)) f f'' (Err status)
+    refused ReadFault l = l
+    refused LongFile l = (l.0, inr (s, is_schema, l.1))
+    refused NoMemory l = l
+    refused (LoadBad line kind) l = (l.0, (s, is_schema, l.1))
+    refused _ l = absurd l
+
+-- the schema alone was asked for
+pub asks_schema : (schema : Text) (load : Option Text) (asked asked' : List Text) → AsksFor (schema ∷ []) asked asked' → AsksFor (files_of (Some (run schema load))) asked asked'
+asks_schema schema None asked asked' a = a
+asks_schema schema (Some load) asked asked' a =
+    (a.0, (a.1.0 ++ load ∷ [], ap (λ (l : List Text). l ++ load ∷ []) a.1.1 ∙ append_assoc a.0 a.1.0 (load ∷ [])), a.2)
+
+-- and then the load file
+pub asks_load : (schema load : Text) (asked asked' asked'' : List Text) → asked' ≡ asked ++ schema ∷ [] → AsksFor (load ∷ []) asked' asked'' → AsksFor (files_of (Some (run schema (Some load)))) asked asked''
+asks_load schema load asked asked' asked'' first a =
+    (schema ∷ a.0, (a.1.0, ap (λ (l : List Text). schema ∷ l) a.1.1), a.2 ∙ ap (λ (l : List Text). l ++ a.0) first ∙ append_assoc asked (schema ∷ []) a.0)

@@ -1,0 +1,15 @@
+-- What the files hold decides the status of a run.
+use Rattle.std.proofs.Common.{rules, ◌≡◌, Some, option_map}
+use Rattle.be_base.specs.Readers.{now_of}
+use Rattle.be_words.specs.Words.{run, reading, words_of}
+use Rattle.be_io.specs.Outside.{source_state, sink_state}
+use Rattle.be_server.specs.Promise.{command_state}
+use Rattle.be_server.proofs.Exactness.{exact_ends}
+use Rattle.be_server.proofs.entry.be_main.Goals as goal
+
+pub returns-in-Ok-Run-clause-exact : goal.returns-in-Ok-Run-clause-exact
+returns-in-Ok-Run-clause-exact g c =
+    let before = command_state (g.F.Shelf.read_faults c.args.shelf.now) (source_state g.S.Source c.args.input.now) (sink_state g.K.Sink c.args.out.now) in
+    let after = command_state (g.F.Shelf.read_faults c.run.new.shelf) (source_state g.S.Source c.run.new.input) (sink_state g.K.Sink c.run.new.out) in
+    let is : reading (words_of c.args.words.now) ≡ Some (run c.in-Ok-Run.schema.now (option_map now_of c.in-Ok-Run.load)) = search rules in
+    rw is (exact_ends (Some (run c.in-Ok-Run.schema.now (option_map now_of c.in-Ok-Run.load))) (c.run.new.input ≡ c.args.input.now) (c.run.new.out ≡ c.args.out.now) (g.F.Shelf.content c.args.shelf.now) before after c.run.result c.run.ensures.ends)

@@ -1,0 +1,73 @@
+//! The files of a run, read.
+
+ghost use Rattle.std.specs.Prelude.{◌≡◌, ℕ, ◌++◌, ◌∷◌, [], List, true, Some, IfOk, OnOk, option_map};
+ghost use Rattle.std.specs.List.{list_all};
+ghost use Rattle.be_base.specs.Readers.{now_of};
+ghost use Rattle.be_change.specs.Opening.{IsTable};
+ghost use Rattle.be_model.specs.Lies.{row_lies};
+ghost use Rattle.be_words.specs.Words.{run};
+ghost use Rattle.be_server.specs.Files.{LoadsSchema, LoadsTable, LoadsRun, run_files, AsksFor};
+ghost use Rattle.be_server.specs.Words.{files_of};
+
+use crate::status::Status;
+use be_event::{SchemaFault, read_schema};
+use be_io::{Shelf, ShelfFault};
+use be_model::{Row, Schema};
+use be_table::{TableFault, read_table};
+use std::alloc::Global;
+
+/// What the files of a run are: its schema, and the rows with which its list begins.
+#[derive(Drop)]
+pub struct Loaded {
+    pub schema: Schema,
+    pub rows: Vec<Row>,
+}
+
+/// Reads the files of a run, each of which is judged before the next one is asked for.
+pub fn load_files<F: Shelf>(
+    alloc: Global,
+    shelf: &mut F,
+    schema: &str,
+    load: Option<&str>,
+) -> Result<Loaded, Status>
+    ensures loads { LoadsRun (run_files (F.content shelf.old) schema.now (option_map now_of load.entry)) (F.read_faults shelf.old) (F.read_faults shelf.new) result }
+    ensures lies { IfOk result (λ l. list_all (row_lies l.schema) l.rows.items ≡ true) }
+    ensures asked { AsksFor (files_of (Some (run schema.now (option_map now_of load.entry)))) (F.asked shelf.old) (F.asked shelf.new) }
+{
+    let schema = load_schema(alloc, shelf, schema)?;
+    let rows = match load {
+        Some(name) => load_table(alloc, shelf, &schema, name)?,
+        None => Vec::new(alloc),
+    };
+    Ok(Loaded { schema, rows })
+}
+
+// Reads the schema in the file of this name.
+fn load_schema<F: Shelf>(alloc: Global, shelf: &mut F, name: &str) -> Result<Schema, Status>
+    ensures loads { LoadsSchema (F.content shelf.old name.now) (F.read_faults shelf.old) (F.read_faults shelf.new) result }
+    ensures asked { AsksFor (name.now ∷ []) (F.asked shelf.old) (F.asked shelf.new) }
+    ensures read { OnOk result (F.asked shelf.new ≡ F.asked shelf.old ++ name.now ∷ []) }
+    ensures content { (file : List ℕ) → F.content shelf.new file ≡ F.content shelf.old file }
+{
+    let text = shelf.read_file(alloc, name)?;
+    let schema = read_schema(alloc, text.as_slice())?;
+    // That a schema has its form comes to light at a call on it.
+    let _form = schema.count();
+    Ok(schema)
+}
+
+// Reads the rows in the file of this name.
+fn load_table<F: Shelf>(
+    alloc: Global,
+    shelf: &mut F,
+    schema: &Schema,
+    name: &str,
+) -> Result<Vec<Row>, Status>
+    ensures loads { LoadsTable schema.now (F.content shelf.old name.now) (F.read_faults shelf.old) (F.read_faults shelf.new) result }
+    ensures lies { IfOk result (λ rows. list_all (row_lies schema.now) rows.items ≡ true) }
+    ensures asked { AsksFor (name.now ∷ []) (F.asked shelf.old) (F.asked shelf.new) }
+{
+    let text = shelf.read_file(alloc, name)?;
+    let rows = read_table(alloc, schema, text.as_slice())?;
+    Ok(rows)
+}
