@@ -152,6 +152,7 @@ fn over(text: &[u8], piece: usize, failing_read: usize, failing_write: usize) ->
     Setting {
         words: RUN,
         schema: SCHEMA,
+        load: b"",
         script: text,
         piece,
         failing_read: failing_read as u64,

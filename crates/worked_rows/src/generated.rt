@@ -33,6 +33,7 @@ fn generated<'a>(words: &'a [&'a str], failing_write: u64) -> Setting<'a> {
     Setting {
         words,
         schema: SCHEMA,
+        load: b"",
         script: b"PUB -\n",
         piece: 18,
         failing_read: 0,

@@ -4,11 +4,12 @@ ghost use Rattle.std.specs.Prelude.{◌≡◌, Some, []};
 
 use crate::setting::SCHEMA;
 use be_base::SessionNo;
+use be_board::LocalBoard;
 use be_change::ChangeLog;
 use be_event::read_schema;
-use be_io::{MemSink, MemSource, Sink, SinkFault};
+use be_io::{MemSink, MemSource, NoGate, Pair, Sink, SinkFault};
 use be_model::Change;
-use be_server::{Session, SessionEnd};
+use be_session::{SessionEnd, serve_link};
 use be_tree::BeTree;
 use std::alloc::Global;
 use std::sync::Arc;
@@ -55,11 +56,12 @@ fn leaves<S: Sink>(
 ) -> Option<bool> {
     let schema = Arc::new(alloc, read_schema(alloc, SCHEMA).ok()?).ok()?;
     let script = Vec::from_slice(alloc, script).ok()?;
-    let mut input = MemSource::make(script, 18, vec![in alloc; failing_read].ok()?);
+    let source = MemSource::make(script, 18, vec![in alloc; failing_read].ok()?);
     let index = BeTree::make(alloc, Arc::try_clone(&schema).ok()?);
-    let mut session = Session::make(alloc, index);
-    let end = session.serve(alloc, &schema, &mut input, out);
-    Some(end == wanted && is_left(session.subscriptions.changes()))
+    let mut board = LocalBoard::make(alloc, index).ok()?;
+    let mut peer = Pair { source, sink: out };
+    let end = serve_link(alloc, &schema, &mut board, &mut peer, &NoGate, 1);
+    Some(end == wanted && is_left(board.log()))
 }
 
 fn leaves_at(

@@ -4,6 +4,8 @@
 #[cfg(test)]
 mod costs;
 #[cfg(test)]
+mod dumps;
+#[cfg(test)]
 mod faults;
 #[cfg(test)]
 mod generated;
@@ -11,6 +13,8 @@ mod generated;
 mod left;
 #[cfg(test)]
 mod limits;
+#[cfg(test)]
+mod loads;
 #[cfg(test)]
 mod plainly;
 #[cfg(test)]

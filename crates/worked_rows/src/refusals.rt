@@ -3,6 +3,7 @@
 use crate::setting::{RUN, Ran, SCHEMA, Setting, answers, run};
 use be_event::SchemaKind;
 use be_server::Status;
+use be_table::TableKind;
 use std::alloc::Global;
 use std::sync::Wait;
 use std::thread::Threads;
@@ -18,6 +19,7 @@ fn refused<'a>(words: &'a [&'a str], schema: &'a [u8], failing_ask: u64) -> Sett
     Setting {
         words,
         schema,
+        load: b"",
         script: SCRIPT,
         piece: 18,
         failing_read: 0,
@@ -63,8 +65,11 @@ const WITHOUT_READING: &[&[&str]] = &[
     &["run", "S", "---"],
 ];
 
-// Words with a reading that isn't served yet.
-const NOT_SERVED: &[&[&str]] = &[&["run", "S", "--load", "S"], &["run", "--load=-x", "S"]];
+// A run whose load file is its schema.
+const LOADS_SCHEMA: &[&str] = &["run", "S", "--load", "S"];
+
+// A run whose load file is missing.
+const LOADS_NOTHING: &[&str] = &["run", "--load=-x", "S"];
 
 // Whether the run ends so, untouched, and whether the next ask for the file is refused.
 fn ends<R: Threads + Wait + Sync>(
@@ -84,10 +89,29 @@ fn ends<R: Threads + Wait + Sync>(
 #[test]
 fn words_without_a_reading(rt: HostRuntime) {
     let alloc = rt.alloc();
-    for words in WITHOUT_READING.iter().chain(NOT_SERVED) {
+    for words in WITHOUT_READING {
         let ends = ends(&rt, alloc, &refused(words, SCHEMA, 1), Status::Words);
         assert!(rt; ends == Some(true), "{words:?}");
     }
+}
+
+// Both files are asked for.
+#[test]
+fn load_files_without_rows(rt: HostRuntime) {
+    let alloc = rt.alloc();
+    let form = Status::LoadBad {
+        line: 1,
+        kind: TableKind::Form,
+    };
+    let faulty = ends(&rt, alloc, &refused(LOADS_SCHEMA, SCHEMA, 3), form);
+    assert!(rt; faulty == Some(true), "a schema is no load file");
+    let missing = ends(
+        &rt,
+        alloc,
+        &refused(LOADS_NOTHING, SCHEMA, 3),
+        Status::ReadFault,
+    );
+    assert!(rt; missing == Some(true), "the load file is missing");
 }
 
 // Schemas with the first line that has a fault, and its first kind.
@@ -224,6 +248,14 @@ const STATUSES: &[(Status, u8, &str)] = &[
         },
         3,
         "schema line 6: Many",
+    ),
+    (
+        Status::LoadBad {
+            line: 6,
+            kind: TableKind::Many,
+        },
+        3,
+        "load line 6: Many",
     ),
     (Status::ReadFault, 4, "read fault"),
     (Status::LongFile, 4, "file over 67108864 bytes"),

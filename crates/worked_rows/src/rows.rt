@@ -8,7 +8,7 @@ use std::alloc::Global;
 use std::sync::Wait;
 use std::thread::Threads;
 
-const PIECES: [usize; 4] = [1, 7, 18, 65536];
+pub(crate) const PIECES: [usize; 4] = [1, 7, 18, 65536];
 
 // Scripts with their transcripts.
 pub(crate) const SESSIONS: &[(&str, &str)] = &[
@@ -256,8 +256,8 @@ const HOSTILE: &[&str] = &[
     "COST",
     "COST -x",
     "COSTS -",
-    "SEND price=5",
-    "FETCH 1",
+    "SEND",
+    "FETCH",
 ];
 
 // The same, of bytes that are no text.
@@ -302,7 +302,7 @@ fn around(alloc: Global, line: &[u8]) -> Option<Vec<u8>> {
     Some(script)
 }
 
-fn is_bad<R: Threads + Wait + Sync>(rt: &R, alloc: Global, line: &[u8]) -> bool {
+pub(crate) fn is_bad<R: Threads + Wait + Sync>(rt: &R, alloc: Global, line: &[u8]) -> bool {
     match around(alloc, line) {
         Some(script) => answers(rt, alloc, &plain(&script, 7), b"OK 1\nBAD\nHIT 1 1 a\n"),
         None => false,

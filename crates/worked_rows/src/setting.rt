@@ -12,6 +12,8 @@ pub const SCHEMA: &[u8] = b"int price 0 1000\nint qty -5 5\nsym side buy sell ho
 
 pub const RUN: &[&str] = &["run", "S"];
 
+pub const RUN_LOADED: &[&str] = &["run", "S", "--load", "L"];
+
 type Peer = Pair<MemSource, MemSink>;
 
 /// What the call is given. The calls of the three numbers fail, where the first call has the number 1.
@@ -20,6 +22,8 @@ pub struct Setting<'a> {
     pub words: &'a [&'a str],
     /// The bytes of the file `S`.
     pub schema: &'a [u8],
+    /// The bytes of the file `L`.
+    pub load: &'a [u8],
     pub script: &'a [u8],
     pub piece: usize,
     pub failing_read: u64,
@@ -35,11 +39,26 @@ pub fn plain(script: &[u8], piece: usize) -> Setting<'_>
     Setting {
         words: RUN,
         schema: SCHEMA,
+        load: b"",
         script,
         piece,
         failing_read: 0,
         failing_write: 0,
         failing_ask: 2,
+    }
+}
+
+/// A run over this script and the load file `L`, in which nothing fails. A third ask for a file would.
+pub fn loading<'a>(load: &'a [u8], script: &'a [u8]) -> Setting<'a> {
+    Setting {
+        words: RUN_LOADED,
+        schema: SCHEMA,
+        load,
+        script,
+        piece: 18,
+        failing_read: 0,
+        failing_write: 0,
+        failing_ask: 3,
     }
 }
 
@@ -76,9 +95,13 @@ fn count_left(source: &mut MemSource) -> u64 {
 }
 
 fn shelf_of(alloc: Global, setting: &Setting) -> Option<MemShelf> {
-    let name = String::from_str(alloc, "S").ok()?;
     let schema = Vec::from_slice(alloc, setting.schema).ok()?;
-    let files = vec![in alloc; (name, schema)].ok()?;
+    let load = Vec::from_slice(alloc, setting.load).ok()?;
+    let mut files = Vec::new(alloc);
+    files
+        .push((String::from_str(alloc, "S").ok()?, schema))
+        .ok()?;
+    files.push((String::from_str(alloc, "L").ok()?, load)).ok()?;
     let failing = vec![in alloc; setting.failing_ask].ok()?;
     Some(MemShelf::make(files, failing))
 }

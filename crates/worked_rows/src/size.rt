@@ -75,6 +75,30 @@ fn two_thousand_changes(rt: HostRuntime) {
     assert!(rt; session.is_answered(&rt, alloc));
 }
 
+// As many letters as a box holds, one more that is dropped, and then a fetch of all.
+fn of_letters(alloc: Global) -> Option<Session> {
+    let mut session = Session::make(alloc);
+    session.ask("SUB a all", "OK 1")?;
+    for _ in 0..1024 {
+        session.ask("SEND -", "SENT 1 1 0")?;
+    }
+    session.ask("SEND -", "SENT 1 0 1")?;
+    put_line(&mut session.script, "FETCH 2000")?;
+    for _ in 0..1024 {
+        put_line(&mut session.wanted, "NOTE 1 a -")?;
+    }
+    put_line(&mut session.wanted, "END 1024")?;
+    session.ask("FETCH 5", "END 0")?;
+    Some(session)
+}
+
+#[test]
+fn a_full_box(rt: HostRuntime) {
+    let alloc = rt.alloc();
+    let session = of_letters(alloc).expect(&rt, "memory");
+    assert!(rt; session.is_answered(&rt, alloc));
+}
+
 // As many names of 64 bytes as make a reply of 70,000 bytes, and of 1,000,000 bytes.
 const NAMES: [u64; 2] = [1077, 15385];
 
@@ -176,6 +200,7 @@ fn ends<R: Threads + Wait + Sync>(
     let setting = Setting {
         words: RUN,
         schema,
+        load: b"",
         script: b"PUB -\n",
         piece: 18,
         failing_read: 0,
