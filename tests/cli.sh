@@ -60,7 +60,10 @@ call RUN schema.txt; same 'a command in capitals' 2 '' 'words refused\n'
 call --help; same 'a flag' 2 '' 'words refused\n'
 call run -x; same 'a word that begins with a hyphen' 2 '' 'words refused\n'
 call run -- -x; same 'a separator, and a missing file' 4 '' 'read fault\n'
-call run schema.txt --load schema.txt; same 'a load file, which is not served yet' 2 '' 'words refused\n'
+call run schema.txt --load; same 'a load file without a name' 2 '' 'words refused\n'
+call run schema.txt --load -x; same 'a load file that begins with a hyphen' 2 '' 'words refused\n'
+call run schema.txt --load load.txt --load load.txt; same 'two load files' 2 '' 'words refused\n'
+call gen 7 0 0 --load load.txt; same 'gen with a load file' 2 '' 'words refused\n'
 call run $'\xff'; same 'a word that is no text' 2 '' 'words refused\n'
 call gen 7 1000; same 'gen with two numbers' 2 '' 'words refused\n'
 call gen 7 100001 0; same 'gen over its limit' 2 '' 'words refused\n'
@@ -102,6 +105,42 @@ call run twice.txt; same 'a symbol twice' 3 '' 'schema line 1: Twice\n'
 { for i in $(seq 257); do echo "int a$i 0 1"; done; } >many.txt
 call run many.txt; same 'an attribute too many' 3 '' 'schema line 257: Many\n'
 
+# load files
+printf '# t\nROW a all\nROW b price < 5\n' >load.txt
+printf 'PUB price=1\nSUB a all\nUNSUB b\nSUB c all\nLIST\nSEND price=9\nDUMP\nQUIT\n' >in
+opened='HIT 2 2 a b\nDUP 2 0\nOTHER 2 1\nOK 3\nLIST 3 1 c\nSENT 3 1 1\nROW a all\nROW b price < 5\nROW c all\n# DUMP 3 3\nBYE 4\n'
+call run schema.txt --load load.txt; same 'a session over an opening' 0 "$opened" ''
+call run --load=load.txt schema.txt; same 'a load file before the schema' 0 "$opened" ''
+# what a session dumps, its other lines taken out, is a load file
+grep '^ROW\|^#' out >dump.txt
+printf 'DUMP\nTAIL 0 5\n' >in
+dumped='ROW a all\nROW b price < 5\nROW c all\n# DUMP 3 3\n'
+told='AT 0 SUB 0 0 a all\nAT 1 SUB 0 1 b price < 5\nAT 2 SUB 0 2 c all\nTAILED 3 3\n'
+call run schema.txt --load dump.txt; same 'a dump as a load file' 0 "$dumped$told" ''
+: >none.txt
+call run schema.txt --load none.txt; same 'an empty load file' 0 '# DUMP 0 0\nTAILED 0 0\n' ''
+printf '\r\n \t# x\r\nROW a price<5 and one in {7,007}\r\n' >load.txt
+call run schema.txt --load load.txt; same 'a load file with CRs' 0 'ROW a price < 5 and one in {7}\n# DUMP 1 1\nAT 0 SUB 0 0 a price < 5 and one in {7}\nTAILED 1 1\n' ''
+# faulty FILE LINE KIND: this load file, and its first fault
+faulty() {
+    printf "$1" >load.txt
+    call run schema.txt --load load.txt; same "a fault of a load file: $1" 3 '' "load line $2: $3\n"
+}
+faulty 'ROW a all\nROW a all\n' 2 Twice
+faulty 'SUB a all\n' 1 Form
+faulty 'ROW a all # x\n' 1 Form
+faulty 'ROW a volume = 1\n' 1 Attr
+faulty 'ROW a price = 1001' 1 Dom
+faulty '# t\n\nROW a all\nROW b price < 5 and volume = 1\nROW a\n' 4 Attr
+printf 'ROW a price >= 0' >load.txt
+for _ in $(seq 32); do printf ' and price >= 0' >>load.txt; done
+call run schema.txt --load load.txt; same 'a row of 33 predicates' 3 '' 'load line 1: Many\n'
+call run schema.txt --load missing.txt; same 'a missing load file' 4 '' 'read fault\n'
+call run schema.txt --load .; same 'a folder as load file' 4 '' 'read fault\n'
+call run schema.txt --load over.txt; same 'a load file over the limit' 4 '' 'file over 67108864 bytes\n'
+call run first.txt --load missing.txt; same 'a faulty schema before a missing load file' 3 '' 'schema line 1: Range\n'
+printf "$three" >in
+
 # sessions
 call run schema.txt; same 'the three lines' 0 "$replies" ''
 call run "$room/schema.txt"; same 'a schema by its whole path' 0 "$replies" ''
@@ -113,6 +152,18 @@ call run schema.txt; same 'a QUIT' 0 'OK 1\nNONE 1\nLIST 1 1 a\nBYE 2\n' ''
 call run schema.txt; same 'an empty input' 0 '' ''
 { head -c 65537 /dev/zero; printf '\n'; head -c 65536 /dev/zero; printf "\n$three"; } >in
 call run schema.txt; same 'lines about the limit' 0 "LONG\nBAD\n$replies" ''
+printf 'SUB a all\nSUB b price < 5\nTAIL 1 5\nUNSUB a\nTAIL 0 2\nTAIL 9 1\nQUIT\n' >in
+tails='OK 1\nOK 2\nAT 1 SUB 1 1 b price < 5\nTAILED 2 1\nOK 3\nAT 0 SUB 1 0 a all\nAT 1 SUB 1 1 b price < 5\nTAILED 3 2\nTAILED 3 0\nBYE 4\n'
+call run schema.txt; same 'changes from a place on' 0 "$tails" ''
+printf 'SUB a all\nSEND price={900, 100} one=7\nSEND price=1001\nFETCH 0\nFETCH 5\nFETCH 5\nDUMP 1\nFETCH 1000001\nTAIL 0\n' >in
+letters='OK 1\nSENT 1 1 0\nDOM price\nEND 0\nNOTE 1 a price={100,900} one=7\nEND 1\nEND 0\nBAD\nBAD\nBAD\n'
+call run schema.txt; same 'letters' 0 "$letters" ''
+# a box that is full: the 1,025th letter is dropped
+{ echo 'SUB a all'; yes 'SEND -' | head -n 1025; echo 'FETCH 2000'; echo 'FETCH 5'; } >in
+"$program" run schema.txt <in >out 2>err; code=$?
+{ echo 'OK 1'; yes 'SENT 1 1 0' | head -n 1024; echo 'SENT 1 0 1'; yes 'NOTE 1 a -' | head -n 1024; echo 'END 1024'; echo 'END 0'; } >box
+same 'a full box' 0 "$(cat box)\n" ''
+printf "$three" >in
 printf "$three" | "$program" run schema.txt >out 2>err; code=$?
 same 'input from a pipe' 0 "$replies" ''
 printf "$three" >in
@@ -151,7 +202,8 @@ same 'a closed standard error' 2 '' ''
 # examples
 for script in "$top"/examples/*/script.txt; do
     folder="$(dirname "$script")" name="$(basename "$(dirname "$script")")"
-    "$program" run "$folder/schema.txt" <"$script" >out 2>err; code=$?
+    load=(); [ ! -e "$folder/load.txt" ] || load=(--load "$folder/load.txt")
+    "$program" run "$folder/schema.txt" "${load[@]}" <"$script" >out 2>err; code=$?
     # (no text of an example has a % or a \)
     same "example $name" 0 "$(cat "$folder/expected.txt")\n" ''
 done
@@ -184,7 +236,7 @@ building="justmeadow: building the program, which proves its 3 crates. The log: 
 building+='justmeadow: 1 of 3: low\njustmeadow: 2 of 3: high\n'
 script --help; cp out usage
 same 'the usage' 0 "$(sed 's/%/%%/g' usage)\n" ''
-for words in 'run SCHEMA' 'gen NUMBER SUBS EVENTS' 'SUB name condition' 'UNSUB name' 'PUB event' 'COST event' LIST QUIT --help --version --build --unproved; do
+for words in 'run SCHEMA' 'run SCHEMA --load FILE' 'gen NUMBER SUBS EVENTS' 'SUB name condition' 'UNSUB name' 'PUB event' 'COST event' LIST 'SEND event' 'FETCH most' DUMP 'TAIL place most' QUIT --help --version --build --unproved; do
     grep -q -- "^    \(./justmeadow \)\?$words" usage || { echo "FAILED: the usage lacks $words"; exit 1; }
 done
 script; same 'the script alone' 2 '' "$(cat usage)\n"
@@ -203,8 +255,8 @@ script run --help; same 'a later --help is the program'"'"'s' 6 'ran run --help\
 sleep 0.01; touch "$own/top/crates/low/src/lib.rt"
 echo 'low 61' >"$own/top/out/build.times"
 script --build; grep -q '1 of 3: low (1 min 1 s the last time)$' err || { echo 'FAILED: the last time'; exit 1; }
-script --unproved run in
-same 'an unproved run' 4 "try -- run $room/in in justmeadow\nLIST\n" 'justmeadow: an unproved run: nothing is checked, and the input is read to its end, at most 64 MiB, before the first reply\n'
+script --unproved run in --load=in
+same 'an unproved run' 4 "try -- run $room/in --load=$room/in in justmeadow\nLIST\n" 'justmeadow: an unproved run: nothing is checked, and the input is read to its end, at most 64 MiB, before the first reply\n'
 rm -r "$own/top/out" "$own/top/crates/justmeadow/out"
 PATH=/usr/bin:/bin "$own/top/justmeadow" run x >out 2>err <in; code=$?
 if PATH=/usr/bin:/bin command -v rt >/dev/null; then

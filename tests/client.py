@@ -42,7 +42,20 @@ def interactive(schema):
         pass
     next(session.ask_all(["PUB -", "LIST"]))
     same("after a reply that was left unread", session.publish("side=buy"), ["buys"])
+    same("letters", session.send("side=buy"), (1, 0))
+    same("what they say", session.fetch(10), [("buys", "side=buy")])
+    same("no letter", session.fetch(10), [])
+    same("the changes", session.tail(1, 2), ["SUB 1 1 buys side = buy", "UNSUB 1 2 cheap"])
+    same("too many changes", refused(session.tail, "0", "1000001"), ["BAD"])
+    load = schema + ".load"
+    with open(load, "w", encoding="ascii") as file:
+        file.write(session.dump())
     same("the code", session.close(), 0)
+    with Session([PROGRAM, "run", schema, "--load", load]) as session:
+        same("a table from one run to the next", session.publish("side=buy"), ["buys"])
+        same("a row of the table", refused(session.unsubscribe, "buys"), ["OTHER", "1", "0"])
+        replies = list(session.ask_all(["DUMP", "FETCH 1", "LIST"]))
+        same("replies of several lines", replies, ["ROW buys side = buy\n# DUMP 1 1", "END 0", "LIST 1 0"])
 
 
 def bulk(schema):

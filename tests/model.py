@@ -1,7 +1,8 @@
 #!/usr/bin/env python3
 """Compares the program with docs/protocol.md and docs/matching.md, as a model in Python that was written from these
-pages alone: random sessions, good lines and faulty ones, each reply byte for byte. The same lines at each run.
-Its words: the program, and how many sessions."""
+pages alone: random sessions, good lines and faulty ones, each reply byte for byte, also over load files, and faulty load
+files. The same lines at each run. Its words: the program, and how many sessions."""
+import os
 import random
 import re
 import subprocess
@@ -16,6 +17,8 @@ SCHEMA = [
     ("side", ["buy", "sell", "hold"]),
     ("tag", ["all", "in", "7", "x-y.z"]),
 ]
+BOX = 1024
+ASKED = 1000000
 TOKEN = re.compile(r"[A-Za-z0-9_.-]+|<=|>=|!=|[<>={},]")
 WORD = re.compile(r"[A-Za-z0-9_.-]+")
 
@@ -65,6 +68,16 @@ class Reader:
         if len(word) > 64:
             raise Refusal("BAD")
         return word
+
+    def count(self, limit):
+        word = self.word()
+        if not re.fullmatch("[0-9]+", word) or int(word) > limit:
+            raise Refusal("BAD")
+        return int(word)
+
+    def end(self):
+        if self.left:
+            raise Refusal("BAD")
 
     def values(self):
         self.take("{")
@@ -158,53 +171,137 @@ HOLDS = {
 }
 
 
+def value_text(attribute, value):
+    domain = {name: domain for name, *domain in SCHEMA}[attribute]
+    return domain[0][value] if isinstance(domain[0], list) else str(value)
+
+
+def set_text(attribute, values):
+    return "{" + ",".join(value_text(attribute, value) for value in sorted(set(values))) + "}"
+
+
+def predicate_text(attribute, operator, values):
+    if operator in ("in", "not in"):
+        return f"{attribute} {operator} {set_text(attribute, values)}"
+    return f"{attribute} {operator} " + " and ".join(value_text(attribute, value) for value in values)
+
+
+def condition_text(condition):
+    return " and ".join(predicate_text(*predicate) for predicate in condition) or "all"
+
+
+def event_text(event):
+    def item(attribute):
+        values = event[attribute]
+        return set_text(attribute, values) if len(set(values)) > 1 else value_text(attribute, values[0])
+
+    return " ".join(f"{name}={item(name)}" for name, *_ in SCHEMA if name in event) or "-"
+
+
 class Model:
-    def __init__(self):
-        self.changes, self.live, self.ended = 0, [], False
+    """A session. A row is its id, its session, its name and its condition; the list of changes is kept as texts."""
+
+    def __init__(self, opening=()):
+        self.log, self.live, self.box, self.serial, self.ended = [], [], [], 0, False
+        for place, (name, condition) in enumerate(opening):
+            self.log.append(f"SUB 0 {place} {name} {condition_text(condition)}")
+            self.live.append((place, 0, name, condition))
 
     def reply(self, line):
+        """The lines of the reply."""
         if len(line) > 65536:
-            return "LONG"
+            return ["LONG"]
         try:
             return self.answer(Reader(tokens(line)))
         except Refusal as refusal:
-            return str(refusal)
+            return [str(refusal)]
 
-    def change(self):
-        self.changes += 1
-        return self.changes
+    def change(self, command, *words):
+        self.log.append(" ".join([command, "1", str(self.serial), *words]))
+        self.serial += 1
+        return len(self.log)
 
     def answer(self, reader):
-        command = reader.word()
+        command, n = reader.word(), len(self.log)
         if command == "SUB":
             name = reader.name()
-            condition = judged(reader.condition(), False)
-            for identity, known, _ in self.live:
-                if known == name:
-                    return f"DUP {self.changes} {identity}"
-            self.live.append((self.changes, name, condition))
-            return f"OK {self.change()}"
+            return [self.subscribed(name, judged(reader.condition(), False))]
         if command == "UNSUB":
             name = reader.name()
-            if reader.left:
-                raise Refusal("BAD")
-            kept = [row for row in self.live if row[1] != name]
-            if len(kept) == len(self.live):
-                return f"NONE {self.changes}"
-            self.live = kept
-            return f"OK {self.change()}"
-        if command == "PUB":
+            reader.end()
+            return [self.unsubscribed(name)]
+        if command in ("PUB", "SEND"):
             event = {attribute: values for attribute, _, values in judged(reader.event(), True)}
-            return self.named("HIT", [row for row in self.live if satisfies(event, row[2])])
-        if command not in ("LIST", "QUIT") or reader.left:
+            hits = [row for row in self.live if satisfies(event, row[3])]
+            return [named("HIT", n, hits) if command == "PUB" else self.sent(event, hits)]
+        if command == "FETCH":
+            most = reader.count(ASKED)
+            reader.end()
+            given, self.box = self.box[:most], self.box[most:]
+            return [*given, f"END {len(given)}"]
+        if command == "TAIL":
+            first, most = reader.count((1 << 63) - 1), reader.count(ASKED)
+            reader.end()
+            told = [f"AT {place} {self.log[place]}" for place in range(first, min(n, first + most))]
+            return [*told, f"TAILED {n} {len(told)}"]
+        if command not in ("LIST", "DUMP", "QUIT"):
             raise Refusal("BAD")
+        reader.end()
         if command == "LIST":
-            return self.named("LIST", self.live)
+            return [named("LIST", n, [row for row in self.live if row[1] == 1])]
+        if command == "DUMP":
+            rows = [f"ROW {name} {condition_text(condition)}" for _, _, name, condition in self.live]
+            return [*rows, f"# DUMP {n} {len(rows)}"]
         self.ended = True
-        return f"BYE {self.change()}"
+        return [f"BYE {self.change('BYE')}"]
 
-    def named(self, word, rows):
-        return " ".join([word, str(self.changes), str(len(rows)), *[name for _, name, _ in rows]])
+    def subscribed(self, name, condition):
+        for identity, _, known, _ in self.live:
+            if known == name:
+                return f"DUP {len(self.log)} {identity}"
+        self.live.append((len(self.log), 1, name, condition))
+        return f"OK {self.change('SUB', name, condition_text(condition))}"
+
+    def unsubscribed(self, name):
+        for row in self.live:
+            if row[2] == name and row[1] != 1:
+                return f"OTHER {len(self.log)} {row[0]}"
+            if row[2] == name:
+                self.live.remove(row)
+                return f"OK {self.change('UNSUB', name)}"
+        return f"NONE {len(self.log)}"
+
+    def sent(self, event, hits):
+        n, put = len(self.log), 0
+        for _, session, name, _ in hits:
+            if session == 1 and len(self.box) < BOX:
+                self.box.append(f"NOTE {n} {name} {event_text(event)}")
+                put += 1
+        return f"SENT {n} {put} {len(hits) - put}"
+
+
+def named(word, n, rows):
+    return " ".join([word, str(n), str(len(rows)), *[name for _, _, name, _ in rows]])
+
+
+def table(text):
+    """The rows of a load file, or the text of its first fault."""
+    rows = []
+    for number, line in enumerate(text.split("\n"), 1):
+        if line.strip(" \t") == "" or line.lstrip(" \t").startswith("#"):
+            continue
+        try:
+            reader = Reader(tokens(line))
+            reader.take("ROW")
+            name = reader.name()
+            condition = judged(reader.condition(), False)
+        except Refusal as refusal:
+            kinds = {"BAD": "Form", "ATTR": "Attr", "DOM": "Dom", "MANY": "Many"}
+            return [], f"load line {number}: {kinds[str(refusal).split()[0]]}"
+        if name in [known for known, _ in rows]:
+            return [], f"load line {number}: Twice"
+        rows.append((name, condition))
+    return rows, None
 
 
 def satisfies(event, condition):
@@ -261,51 +358,109 @@ class Lines:
             some.append(self.attribute())
         return " ".join(f"{it}={self.set_of(it) if self.random.random() < 0.3 else self.value(it)}" for it in some)
 
-    def line(self):
-        pick = self.random
-        name = pick.choice(["a", "b", "c", "d", "all", "x.y", "n" * 64, "n" * 65])
-        sub, pub, unsub = f"SUB {name} {self.condition()}", f"PUB {self.event()}", f"UNSUB {name}"
-        line = pick.choice([sub] * 4 + [pub] * 6 + [unsub] * 2 + ["LIST"])
-        if pick.random() < 0.05:
-            at = pick.randrange(len(line))
-            line = line[:at] + pick.choice(["", " ", "=", "{", "}", ",", "!", "\r", "#", "and", "\t"]) + line[at + 1 :]
+    def name(self):
+        return self.random.choice(["a", "b", "c", "d", "all", "x.y", "n" * 64, "n" * 65])
+
+    def spoiled(self, line, often):
+        if self.random.random() < often:
+            at = self.random.randrange(len(line))
+            line = line[:at] + self.random.choice(["", " ", "=", "{", "}", ",", "!", "\r", "#", "and", "\t"]) + line[at + 1 :]
         return line
 
+    def count(self):
+        return self.random.choice(["0", "1", "2", "3", "5", "007", "40", "1000000", "1000001", "9" * 18, "9" * 20, "x", "-1", ""])
 
-def session(program, schema, seed):
+    def line(self, sends):
+        pick = self.random
+        sub, pub, unsub = f"SUB {self.name()} {self.condition()}", f"PUB {self.event()}", f"UNSUB {self.name()}"
+        send, fetch, tail = f"SEND {self.event()}", f"FETCH {self.count()}", f"TAIL {self.count()} {self.count()}"
+        few = [sub] * 4 + [pub] * 6 + [unsub] * 2 + ["LIST", "DUMP", "DUMP x", tail, fetch]
+        return self.spoiled(pick.choice(few + [send] * sends), 0.05)
+
+    def load_file(self, often):
+        """Rows under different names, comments and empty lines; now and then a fault."""
+        names = ["a", "o1", "o2", "o3", "ROW", "o" * 64]
+        lines = [f"ROW {name} {self.condition()}" for name in names[: self.random.randint(0, 6)]]
+        lines += ["# ROW a all", "", " \t", "  # x!"] + ([f"ROW a {self.condition()}"] if self.random.random() < often else [])
+        self.random.shuffle(lines)
+        return "".join(self.spoiled(line, often) + "\n" if line else "\n" for line in lines)
+
+
+def good_load_file(lines):
+    while True:
+        text = lines.load_file(0)
+        rows, fault = table(text)
+        if fault is None:
+            return text, rows
+
+
+def session(program, schema, load, seed):
     lines = Lines(seed)
-    asked = [lines.line() for _ in range(300)] + ["x" * 65536, "x" * 65537, "LIST"]
+    sends, count = (12, 1200) if seed % 5 == 0 else (3, 300)
+    asked = [lines.line(sends) for _ in range(count)] + ["x" * 65536, "x" * 65537, "LIST", "DUMP", "TAIL 0 1000000"]
+    if seed % 5 == 0:
+        asked = ["SUB a all", "SUB b all"] + [line for line in asked if not line.startswith(("FETCH", "UNSUB"))]
+        asked += ["FETCH 1000", "SEND -", "FETCH 1000"]
     asked += ["QUIT", "LIST"] if seed % 2 else []
-    model, wanted = Model(), []
+    words, opening = [program, "run", schema], []
+    if seed % 3 == 0:
+        text, opening = good_load_file(lines)
+        with open(load, "w") as file:
+            file.write(text)
+        words += ["--load", load]
+    model, wanted = Model(opening), []
     for line in asked:
         if not model.ended:
             # (a CR at the end of a line is no part of it)
-            wanted.append(model.reply(line[:-1] if line.endswith("\r") and len(line) <= 65536 else line))
+            replies = model.reply(line[:-1] if line.endswith("\r") and len(line) <= 65536 else line)
+            wanted += [(line, reply) for reply in replies]
     text = "".join(line + "\n" for line in asked).encode()
-    ran = subprocess.run([program, "run", schema], input=text, stdout=subprocess.PIPE, check=True)
+    ran = subprocess.run(words, input=text, stdout=subprocess.PIPE, check=True)
     given = ran.stdout.decode().split("\n")[:-1]
-    for number, (line, want, got) in enumerate(zip(asked, wanted, given), 1):
+    for number, ((line, want), got) in enumerate(zip(wanted, given), 1):
         if want != got:
             told = f"{line[:200]!r}: {got[:200]!r}, and not {want[:200]!r}"
-            sys.exit(f"FAILED: model: session {seed}, line {number}: {told}")
+            sys.exit(f"FAILED: model: session {seed}, line {number} of the replies: {told}")
     if len(wanted) != len(given):
-        sys.exit(f"FAILED: model: session {seed}: {len(given)} replies, and not {len(wanted)}")
-    return wanted
+        sys.exit(f"FAILED: model: session {seed}: {len(given)} lines of replies, and not {len(wanted)}")
+    return [reply for _, reply in wanted]
+
+
+def load_fault(program, schema, load, seed):
+    """A load file, which has a fault more often than not: its text on standard error, and no session; or an empty session."""
+    text = Lines(seed).load_file(0.2)
+    with open(load, "w") as file:
+        file.write(text)
+    fault = table(text.replace("\r\n", "\n"))[1]
+    ran = subprocess.run([program, "run", schema, f"--load={load}"], stdin=subprocess.DEVNULL, capture_output=True)
+    given = (ran.returncode, ran.stdout.decode(), ran.stderr.decode())
+    wanted = (3 if fault else 0, "", f"{fault}\n" if fault else "")
+    if given != wanted:
+        sys.exit(f"FAILED: model: load file {seed}: {given!r}, and not {wanted!r}, for {text!r}")
+    return fault.split()[-1] if fault else "none"
 
 
 def main(program, sessions):
-    with tempfile.NamedTemporaryFile("w", suffix=".txt") as schema:
-        for name, *domain in SCHEMA:
-            is_sym = isinstance(domain[0], list)
-            schema.write(f"sym {name} {' '.join(domain[0])}\n" if is_sym else f"int {name} {domain[0]} {domain[1]}\n")
-        schema.flush()
-        told = [session(program, schema.name, seed) for seed in range(int(sessions))]
-    replies = [reply.split(" ")[0] for replies in told for reply in replies]
-    kinds = sorted(set(replies))
-    wanted = ["ATTR", "BAD", "BYE", "DOM", "DUP", "HIT", "LIST", "LONG", "MANY", "NONE", "OK", "TWICE"]
+    with tempfile.TemporaryDirectory() as room:
+        schema, load = os.path.join(room, "schema.txt"), os.path.join(room, "load.txt")
+        with open(schema, "w") as file:
+            for name, *domain in SCHEMA:
+                is_sym = isinstance(domain[0], list)
+                file.write(f"sym {name} {' '.join(domain[0])}\n" if is_sym else f"int {name} {domain[0]} {domain[1]}\n")
+        told = [session(program, schema, load, seed) for seed in range(int(sessions))]
+        faults = [load_fault(program, schema, load, seed) for seed in range(5 * int(sessions))]
+    replies = [reply.split(" ") for replies in told for reply in replies]
+    kinds = sorted({reply[0] for reply in replies})
+    wanted = ["#", "AT", "ATTR", "BAD", "BYE", "DOM", "DUP", "END", "HIT", "LIST", "LONG", "MANY", "NONE", "NOTE", "OK"]
+    wanted += ["OTHER", "ROW", "SENT", "TAILED", "TWICE"]
     if kinds != wanted:
         sys.exit(f"FAILED: model: replies of the kinds {kinds} alone")
-    print(f"the model of docs/protocol.md: {len(replies)} replies, no difference")
+    if sorted(set(faults)) != ["Attr", "Dom", "Form", "Many", "Twice", "none"]:
+        sys.exit(f"FAILED: model: faults of load files of the kinds {sorted(set(faults))} alone")
+    # session 5 has no load file, so where it drops a letter its box is full
+    if not any(reply.startswith("SENT") and reply.split()[2:] != ["0", "0"] and reply.split()[3] != "0" for reply in told[5]):
+        sys.exit("FAILED: model: no box was full")
+    print(f"the model of docs/protocol.md: {len(replies)} lines of replies and {len(faults)} load files, no difference")
 
 
 main(*sys.argv[1:])

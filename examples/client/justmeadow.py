@@ -4,11 +4,16 @@
         session.subscribe("cheap", "price <= 250")
         print(session.publish("price=240"))          # ['cheap']
 
-Each line has one reply, written before the next line is read: `ask` sends a line and waits for its reply. `ask_all`
-sends many from a thread while the caller reads; who sends first and reads later waits for ever, once both pipes are full."""
+Each line has one reply, which is there before the program waits for another line: `ask` sends a line and waits for its
+reply. Most replies are one line; those to FETCH, DUMP and TAIL have lines NOTE, ROW and AT before their last one.
+`ask_all` sends many lines from a thread while the caller reads; who sends first and reads later waits for ever, once both
+pipes are full."""
 import contextlib
 import subprocess
 import threading
+
+
+BEFORE_THE_LAST = ("NOTE ", "ROW ", "AT ")  # how those lines of a reply begin that aren't its last
 
 
 class Refused(Exception):
@@ -48,7 +53,13 @@ class Session:
         return self.process.wait()
 
     def reply(self):
-        """The next reply. It may have any length: a line of a million names is one reply."""
+        """The next reply, whose lines have a LF between them. It may have any length: a line of a million names is one."""
+        lines = [self._line()]
+        while lines[-1].startswith(BEFORE_THE_LAST):
+            lines.append(self._line())
+        return "\n".join(lines)
+
+    def _line(self):
         line = self.process.stdout.readline()
         if not line.endswith(b"\n"):
             raise Ended(f"no whole reply, but {line!r}")
@@ -86,6 +97,12 @@ class Session:
             raise Refused(words)
         return words
 
+    def _lines(self, line, wanted):
+        lines = self.ask(line).split("\n")
+        if not lines[-1].startswith(wanted + " "):
+            raise Refused(lines[-1].split(" "))
+        return lines
+
     def subscribe(self, name, condition):
         return int(self._words(f"SUB {name} {condition}", "OK")[1])
 
@@ -98,3 +115,20 @@ class Session:
 
     def names(self):
         return self._words("LIST", "LIST")[3:]
+
+    def send(self, event):
+        """How many letters were put into the box, and how many weren't."""
+        words = self._words(f"SEND {event}", "SENT")
+        return int(words[2]), int(words[3])
+
+    def fetch(self, most):
+        """The next letters, at most so many: the name and the event of each."""
+        return [tuple(line.split(" ", 3)[2:]) for line in self._lines(f"FETCH {most}", "END")[:-1]]
+
+    def dump(self):
+        """All live subscriptions, as the text of a load file."""
+        return "".join(line + "\n" for line in self._lines("DUMP", "# DUMP"))
+
+    def tail(self, place, most):
+        """The changes from a place on, at most so many, as their texts."""
+        return [line.split(" ", 2)[2] for line in self._lines(f"TAIL {place} {most}", "TAILED")[:-1]]
