@@ -1,6 +1,6 @@
 //! Generated scripts: the sums that are printed, and how the command ends.
 
-use crate::left::Full;
+use crate::full::Full;
 use crate::setting::{SCHEMA, Setting, call, run};
 use be_server::Status;
 use std::alloc::Global;

@@ -8,15 +8,13 @@ mod dumps;
 #[cfg(test)]
 mod faults;
 #[cfg(test)]
-mod generated;
+mod full;
 #[cfg(test)]
-mod left;
+mod generated;
 #[cfg(test)]
 mod limits;
 #[cfg(test)]
 mod loads;
-#[cfg(test)]
-mod plainly;
 #[cfg(test)]
 mod refusals;
 #[cfg(test)]
