@@ -1,21 +1,14 @@
 //! Asks boards what its input says. A line is a kind of board and what a new one is asked, parted by `; `, and each line of the
 //! output is the same with the answers. The rows stand in `stdin`, and with their answers, worked by hand from the rules, in
-//! `stdout`; the gate compares. `boards.rt` has the kinds of boards, `commands.rt` what they are asked. Sessions over such boards
-//! are tests, in `serving.rt`.
+//! `stdout`; the gate compares. `boards.rt` has the kinds of boards, `commands.rt` what they are asked.
 #![tactic(auto)]
 
 mod boards;
 mod changes;
 mod commands;
-#[cfg(test)]
-mod gate;
 mod letters;
 mod reads;
-#[cfg(test)]
-mod serving;
 mod tally;
-#[cfg(test)]
-mod tended;
 
 use be_base::NoMemory;
 use be_event::read_schema;
