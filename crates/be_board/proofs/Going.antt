@@ -1,26 +1,40 @@
 -- A board goes on from call to call.
-use Rattle.std.proofs.Common.{ℕ, ◌≤◌, refl, ◌∙◌, arith}
+use Rattle.std.proofs.Common.{ℕ, ◌≤◌, refl, sym, ◌∙◌, subst, arith}
 use Rattle.be_base.specs.Counts.{HasRisen}
 use Rattle.be_base.proofs.Beginnings.{BeginsWith-same, BeginsWith-along}
-use Rattle.be_board.specs.State.{BoardCounts, BoardState, NoneFalls, GoesOn}
+use Rattle.be_board.specs.State.{BoardCounts, BoardState, NoneFalls, GoesOn, Tends}
 
 pub NoneFalls-same : (c : BoardCounts) → NoneFalls c c
-NoneFalls-same c = record { reads = omega arith; shuts = omega arith; splits = omega arith; fulls = omega arith; empties = omega arith }
+NoneFalls-same c = record { reads = omega arith; shuts = omega arith; splits = omega arith; fulls = omega arith; empties = omega arith; puts = omega arith; tends = omega arith }
 
 pub NoneFalls-along : (a b c : BoardCounts) → NoneFalls a b → NoneFalls b c → NoneFalls a c
-NoneFalls-along a b c f g = record { reads = omega arith; shuts = omega arith; splits = omega arith; fulls = omega arith; empties = omega arith }
+NoneFalls-along a b c f g = record { reads = omega arith; shuts = omega arith; splits = omega arith; fulls = omega arith; empties = omega arith; puts = omega arith; tends = omega arith }
 
 pub GoesOn-same : (b : BoardState) → GoesOn b b
-GoesOn-same b = record { schema = refl; session = refl; alone = refl; known = BeginsWith-same b.word.known; counts = NoneFalls-same b.counts }
+GoesOn-same b = record { seat = refl; schema = refl; session = refl; alone = refl; known = BeginsWith-same b.word.known; counts = NoneFalls-same b.counts }
 
 pub GoesOn-along : (a b c : BoardState) → GoesOn a b → GoesOn b c → GoesOn a c
 GoesOn-along a b c f g = record {
+  seat = g.seat ∙ f.seat;
   schema = g.schema ∙ f.schema;
   session = g.session ∙ f.session;
   alone = g.alone ∙ f.alone;
   known = BeginsWith-along c.word.known b.word.known a.word.known g.known f.known;
   counts = NoneFalls-along a.counts b.counts c.counts f.counts g.counts;
 }
+
+-- maintenance leaves the board the session's
+pub GoesOn-tended : (b b' : BoardState) → Tends b b' → GoesOn b b'
+GoesOn-tended b b' t =
+    subst (GoesOn b) (sym t.2)
+    (record {
+      seat = refl;
+      schema = refl;
+      session = refl;
+      alone = refl;
+      known = BeginsWith-same b.word.known;
+      counts = record { reads = omega arith; shuts = omega arith; splits = omega arith; fulls = omega arith; empties = omega arith; puts = omega arith; tends = t.1 };
+    })
 
 -- a count that rose later has risen from before
 pub HasRisen-later : (before middle after : ℕ) → before ≤ middle → HasRisen middle after → HasRisen before after

@@ -47,13 +47,14 @@ asked_local : {X : Type 0} (s s' : Attributes) (b b' : Local X) (r : Request) (a
     → Asked (local_state s b) (local_state s' b') r answer
 asked_local s s' b b' r answer same a formed rest = record {
   goes = record {
+    seat = refl;
     schema = same;
     session = refl;
     alone = refl;
     known = answered_grows b.list b'.list r answer a;
-    counts = record { reads = omega arith; shuts = omega arith; splits = omega arith; fulls = omega arith; empties = omega arith };
+    counts = record { reads = omega arith; shuts = omega arith; splits = omega arith; fulls = omega arith; empties = omega arith; puts = omega arith; tends = omega arith };
   };
-  letters = record { notes = refl; box = ap (λ (l : List PlainLetter). Some (map note_of l)) rest.letters };
+  letters = record { notes = refl; box = ap (λ (l : List PlainLetter). Some (map note_of l)) rest.letters; puts = refl; fulls = rest.fulls };
   formed = formed;
   answers = a.answers;
   split = λ seen written e. absurd (subst (λ (x : Answer). AnswersAlone (local_word b.list) (local_word b'.list) r x) e a.alone);
@@ -77,14 +78,17 @@ pub record TakesFirst {X : Type 0} (v b' : Local X) (l : PlainLetter) : Type 0 w
 fetches_local : {X : Type 0} (s s' : Attributes) (v b' : Local X) (l : PlainLetter) → s' ≡ s → TakesFirst v b' l → IsDelivered v.list l → Fetches (local_state s v) (local_state s' b') (Some l)
 fetches_local s s' v b' l same t d = record {
   goes = record {
+    seat = refl;
     schema = same;
     session = refl;
     alone = refl;
     known = begins_same v.list b'.list t.list;
-    counts = record { reads = omega arith; shuts = omega arith; splits = omega arith; fulls = omega arith; empties = omega arith };
+    counts = record { reads = omega arith; shuts = omega arith; splits = omega arith; fulls = omega arith; empties = omega arith; puts = omega arith; tends = omega arith };
   };
   known = t.list;
   own = ap (placed_of 1) t.list;
+  puts = refl;
+  fulls = t.fulls;
   from = (refl, map note_of b'.letters, refl, (ap (map note_of) t.letters, d));
 }
 

@@ -132,7 +132,7 @@ answered_other h h' name m id at same there =
 pub answered_no_sub : (h h' : List Entry) (name : Text) (conj : List Pred) → h' ≡ h → IsAnswered h h' (subscribe name conj) NoMemory
 answered_no_sub h h' name conj same = record { answers = ap (placed_of 1) same; alone = same }
 
-pub answered_no_unsub : (h h' : List Entry) (name : Text) → h' ≡ h → is_live_name name (live h) ≡ true → IsAnswered h h' (unsubscribe name) NoMemory
+pub answered_no_unsub : (h h' : List Entry) (name : Text) → h' ≡ h → is_live_name_of 1 name (live h) ≡ true → IsAnswered h h' (unsubscribe name) NoMemory
 answered_no_unsub h h' name same there = record { answers = ap (placed_of 1) same; alone = (same, there) }
 
 pub answered_no_quit : (h h' : List Entry) → h' ≡ h → IsAnswered h h' quit NoMemory
@@ -167,13 +167,3 @@ first_owned k name (r ∷ l) row of e = step (has_name name r) refl (first_owned
         let same : r.1 ≡ row = cc in
         or_left (is_of k r && has_name name r) (is_live_name_of k name l) (and_from (is_of k r) (has_name name r) (eq-eqb r.1.session.0 k (ap (λ (x : Row). x.session.0) same ∙ of)) h)
     step false h rest e = or_right (is_of k r && has_name name r) (is_live_name_of k name l) (rest e)
-
--- a session's live name is live
-pub owned_live : (k : ℕ) (name : Text) (l : ByIds) → is_live_name_of k name l ≡ true → is_live_name name l ≡ true
-owned_live k name [] e = absurd cc
-owned_live k name (r ∷ l) e = step (is_of k r) (has_name name r) e (owned_live k name l)
-  where
-    step : (a b : Bool) → ((a && b) || is_live_name_of k name l) ≡ true → (is_live_name_of k name l ≡ true → is_live_name name l ≡ true) → (b || is_live_name name l) ≡ true
-    step a true e rest = refl
-    step true false e rest = rest e
-    step false false e rest = rest e

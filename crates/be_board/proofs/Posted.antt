@@ -155,6 +155,7 @@ posts_local {X} s s' v b' n room put full dropped e p left =
       all = omega (arith, counts.put_few, many, named, left, ap (λ (l : List Entry). length (hits l e)) p.list);
       drops = subst (λ (l : List Entry). Drops (local_state s v) (local_state s' b') (hit_rows l e) dropped) (sym p.list)
           (full, omega (arith, counts.dropped, nobodys, left), rises_by full v.fulls b'.fulls p.fulls);
+      puts = refl;
       box = (subst (λ (l : List Entry). map note_of b'.letters ≡ with_letters n e (hit_rows l e) (map note_of v.letters)) (sym p.list) box, long);
     }
 

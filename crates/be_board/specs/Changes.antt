@@ -1,7 +1,7 @@
 -- What a board answers to a change that is asked for.
 use Rattle.std.specs.Prelude.{◌≡◌, ◌≢◌, ℕ, ◌-◌, ◌<◌, ◌≤◌, ◌⊎◌, true, false, [], ◌∷◌, ◌++◌, length, Some, slice_get}
 use Rattle.be_base.specs.Counts.{HasRisen}
-use Rattle.be_change.specs.History.{Entry, live, is_live_name, IsWellFormed}
+use Rattle.be_change.specs.History.{Entry, live, is_live_name, is_live_name_of, IsWellFormed}
 use Rattle.be_change.specs.Made.{change_named}
 use Rattle.be_change.specs.Requests.{Request, subscribe, unsubscribe}
 use Rattle.be_change.specs.Walk.{IsChangeOf, HasNameAt, HasNameOfAnotherAt}
@@ -45,12 +45,12 @@ Answers w w' r NoMemory = w'.own ≡ w.own
 Answers w w' _ _ = ⊥
 
 -- what more is known where the board is alone: an accepted change is put last and nothing else is, no change is held,
--- and memory may be wanting to a removal only where the name is live
+-- and memory may be wanting to a removal only where the session has a live row of the name
 abbrev pub AnswersAlone : Word → Word → Request → Answer → Type 0
 AnswersAlone w w' r (Done n) = w'.known ≡ w.known ++ change_named w.session (length (own_in w)) (length w.known) r
 AnswersAlone w w' r (Held n) = ⊥
 AnswersAlone w w' r (Split seen written) = ⊥
-AnswersAlone w w' (unsubscribe name) NoMemory = (w'.known ≡ w.known) × (is_live_name name (live w.known) ≡ true)
+AnswersAlone w w' (unsubscribe name) NoMemory = (w'.known ≡ w.known) × (is_live_name_of w.session name (live w.known) ≡ true)
 AnswersAlone w w' r answer = w'.known ≡ w.known
 
 -- a change was asked for, and answered so. What is known then is well formed

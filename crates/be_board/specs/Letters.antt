@@ -10,7 +10,7 @@ use Rattle.be_change.specs.History.{Entry, ByIds, is_of, hit_rows, hits}
 use Rattle.be_change.specs.Requests.{Note, note}
 use Rattle.be_board.specs.declared.answers.Sent.{Sent}
 use Rattle.be_board.specs.Word.{Word, IsDelivered}
-use Rattle.be_board.specs.State.{BoardState, GoesOn, WhereBox}
+use Rattle.be_board.specs.State.{BoardState, GoesOn, CountsPuts, WhereBox}
 use Rattle.be_board.specs.Reads.{IsReadAt}
 
 -- what a letter says to whom it is for
@@ -40,6 +40,7 @@ pub record Posts (b b' : BoardState) (e : Assignments) (sent : Sent) : Type 0 wh
   pub read : IsReadAt b b' sent.n
   pub all : sent.put + sent.dropped ≡ length (hits b'.word.known e)
   pub drops : Drops b b' (hit_rows b'.word.known e) sent.dropped
+  pub puts : CountsPuts b.box sent.put b.counts b'.counts
   pub box : WhereBox b.box b'.box
       (λ box box'. (box' ≡ with_letters sent.n e (hit_rows b'.word.known e) box) × (length box' ≡ length box + sent.put))
 
@@ -64,9 +65,11 @@ ComesFrom b b' None l = (b'.box ≡ None) × TakesOut b.word b'.word (given l)
 ComesFrom b b' (Some box) l =
     (b'.word.notes ≡ b.word.notes) × (box' : List Note) × (b'.box ≡ Some box') × GivesFirst b.word.known box box' l
 
--- FETCH leaves what is known and what was accepted
+-- FETCH leaves what is known, what was accepted, and what was counted of letters that were put
 pub record Fetches (b b' : BoardState) (l : Option PlainLetter) : Type 0 where
   pub goes : GoesOn b b'
   pub known : b'.word.known ≡ b.word.known
   pub own : b'.word.own ≡ b.word.own
+  pub puts : b'.counts.puts ≡ b.counts.puts
+  pub fulls : b'.counts.fulls ≡ b.counts.fulls
   pub from : ComesFrom b b' b.box l

@@ -23,20 +23,22 @@ pub record Local (X : Type 0) : Type 0 where
 -- the board as whoever asks it sees it. It tells its box
 abbrev pub local_state : {X : Type 0} → Attributes → Local X → BoardState
 local_state s b = record {
+  seat = 0;
   schema = s;
   word = local_word b.list;
   box = Some (map note_of b.letters);
-  counts = record { reads = b.reads; shuts = 0; splits = 0; fulls = b.fulls; empties = b.empties };
+  counts = record { reads = b.reads; shuts = 0; splits = 0; fulls = b.fulls; empties = b.empties; puts = 0; tends = 0 };
   alone = true;
 }
 
 -- a board that was opened with these rows, and was asked nothing
 abbrev pub opened_state : Attributes → List Row → BoardState
 opened_state s rows = record {
+  seat = 0;
   schema = s;
   word = record { session = 1; known = opening_of rows; own = []; notes = [] };
   box = Some [];
-  counts = record { reads = 0; shuts = 0; splits = 0; fulls = 0; empties = 0 };
+  counts = record { reads = 0; shuts = 0; splits = 0; fulls = 0; empties = 0; puts = 0; tends = 0 };
   alone = true;
 }
 

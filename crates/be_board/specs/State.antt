@@ -1,5 +1,5 @@
 -- A board as whoever asks it sees it, and what each call leaves.
-use Rattle.std.specs.Prelude.{◌≡◌, ℕ, ◌≤◌, Bool, List, Option, Some, None}
+use Rattle.std.specs.Prelude.{◌≡◌, ℕ, ◌+◌, ◌≤◌, Bool, List, Option, Some, None}
 use Rattle.std.specs.List.{list_any}
 use Rattle.be_base.specs.Lists.{BeginsWith}
 use Rattle.be_model.specs.Schemas.{Attributes}
@@ -7,7 +7,7 @@ use Rattle.be_change.specs.History.{Entry, is_leave_of}
 use Rattle.be_change.specs.Requests.{Note}
 use Rattle.be_board.specs.Word.{Word}
 
--- counts that never fall, and stay at the last value of their type
+-- counts that never fall. All but `puts` stay at the last value of their type
 pub record BoardCounts : Type 0 where
   -- reads that were answered
   pub reads : ℕ
@@ -19,8 +19,14 @@ pub record BoardCounts : Type 0 where
   pub fulls : ℕ
   -- looks that found the mailbox empty
   pub empties : ℕ
+  -- letters that were put into shared mailboxes. A board that tells its box puts none there
+  pub puts : ℕ
+  -- how often the rows were maintained through the board
+  pub tends : ℕ
 
 pub record BoardState : Type 0 where
+  -- which seat of the server it is, from 0
+  pub seat : ℕ
   pub schema : Attributes
   pub word : Word
   -- the letters in its box, in order, where it tells them
@@ -39,9 +45,12 @@ pub record NoneFalls (c c' : BoardCounts) : Type 0 where
   pub splits : c.splits ≤ c'.splits
   pub fulls : c.fulls ≤ c'.fulls
   pub empties : c.empties ≤ c'.empties
+  pub puts : c.puts ≤ c'.puts
+  pub tends : c.tends ≤ c'.tends
 
--- each call leaves the schema and the session, and the known list only grows
+-- each call leaves the seat, the schema and the session, and the known list only grows
 pub record GoesOn (b b' : BoardState) : Type 0 where
+  pub seat : b'.seat ≡ b.seat
   pub schema : b'.schema ≡ b.schema
   pub session : b'.word.session ≡ b.word.session
   pub alone : b'.alone ≡ b.alone
@@ -52,6 +61,17 @@ pub record GoesOn (b b' : BoardState) : Type 0 where
 pub record LeavesLetters (b b' : BoardState) : Type 0 where
   pub notes : b'.word.notes ≡ b.word.notes
   pub box : b'.box ≡ b.box
+  pub puts : b'.counts.puts ≡ b.counts.puts
+  pub fulls : b'.counts.fulls ≡ b.counts.fulls
+
+-- all stays, but that the rows may have been maintained
+abbrev pub Tends : BoardState → BoardState → Type 0
+Tends b b' = (n : ℕ) × (b.counts.tends ≤ n) × (b' ≡ record b { counts = record b.counts { tends = n } })
+
+-- of so many letters that were put, those that lie in shared mailboxes were counted: all of them, or none where the box is told
+abbrev pub CountsPuts : Option (List Note) → ℕ → BoardCounts → BoardCounts → Type 0
+CountsPuts None put c c' = c'.puts ≡ c.puts + put
+CountsPuts (Some box) put c c' = c'.puts ≡ c.puts
 
 -- of the box before and after, where it is told. A board tells its box always, or never
 abbrev pub WhereBox : Option (List Note) → Option (List Note) → (List Note → List Note → Type 0) → Type 0

@@ -12,7 +12,7 @@ ghost use Rattle.be_change.specs.History.{live, hit_rows, IsWellFormed};
 ghost use Rattle.be_change.specs.Requests as asked;
 ghost use Rattle.be_change.specs.Sound.{all_lie};
 ghost use Rattle.be_change.specs.Walk.{live_rows, tail_from, IsNoteFor};
-ghost use Rattle.be_board.specs.State.{is_gone};
+ghost use Rattle.be_board.specs.State.{is_gone, LeavesLetters, Tends};
 ghost use Rattle.be_board.specs.Reads.{Looks, IsReadAt, Refuses};
 ghost use Rattle.be_board.specs.Changes.{Asked};
 ghost use Rattle.be_board.specs.Letters.{IsLetterFor, Sends, Posts, Fetches};
@@ -104,7 +104,7 @@ pub trait Board: Drop {
         ensures posts { IfOk result (Posts (state self.old) (state self.new) event.now) }
         ensures found { OnOk result (found.new.rows ≡ rows_of (hit_rows (state self.new).word.known event.now)) }
         ensures refused { IfErr result (Refuses (state self.old) (state self.new)) }
-        ensures kept { OnErr result ((state self.new).box ≡ (state self.old).box) };
+        ensures kept { OnErr result (LeavesLetters (state self.old) (state self.new)) };
 
     /// Takes the session's next letter out of its mailbox. Letters for an earlier session of the same mailbox are taken out
     /// and not given. It takes no memory.
@@ -117,5 +117,5 @@ pub trait Board: Drop {
 
     /// May change how the rows are kept.
     fn tend(&mut self)
-        ensures { state self.new ≡ state self.old };
+        ensures { Tends (state self.old) (state self.new) };
 }

@@ -28,6 +28,7 @@ use Rattle.be_session.proofs.Looking.{tied_one}
 use Rattle.be_session.specs.Changes.{reply_of, quit_reply}
 use Rattle.be_session.proofs.Accepting.{adds_accepted, asks_to_leave, places_accepted, count_accepted, present_accepted, top_accepted, accepted_at, keeps_accepted}
 use Rattle.be_session.proofs.Quiet.{quiet, quiet_alone, stands_on, full_by, led_same, told_same, letters_by}
+use Rattle.be_session.proofs.Tying.{puts_unread}
 
 -- where an accepted change leaves the walk
 stands_accepted_seen : (w : Walk) (b b' : BoardState) (r : Request) (n : ℕ) → GoesOn b b' → Accepts b.word b'.word r n → n ≡ length b'.word.known → Stands w b.word → Stands (having_seen n (having_changed n w)) b'.word
@@ -72,7 +73,7 @@ length_one k n place _ e m is = absurd is
 -- where nobody else changes the list
 accepts_alone : (b b' : BoardState) (r : Request) (t : Reply) (n : ℕ) → Asked b b' r (Done n) → Accepts b.word b'.word r n → b.alone ≡ true → is_some b.box ≡ true → comes_in_run true t ≡ true → length_told t ≡ Some n
     → change_made b.word.session (length (own_in b.word)) (length b.word.known) (r, t) ≡ change_named b.word.session (length (own_in b.word)) (length b.word.known) r
-    → RemovalMayWant b.word.known (r, t) → (d : board.Answers b.word b'.word r (Done n)) → StepsAlone (r, t) b b'
+    → RemovalMayWant b.word.session b.word.known (r, t) → (d : board.Answers b.word b'.word r (Done n)) → StepsAlone (r, t) b b'
 accepts_alone b b' r t n q a0 alone told plain tells made removal d =
     let a : Accepts b.word b'.word r n = d.0 in
     record {
@@ -111,7 +112,7 @@ notes_stay b b' letters = subst (λ (l : List PlainLetter). BeginsWith l b.word.
 
 refuses : (s : Attributes) (b b' : BoardState) (r : Request) (t : Reply) (m : ℕ) (answer : Answer) → Asked b b' r answer → RefusedAt b.word b'.word m → place_accepted t ≡ [] → goes_on (r, t) ≡ true
     → ((h : List Entry) (w : Walk) → IsRefusedAt h w m → take m h ≡ b'.word.known → Answers s b.word.session h r t w (having_seen m w)) → ((h : List Entry) → full_letters h (r, t) ≡ 0)
-    → comes_in_run true t ≡ true → length_told t ≡ Some m → RemovalMayWant b.word.known (r, t) → (b.alone ≡ true → b'.word.known ≡ b.word.known) → Steps s (r, t) b b'
+    → comes_in_run true t ≡ true → length_told t ≡ Some m → RemovalMayWant b.word.session b.word.known (r, t) → (b.alone ≡ true → b'.word.known ≡ b.word.known) → Steps s (r, t) b b'
 refuses s b b' r t m answer q at nothing on answers zero plain tells removal same =
     quiet s (r, t) b b' q.goes at.own (notes_stay b b' q.letters) nothing
     (λ h w bears st going.
@@ -276,6 +277,7 @@ changed : (s : Attributes) (r : Request) (t : Reply) (answer : Answer) (b b' : B
 changed s r t answer b b' q st read shut short splits without boxed = record {
   steps = st;
   tied = tied_one (r, t) b.counts b'.counts q.goes.counts (λ e. let x = sym read ∙ e in absurd cc) (λ e. let x = sym shut ∙ e in absurd cc) splits (λ e. let x = sym short ∙ e in absurd cc);
+  puts = puts_unread b.box (r, t) b.counts b'.counts read q.letters.puts;
   letters = letters_by b.box (r, t) b b' refl without q.letters boxed;
 }
 

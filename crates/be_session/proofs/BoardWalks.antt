@@ -141,10 +141,10 @@ counts_push n (q ∷ ps) p counts told =
     omega (arith, ap (λ (l : List ℕ). length l) (accepted-append (q ∷ []) (ps ++ p ∷ [])), length-append one rest) in
     (counts.0, counts_push (n + length one) ps p counts.1 (subst (λ (m : ℕ). IsTold m (length_told p.1)) same told))
 
-removals_push : (o : List Entry) (k : ℕ) (before ps : List Exchange) (p : Exchange) → RemovalsMayWant o k before ps → RemovalMayWant (made o k (before ++ ps)) p → RemovalsMayWant o k before (ps ++ p ∷ [])
-removals_push o k before [] p all last = (subst (λ (qs : List Exchange). RemovalMayWant (made o k qs) p) (append-nil before) last, tt)
+removals_push : (o : List Entry) (k : ℕ) (before ps : List Exchange) (p : Exchange) → RemovalsMayWant o k before ps → RemovalMayWant k (made o k (before ++ ps)) p → RemovalsMayWant o k before (ps ++ p ∷ [])
+removals_push o k before [] p all last = (subst (λ (qs : List Exchange). RemovalMayWant k (made o k qs) p) (append-nil before) last, tt)
 removals_push o k before (q ∷ ps) p all last =
-    (all.0, removals_push o k (before ++ q ∷ []) ps p all.1 (subst (λ (qs : List Exchange). RemovalMayWant (made o k qs) p) (sym (append_assoc before (q ∷ []) ps)) last))
+    (all.0, removals_push o k (before ++ q ∷ []) ps p all.1 (subst (λ (qs : List Exchange). RemovalMayWant k (made o k qs) p) (sym (append_assoc before (q ∷ []) ps)) last))
 
 -- the list that a session makes alone, with one more exchange
 runs_on : (s : Attributes) (ps : List Exchange) (p : Exchange) (b c d : BoardState) → BoardServes s true ps b c → Steps s p c d → BeginsAlone b → RunsOver s (ps ++ p ∷ []) b d
@@ -194,7 +194,8 @@ runs_on s ps p b c d g st a =
       replies = record {
         plain = list_all-append (λ (x : Exchange). comes_in_run (is_opened o) x.1) ps (p ∷ []) ∙ rw (r.replies.plain, comes) refl;
         counts = counts_push (length o) ps p r.replies.counts (subst (λ (n : ℕ). IsTold n (length_told p.1)) tells q.tells);
-        removals = removals_push o k [] ps p r.replies.removals (subst (λ (h : List Entry). RemovalMayWant h p) (sym r.made) q.removal);
+        removals = removals_push o k [] ps p r.replies.removals
+            (subst (λ (h : List Entry). RemovalMayWant k h p) (sym r.made) (subst (λ (j : ℕ). RemovalMayWant j c.word.known p) same q.removal));
       };
     }
 

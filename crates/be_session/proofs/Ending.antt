@@ -1,5 +1,6 @@
 -- How a session ends, by the turn that ended it.
 use Rattle.std.proofs.Common.{◌≡◌, inl, inr, ℕ, Bool, true, false, List, [], ◌∷◌, ◌++◌, Option, Some, None, refl, sym, ap, ◌∙◌, subst, arith, append_assoc}
+use Rattle.std.specs.List.{sum_by}
 use Rattle.std.proofs.lemmas.List.{append-nil}
 use Rattle.be_base.specs.Counts.{HasRisen}
 use Rattle.be_io.specs.Kept.{KeptByRead}
@@ -24,17 +25,17 @@ use Rattle.be_session.specs.Ends.{end_after, is_on, goes_on, end_of}
 use Rattle.be_session.specs.Given.{GivesInPart}
 use Rattle.be_session.specs.Served.{AreBorneOut, BeginsAlone, Replied, NoWriteFailed, EndedByReply, BrokeOff, CutShort, SessionEnds, KeepsBeside, BoardLeft}
 use Rattle.be_session.specs.Steps.{Steps, RepliedTo, RepliedInPartTo, Refused, RefusedOnce}
-use Rattle.be_session.specs.Tied.{Tied}
+use Rattle.be_session.specs.Tied.{letters_put, Tied}
 use Rattle.be_session.specs.Turns.{TurnState, TakesAlike, TookLine, TookBreak, IsSilent, Turned, LinesGoOn, BoardServes, IsServing}
 use Rattle.be_session.proofs.BoardWalks.{bears_step}
-use Rattle.be_board.proofs.Going.{GoesOn-along}
+use Rattle.be_board.proofs.Going.{NoneFalls-same, GoesOn-along}
 use Rattle.be_base.specs.Lists.{BeginsWith}
 use Rattle.be_model.specs.Letters.{PlainLetter}
 use Rattle.be_session.proofs.BearsOut.{adds_along}
 use Rattle.be_session.proofs.BorneOut.{adds_left, borne_out, borne_left, bears_left, left_still, left_so, ran_over, box_whole, box_cut, LeavesSo}
 use Rattle.be_session.proofs.GivingOn.{letters_then, letters_cut, letters_cut_then}
-use Rattle.be_session.proofs.Serving.{texts-push, answered_one, tied_with, letters_with, written_with, read_to_end, read_in_part, first_lines, spent, rises-along}
-use Rattle.be_session.proofs.Tying.{tied_on, tied_then}
+use Rattle.be_session.proofs.Serving.{texts-push, answered_one, tied_with, puts_with, letters_with, written_with, read_to_end, read_in_part, first_lines, spent, rises-along}
+use Rattle.be_session.proofs.Tying.{tied_on, tied_then, puts_then}
 
 -- the lines that were answered, after which the session left without a reply
 replied_left : (s : Attributes) (link : LinkState) (b : BoardState) (now : TurnState) (d : BoardState) (answer : Answer) (sink : SinkState) (g : IsServing s link b now) → sink ≡ now.link.sink → Asked now.board d quit answer
@@ -46,6 +47,7 @@ replied_left s link b now d answer sink g same q = record {
   ends = g.on;
   borne = borne_left s g.ps g.done b now.board d answer g.somebody g.board q g.asked;
   tied = tied_then g.ps g.ps b.counts now.board.counts d.counts g.tied q.goes.counts;
+  puts = puts_then b.box (sum_by letters_put g.ps) b.counts now.board.counts d.counts g.puts q.letters.puts;
   letters = letters_then b.box g.ps b now.board d (λ h bears. bears_left h now.board d answer q bears) q.letters g.letters;
   alone = λ a. ran_over s true g.ps g.done b now.board d g.somebody g.board g.asked (box_whole g.ps b now.board g.letters)
       (λ x. left_so now.board d answer (g.board.alone x).keeps (g.board.alone x).alone q) a;
@@ -74,6 +76,7 @@ ended_by_reply s link b before after end g line took w is =
         ends = (g.ps, p, refl, g.on, is);
         borne = borne_out s false ps done b after.board g.somebody board one.asked;
         tied = tied_with s link b before after.board g p w.replies;
+        puts = puts_with s link b before after.board g p w.replies.puts;
         letters = letters;
         alone = λ a. ran_over s false ps done b after.board after.board g.somebody board one.asked (box_whole ps b after.board letters) (λ x. left_still false after.board) a;
       };
@@ -86,9 +89,9 @@ refused_since s link b before after g (inr e) = inr (e ∙ g.unrefused)
 -- a reply that was cut short, whatever was left behind it
 cut_short : (s : Attributes) (link : LinkState) (b : BoardState) (before after : TurnState) (d : BoardState) (on : Bool) (fault : SinkFault) (g : IsServing s link b before) (line : TextLine) → TookLine before after line
     → (c : RepliedInPartTo s (reading s line) fault before.board after.board before.link.sink after.link.sink) → is_on (end_after (reading s line) c.reply) ≡ on
-    → (AreBorneOut s (g.done ++ line ∷ []) (g.ps ++ (reading s line, c.reply) ∷ []) b d) → NoneFalls after.board.counts d.counts
+    → (AreBorneOut s (g.done ++ line ∷ []) (g.ps ++ (reading s line, c.reply) ∷ []) b d) → NoneFalls after.board.counts d.counts → d.counts.puts ≡ after.board.counts.puts
     → GivesInPart b.box s g.ps (reading s line, c.reply) (texts s g.ps ++ c.out) b d → (BeginsAlone b → LeavesSo on after.board d) → CutShort s link after.link b d
-cut_short s link b before after d on fault g line took c is borne falls letters leaves =
+cut_short s link b before after d on fault g line took c is borne falls puts letters leaves =
     let p : Exchange = (reading s line, c.reply) in
     let ps : List Exchange = g.ps ++ p ∷ [] in
     let done : List TextLine = g.done ++ line ∷ [] in
@@ -117,6 +120,7 @@ cut_short s link b before after d on fault g line took c is borne falls letters 
         borne = borne;
         tied = tied_then ps g.ps b.counts after.board.counts d.counts
             (subst (λ (ws : List Exchange). Tied ps ws b.counts after.board.counts) (append_none g.ps) (tied_on g.ps (p ∷ []) g.ps [] b.counts before.board.counts after.board.counts g.tied c.replies.tied)) falls;
+        puts = puts_then b.box (sum_by letters_put ps) b.counts after.board.counts d.counts (puts_with s link b before after.board g p c.replies.puts) puts;
         letters = letters;
         alone = λ a. ran_over s (is_on (end_after (reading s line) c.reply)) ps done b after.board d g.somebody board one.asked (box_cut s g.ps p (texts s g.ps ++ c.out) b after.board cut)
             (λ x. subst (λ (o : Bool). LeavesSo o after.board d) (sym is) (leaves x)) a;
@@ -125,9 +129,6 @@ cut_short s link b before after d on fault g line took c is borne falls letters 
   where
     append_none : (xs : List Exchange) → xs ++ [] ≡ xs
     append_none xs = append-nil xs
-
-falls_same : (b : BoardState) → NoneFalls b.counts b.counts
-falls_same b = record { reads = omega arith; shuts = omega arith; splits = omega arith; fulls = omega arith; empties = omega arith }
 
 -- the session would have gone on, and left
 cut_and_left : (s : Attributes) (link : LinkState) (b : BoardState) (before after : TurnState) (d : BoardState) (answer : Answer) (fault : SinkFault) (g : IsServing s link b before) (line : TextLine) → TookLine before after line
@@ -141,7 +142,7 @@ cut_and_left s link b before after d answer fault g line took c is q =
     let cut : GivesInPart b.box s g.ps p (texts s g.ps ++ c.out) b after.board =
     letters_cut b.box s g.ps p c.out b before.board after.board g.board.goes.session (λ h bears. bears_step s h p before.board after.board c.replies.steps bears) g.letters c.replies.letters in
     cut_short s link b before after d true fault g line took c on
-    (borne_left s ps (g.done ++ line ∷ []) b after.board d answer g.somebody board q one.asked) q.goes.counts
+    (borne_left s ps (g.done ++ line ∷ []) b after.board d answer g.somebody board q one.asked) q.goes.counts q.letters.puts
     (letters_cut_then b.box s g.ps p (texts s g.ps ++ c.out) b after.board d (λ h bears. bears_left h after.board d answer q bears) q.letters cut)
     (λ a. left_so after.board d answer (board.alone a).keeps (board.alone a).alone q)
 
@@ -153,7 +154,7 @@ cut_at_end s link b before after fault g line took c is =
     let ps : List Exchange = g.ps ++ p ∷ [] in
     let one = answered_one s link b before after g line c.reply took c.replies.steps in
     cut_short s link b before after after.board false fault g line took c is
-    (borne_out s (goes_on p) ps (g.done ++ line ∷ []) b after.board g.somebody one.board one.asked) (falls_same after.board)
+    (borne_out s (goes_on p) ps (g.done ++ line ∷ []) b after.board g.somebody one.board one.asked) (NoneFalls-same after.board.counts) refl
     (letters_cut b.box s g.ps p c.out b before.board after.board g.board.goes.session (λ h bears. bears_step s h p before.board after.board c.replies.steps bears) g.letters c.replies.letters)
     (λ a. left_still false after.board)
 

@@ -35,7 +35,7 @@ use Rattle.be_session.specs.Tied.{Tied}
 use Rattle.be_session.proofs.FetchingOn.{nothing_left, bears_fetched, lines_snoc, noted_on, draws_on}
 use Rattle.be_session.proofs.Looking.{tied_one}
 use Rattle.be_session.proofs.Quiet.{quiet, quiet_alone, led_same}
-use Rattle.be_session.proofs.Tying.{risen_none}
+use Rattle.be_session.proofs.Tying.{risen_none, puts_one}
 
 abbrev pub end_line : ℕ → List ℕ
 end_line n = with_lf (codes "END" ++ number n)
@@ -133,6 +133,7 @@ fetch_whole s max count b now before mid after f all w = (
     replies = record {
       steps = fetch_steps s max f.given f.given b now f.goes f.known f.own f.from (omega (arith, f.many, f.few)) f.noted;
       tied = fetch_tied max f.given b now f.goes (all_second max f.given b now count f.many all);
+      puts = puts_one b.box (fetching max, notes f.given) b.counts now.counts refl f.puts;
       letters = gives_all b.box max f.given b now f.from (all_first max f.given b now count f.many f.few all);
     };
     written = subst (λ (t : List ℕ). HoldsMore before.held after.held t)
@@ -196,6 +197,7 @@ fetch_cut_at_end s max count b now before mid after fault f all w =
         replies = record {
           steps = fetch_steps s max f.given f.given b now f.goes f.known f.own f.from (omega (arith, f.many, f.few)) f.noted;
           tied = part_tied max f.given b now f.goes;
+          puts = puts_one b.box (fetching max, notes f.given) b.counts now.counts refl f.puts;
           letters = cut_at_end b.box s max f.given out b now (gives_all b.box max f.given b now f.from (all_first max f.given b now count f.many f.few all))
               (record { taken = f.given; letters = sym (append-nil f.given); given = begins_lines s (length f.given - 1) f.given (take part.0 (end_line count)) });
         };
@@ -286,6 +288,7 @@ fetch_cut s sch max count b now next l before mid after fault f more q fit holds
           steps = fetch_steps s max taken (taken ++ c.more) b next (GoesOn-along b now next f.goes q.goes) (q.known ∙ f.known) (q.own ∙ f.own)
               (draws_on b.box f.given b now next l f.goes.session fit.session f.from q.from) c.few c.noted;
           tied = part_tied max (taken ++ c.more) b next (GoesOn-along b now next f.goes q.goes);
+          puts = puts_one b.box (fetching max, notes (taken ++ c.more)) b.counts next.counts refl (q.puts ∙ f.puts);
           letters = c.given out (record {
             taken = taken;
             letters = refl;

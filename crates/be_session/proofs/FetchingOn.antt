@@ -37,6 +37,7 @@ fetch_first s max b sink = record {
   goes = GoesOn-same b;
   known = refl;
   own = refl;
+  puts = refl;
   noted = λ h bears. All-nil _;
   from = first b.box refl;
 }
@@ -140,6 +141,7 @@ fetch_next s sch max count b now next l before mid after f more q fit w = record
   goes = GoesOn-along b now next f.goes q.goes;
   known = q.known ∙ f.known;
   own = q.own ∙ f.own;
+  puts = q.puts ∙ f.puts;
   noted = noted_on s sch max count b now next l before mid f q fit;
   from = draws_on b.box f.given b now next l f.goes.session (fit.session) f.from q.from;
 }
@@ -173,6 +175,7 @@ fetch_none s max count b now next before after f q = record {
   goes = GoesOn-along b now next f.goes q.goes;
   known = q.known ∙ f.known;
   own = q.own ∙ f.own;
+  puts = q.puts ∙ f.puts;
   noted = λ h bears. f.noted h (bears_fetched h now next None q bears);
   from = draws_none b.box f.given b now next f.goes.session f.from q.from;
 }

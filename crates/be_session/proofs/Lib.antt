@@ -17,5 +17,6 @@ pub mod LineTurns
 pub mod Leaving
 pub mod LiveLies
 pub mod Serving
+pub mod Tending
 pub mod BorneOut
 pub mod Ending

@@ -19,6 +19,7 @@ use Rattle.be_change.specs.Requests.{Refusal, Request, refused, subscribe, publi
 use Rattle.be_transcript.specs.Readings.{reading}
 use Rattle.be_transcript.specs.Replies.{reply_text}
 use Rattle.be_board.specs.State.{BoardState}
+use Rattle.be_board.proofs.Going.{NoneFalls-same}
 use Rattle.be_session.specs.declared.serve.SessionEnd.{SessionEnd}
 use Rattle.be_session.specs.declared.serve.SessionEnd.TheVariants as ends
 use Rattle.be_session.specs.declared.turns.Turn.{Turn}
@@ -35,8 +36,8 @@ use Rattle.be_session.specs.Steps.{Replies, WroteInPart, Answered}
 use Rattle.be_session.specs.Tied.{Tied}
 use Rattle.be_session.specs.Turns.{turn_after, short_end, TellsText, Tells, TurnState, IsReading, IsFirstLine, TookLine, TurnsAfter, Turned}
 use Rattle.be_session.proofs.Looking.{is_reading, refused_memory, tied_one}
-use Rattle.be_session.proofs.Quiet.{still, letters_by}
-use Rattle.be_session.proofs.Tying.{risen_none}
+use Rattle.be_session.proofs.Quiet.{still, letters_still, letters_by}
+use Rattle.be_session.proofs.Tying.{risen_none, puts_unread}
 
 told_along : (before after : Option (List ℕ)) (P Q : List ℕ → List ℕ → Type 0) → ((b a : List ℕ) → P b a → Q b a) → WhereTold before after P → WhereTold before after Q
 told_along None None P Q f t = tt
@@ -121,6 +122,7 @@ turns s r t b b' before after None (Err fault) is without q w =
         replies = record {
           steps = q.steps;
           tied = tied_in_part (r, t) b b' q.steps.goes.counts.empties q.tied;
+          puts = q.puts;
           letters = letters_in_part b.box s (r, t) (take c.0 (reply_text s t)) b b' without q.letters;
         };
         wrote = c.1;
@@ -138,6 +140,7 @@ turns s r t b b' before after (Some end) (Err fault) is without q w =
         replies = record {
           steps = q.steps;
           tied = tied_in_part (r, t) b b' q.steps.goes.counts.empties q.tied;
+          puts = q.puts;
           letters = letters_in_part b.box s (r, t) (take c.0 (reply_text s t)) b b' without q.letters;
         };
         wrote = c.1;
@@ -160,28 +163,31 @@ turned_short s r t b b' before after by turn is without q told = turned_text s r
 pub replies_refused : (s : Attributes) (r : Refusal) (b : BoardState) → Replies s (refused r, refusal r) b b
 replies_refused s r b = record {
   steps = still s (refused r, refusal r) b (λ h w. (refl, refl)) (λ h. refl) refl refl refl tt refl;
-  tied = tied_one (refused r, refusal r) b.counts b.counts (record { reads = omega arith; shuts = omega arith; splits = omega arith; fulls = omega arith; empties = omega arith })
+  tied = tied_one (refused r, refusal r) b.counts b.counts (NoneFalls-same b.counts)
       (λ e. absurd cc) (λ e. absurd cc) (λ e. absurd cc) (λ e. absurd cc);
-  letters = letters_by b.box (refused r, refusal r) b b refl refl (record { notes = refl; box = refl }) (λ h box. (tt, refl));
+  puts = puts_unread b.box (refused r, refusal r) b.counts b.counts refl refl;
+  letters = letters_by b.box (refused r, refusal r) b b refl refl (letters_still b) (λ h box. (tt, refl));
 }
 
 unread_event : (s : Attributes) (r : Request) (b : BoardState) → is_reading r ≡ true → Replies s (r, no_memory) b b
 unread_event s r b is =
     let f = refused_memory r is in
     record {
-      steps = still s (r, no_memory) b (f.answers s b.word.session) f.zero f.on refl refl (f.removal b.word.known) refl;
-      tied = tied_one (r, no_memory) b.counts b.counts (record { reads = omega arith; shuts = omega arith; splits = omega arith; fulls = omega arith; empties = omega arith })
+      steps = still s (r, no_memory) b (f.answers s b.word.session) f.zero f.on refl refl (f.removal b.word.session b.word.known) refl;
+      tied = tied_one (r, no_memory) b.counts b.counts (NoneFalls-same b.counts)
           (λ e. let x = sym f.read ∙ e in absurd cc) (λ e. absurd cc) (λ e. absurd cc) (λ e. let x = sym f.short ∙ e in absurd cc);
-      letters = letters_by b.box (r, no_memory) b b refl refl (record { notes = refl; box = refl }) f.boxed;
+      puts = puts_unread b.box (r, no_memory) b.counts b.counts f.read refl;
+      letters = letters_by b.box (r, no_memory) b b refl refl (letters_still b) f.boxed;
     }
 
 -- memory was wanting to read the line
 pub replies_unread : (s : Attributes) (r : Request) (b : BoardState) → TakesMemory r → Replies s (r, no_memory) b b
 replies_unread s (subscribe name conj) b takes = record {
   steps = still s (subscribe name conj, no_memory) b (λ h w. refl) (λ h. refl) refl refl refl tt refl;
-  tied = tied_one (subscribe name conj, no_memory) b.counts b.counts (record { reads = omega arith; shuts = omega arith; splits = omega arith; fulls = omega arith; empties = omega arith })
+  tied = tied_one (subscribe name conj, no_memory) b.counts b.counts (NoneFalls-same b.counts)
       (λ e. absurd cc) (λ e. absurd cc) (λ e. absurd cc) (λ e. absurd cc);
-  letters = letters_by b.box (subscribe name conj, no_memory) b b refl refl (record { notes = refl; box = refl }) (λ h box. (tt, refl));
+  puts = puts_unread b.box (subscribe name conj, no_memory) b.counts b.counts refl refl;
+  letters = letters_by b.box (subscribe name conj, no_memory) b b refl refl (letters_still b) (λ h box. (tt, refl));
 }
 replies_unread s (publish e) b takes = unread_event s (publish e) b refl
 replies_unread s (costing e) b takes = unread_event s (costing e) b refl

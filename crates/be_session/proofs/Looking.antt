@@ -21,8 +21,9 @@ use Rattle.be_session.specs.Given.{letters_of}
 use Rattle.be_session.specs.Reads.{short_of}
 use Rattle.be_session.specs.Short.{plain_reply}
 use Rattle.be_session.specs.Steps.{Steps, Replies}
-use Rattle.be_session.specs.Tied.{is_read, is_shut, is_split, is_short, full_letters, Tied, TiedFull}
+use Rattle.be_session.specs.Tied.{is_read, is_shut, is_split, is_short, full_letters, letters_put, Tied, TiedFull}
 use Rattle.be_session.proofs.Quiet.{quiet, quiet_alone, full_by, led_same, led_told, letters_by, told_same}
+use Rattle.be_session.proofs.Tying.{puts_one, puts_unread}
 
 one : (b : Bool) (test : Exchange → Bool) (p : Exchange) (x y : ℕ) → test p ≡ b → x ≤ y → (test p ≡ true → HasRisen x y) → HasRisenBy (length (filter test (p ∷ []))) x y
 one true test p x y is falls so = subst (λ (c : Bool). HasRisenBy (length (cond c (p ∷ []) [])) x y) (sym is) (so is)
@@ -40,7 +41,7 @@ tied_one p c c' falls reads shuts splits empties = record {
 
 -- a read was answered
 pub looks : (s : Attributes) (p : Exchange) (n : ℕ) (b b' : BoardState) → GoesOn b b' → b'.word.own ≡ b.word.own → b'.word.notes ≡ b.word.notes → (b.alone ≡ true → b'.word.known ≡ b.word.known)
-    → (is_some b.box ≡ true → is_some b'.box ≡ true) → n ≡ length b'.word.known → place_accepted p.1 ≡ [] → goes_on p ≡ true → comes_in_run true p.1 ≡ true → length_told p.1 ≡ Some n → RemovalMayWant b.word.known p
+    → (is_some b.box ≡ true → is_some b'.box ≡ true) → n ≡ length b'.word.known → place_accepted p.1 ≡ [] → goes_on p ≡ true → comes_in_run true p.1 ≡ true → length_told p.1 ≡ Some n → RemovalMayWant b.word.session b.word.known p
     → ((h : List Entry) (w : Walk) → IsReadAt h w n → take n h ≡ b'.word.known → Answers s b.word.session h p.0 p.1 w (having_seen n w))
     → ((h : List Entry) → take n h ≡ b'.word.known → TiedFull h (p ∷ []) b.counts b'.counts) → Steps s p b b'
 looks s p n b b' goes own noted alone told whole nothing on plain tells removal answers full =
@@ -67,19 +68,19 @@ pub record IsRefusal (r : Request) (t : Reply) : Type 0 where
   pub answers : (s : Attributes) (k : ℕ) (h : List Entry) (w : Walk) → Answers s k h r t w w
   pub zero : (h : List Entry) → full_letters h (r, t) ≡ 0
   pub on : goes_on (r, t) ≡ true
-  pub removal : (h : List Entry) → RemovalMayWant h (r, t)
+  pub removal : (k : ℕ) (h : List Entry) → RemovalMayWant k h (r, t)
   pub boxed : (h : List Entry) (box : List Note) → KeepsBox h ((r, t) ∷ []) box box
   pub read : is_read (r, t) ≡ false
   pub split : is_split (r, t) ≡ false
   pub short : is_short (r, t) ≡ false
 
 pub refused_memory : (r : Request) → is_reading r ≡ true → IsRefusal r no_memory
-refused_memory (publish e) is = record { answers = λ s k h w. refl; zero = λ h. refl; on = refl; removal = λ h. tt; boxed = λ h box. (tt, refl); read = refl; split = refl; short = refl }
-refused_memory (costing e) is = record { answers = λ s k h w. refl; zero = λ h. refl; on = refl; removal = λ h. tt; boxed = λ h box. (tt, refl); read = refl; split = refl; short = refl }
-refused_memory listing is = record { answers = λ s k h w. refl; zero = λ h. refl; on = refl; removal = λ h. tt; boxed = λ h box. (tt, refl); read = refl; split = refl; short = refl }
-refused_memory (sending e) is = record { answers = λ s k h w. refl; zero = λ h. refl; on = refl; removal = λ h. tt; boxed = λ h box. (tt, refl); read = refl; split = refl; short = refl }
-refused_memory dumping is = record { answers = λ s k h w. refl; zero = λ h. refl; on = refl; removal = λ h. tt; boxed = λ h box. (tt, refl); read = refl; split = refl; short = refl }
-refused_memory (tailing place max) is = record { answers = λ s k h w. refl; zero = λ h. refl; on = refl; removal = λ h. tt; boxed = λ h box. (tt, refl); read = refl; split = refl; short = refl }
+refused_memory (publish e) is = record { answers = λ s k h w. refl; zero = λ h. refl; on = refl; removal = λ k h. tt; boxed = λ h box. (tt, refl); read = refl; split = refl; short = refl }
+refused_memory (costing e) is = record { answers = λ s k h w. refl; zero = λ h. refl; on = refl; removal = λ k h. tt; boxed = λ h box. (tt, refl); read = refl; split = refl; short = refl }
+refused_memory listing is = record { answers = λ s k h w. refl; zero = λ h. refl; on = refl; removal = λ k h. tt; boxed = λ h box. (tt, refl); read = refl; split = refl; short = refl }
+refused_memory (sending e) is = record { answers = λ s k h w. refl; zero = λ h. refl; on = refl; removal = λ k h. tt; boxed = λ h box. (tt, refl); read = refl; split = refl; short = refl }
+refused_memory dumping is = record { answers = λ s k h w. refl; zero = λ h. refl; on = refl; removal = λ k h. tt; boxed = λ h box. (tt, refl); read = refl; split = refl; short = refl }
+refused_memory (tailing place max) is = record { answers = λ s k h w. refl; zero = λ h. refl; on = refl; removal = λ k h. tt; boxed = λ h box. (tt, refl); read = refl; split = refl; short = refl }
 refused_memory (refused x) is = absurd cc
 refused_memory (subscribe name conj) is = absurd cc
 refused_memory (unsubscribe name) is = absurd cc
@@ -87,12 +88,12 @@ refused_memory (fetching max) is = absurd cc
 refused_memory quit is = absurd cc
 
 pub refused_entry : (r : Request) → is_reading r ≡ true → IsRefusal r shut
-refused_entry (publish e) is = record { answers = λ s k h w. refl; zero = λ h. refl; on = refl; removal = λ h. tt; boxed = λ h box. (tt, refl); read = refl; split = refl; short = refl }
-refused_entry (costing e) is = record { answers = λ s k h w. refl; zero = λ h. refl; on = refl; removal = λ h. tt; boxed = λ h box. (tt, refl); read = refl; split = refl; short = refl }
-refused_entry listing is = record { answers = λ s k h w. refl; zero = λ h. refl; on = refl; removal = λ h. tt; boxed = λ h box. (tt, refl); read = refl; split = refl; short = refl }
-refused_entry (sending e) is = record { answers = λ s k h w. refl; zero = λ h. refl; on = refl; removal = λ h. tt; boxed = λ h box. (tt, refl); read = refl; split = refl; short = refl }
-refused_entry dumping is = record { answers = λ s k h w. refl; zero = λ h. refl; on = refl; removal = λ h. tt; boxed = λ h box. (tt, refl); read = refl; split = refl; short = refl }
-refused_entry (tailing place max) is = record { answers = λ s k h w. refl; zero = λ h. refl; on = refl; removal = λ h. tt; boxed = λ h box. (tt, refl); read = refl; split = refl; short = refl }
+refused_entry (publish e) is = record { answers = λ s k h w. refl; zero = λ h. refl; on = refl; removal = λ k h. tt; boxed = λ h box. (tt, refl); read = refl; split = refl; short = refl }
+refused_entry (costing e) is = record { answers = λ s k h w. refl; zero = λ h. refl; on = refl; removal = λ k h. tt; boxed = λ h box. (tt, refl); read = refl; split = refl; short = refl }
+refused_entry listing is = record { answers = λ s k h w. refl; zero = λ h. refl; on = refl; removal = λ k h. tt; boxed = λ h box. (tt, refl); read = refl; split = refl; short = refl }
+refused_entry (sending e) is = record { answers = λ s k h w. refl; zero = λ h. refl; on = refl; removal = λ k h. tt; boxed = λ h box. (tt, refl); read = refl; split = refl; short = refl }
+refused_entry dumping is = record { answers = λ s k h w. refl; zero = λ h. refl; on = refl; removal = λ k h. tt; boxed = λ h box. (tt, refl); read = refl; split = refl; short = refl }
+refused_entry (tailing place max) is = record { answers = λ s k h w. refl; zero = λ h. refl; on = refl; removal = λ k h. tt; boxed = λ h box. (tt, refl); read = refl; split = refl; short = refl }
 refused_entry (refused x) is = absurd cc
 refused_entry (subscribe name conj) is = absurd cc
 refused_entry (unsubscribe name) is = absurd cc
@@ -107,9 +108,10 @@ refuses_read s r t b b' f nothing without goes letters same shuts plain tells =
     record {
       steps = quiet s (r, t) b b' goes own since nothing
           (λ h w bears st going. led_same s h w (r, t) b b' (f.answers s b.word.session h w) goes own st going f.on (f.zero h))
-          (λ alone told. quiet_alone (r, t) b b' (told_same b b' letters.box told) (plain alone) (subst (IsTold (length b'.word.known)) (sym tells) tt) (f.removal b.word.known) nothing
+          (λ alone told. quiet_alone (r, t) b b' (told_same b b' letters.box told) (plain alone) (subst (IsTold (length b'.word.known)) (sym tells) tt) (f.removal b.word.session b.word.known) nothing
           goes.session (ap (λ (w : Word). w.known) same) own letters.notes);
       tied = tied_one (r, t) b.counts b'.counts goes.counts (λ e. let x = sym f.read ∙ e in absurd cc) shuts (λ e. let x = sym f.split ∙ e in absurd cc) (λ e. let x = sym f.short ∙ e in absurd cc);
+      puts = puts_unread b.box (r, t) b.counts b'.counts f.read letters.puts;
       letters = letters_by b.box (r, t) b b' refl without letters f.boxed;
     }
 
@@ -127,17 +129,19 @@ wanted_memory s r b b' is l =
     record {
       steps = quiet s (r, no_memory) b b' l.goes l.own (subst (λ (n : List PlainLetter). BeginsWith n b.word.notes) (sym l.letters.notes) (BeginsWith-same b.word.notes)) refl
           (λ h w bears st going. led_same s h w (r, no_memory) b b' (f.answers s b.word.session h w) l.goes l.own st going f.on (f.zero h))
-          (λ alone told. quiet_alone (r, no_memory) b b' (told_same b b' l.letters.box told) refl tt (f.removal b.word.known) refl l.goes.session (l.alone alone) l.own l.letters.notes);
+          (λ alone told. quiet_alone (r, no_memory) b b' (told_same b b' l.letters.box told) refl tt (f.removal b.word.session b.word.known) refl l.goes.session (l.alone alone) l.own l.letters.notes);
       tied = tied_one (r, no_memory) b.counts b'.counts l.goes.counts (λ e. let x = sym f.read ∙ e in absurd cc) (λ e. absurd cc) (λ e. absurd cc) (λ e. let x = sym f.short ∙ e in absurd cc);
+      puts = puts_unread b.box (r, no_memory) b.counts b'.counts f.read l.letters.puts;
       letters = letters_by b.box (r, no_memory) b b' refl refl l.letters f.boxed;
     }
 
 -- a read was answered, and its reply tells what it found
 pub found : (s : Attributes) (p : Exchange) (n : ℕ) (b b' : BoardState) → Looks b b' → board.IsReadAt b b' n → place_accepted p.1 ≡ [] → goes_on p ≡ true → comes_in_run true p.1 ≡ true → length_told p.1 ≡ Some n
-    → RemovalMayWant b.word.known p → is_shut p ≡ false → is_split p ≡ false → is_short p ≡ false → letters_of p.1 ≡ [] → ((h : List Entry) → full_letters h p ≡ 0) → ((h : List Entry) (box : List Note) → KeepsBox h (p ∷ []) box box)
+    → RemovalMayWant b.word.session b.word.known p → is_shut p ≡ false → is_split p ≡ false → is_short p ≡ false → letters_of p.1 ≡ [] → letters_put p ≡ 0 → ((h : List Entry) → full_letters h p ≡ 0) → ((h : List Entry) (box : List Note) → KeepsBox h (p ∷ []) box box)
     → ((h : List Entry) (w : Walk) → IsReadAt h w n → take n h ≡ b'.word.known → Answers s b.word.session h p.0 p.1 w (having_seen n w)) → Replies s p b b'
-found s p n b b' l at nothing on plain tells removal shuts splits shorts without zero boxed answers = record {
+found s p n b b' l at nothing on plain tells removal shuts splits shorts without unsent zero boxed answers = record {
   steps = looks s p n b b' l.goes l.own l.letters.notes l.alone (told_same b b' l.letters.box) at.length nothing on plain tells removal answers (λ h front. full_by h p b b' (zero h) l.goes.counts);
   tied = tied_one p b.counts b'.counts l.goes.counts (λ e. at.counted) (λ e. let x = sym shuts ∙ e in absurd cc) (λ e. let x = sym splits ∙ e in absurd cc) (λ e. let x = sym shorts ∙ e in absurd cc);
+  puts = puts_one b.box p b.counts b'.counts unsent l.letters.puts;
   letters = letters_by b.box p b b' refl without l.letters boxed;
 }

@@ -75,7 +75,7 @@ quiet s p b b' goes own noted nothing borne alone = record {
 }
 
 -- where nobody else changes the list it is as before
-pub quiet_alone : (p : Exchange) (b b' : BoardState) → is_some b'.box ≡ true → comes_in_run true p.1 ≡ true → IsTold (length b'.word.known) (length_told p.1) → RemovalMayWant b.word.known p → place_accepted p.1 ≡ []
+pub quiet_alone : (p : Exchange) (b b' : BoardState) → is_some b'.box ≡ true → comes_in_run true p.1 ≡ true → IsTold (length b'.word.known) (length_told p.1) → RemovalMayWant b.word.session b.word.known p → place_accepted p.1 ≡ []
     → b'.word.session ≡ b.word.session → b'.word.known ≡ b.word.known → b'.word.own ≡ b.word.own → b'.word.notes ≡ b.word.notes → StepsAlone p b b'
 quiet_alone p b b' told plain tells removal nothing session known own noted =
     let made_none : change_made b.word.session (length (own_in b.word)) (length b.word.known) p ≡ [] = no_change b.word.session (length (own_in b.word)) (length b.word.known) p nothing in
@@ -96,6 +96,10 @@ told_same b b' same told = ap (λ (o : Option (List Note)). is_some o) same ∙ 
 -- no letter of a SEND is counted
 pub full_by : (h : List Entry) (p : Exchange) (b b' : BoardState) → full_letters h p ≡ 0 → NoneFalls b.counts b'.counts → TiedFull h (p ∷ []) b.counts b'.counts
 full_by h p b b' zero falls = omega (arith, zero, falls.fulls)
+
+-- a board that was asked nothing moves no letters
+pub letters_still : (b : BoardState) → LeavesLetters b b
+letters_still b = record { notes = refl; box = refl; puts = refl; fulls = refl }
 
 -- the exchange moves no letters
 pub letters_by : (o : Option (List Note)) (p : Exchange) (b b' : BoardState) → b.box ≡ o → letters_of p.1 ≡ [] → LeavesLetters b b'
@@ -129,7 +133,7 @@ led_told s h w p n b b' whole answers goes own stands going on full =
 
 -- a board that was asked nothing
 pub still : (s : Attributes) (p : Exchange) (b : BoardState) → ((h : List Entry) (w : Walk) → Answers s b.word.session h p.0 p.1 w w) → ((h : List Entry) → full_letters h p ≡ 0)
-    → goes_on p ≡ true → comes_in_run true p.1 ≡ true → length_told p.1 ≡ None → RemovalMayWant b.word.known p → place_accepted p.1 ≡ [] → Steps s p b b
+    → goes_on p ≡ true → comes_in_run true p.1 ≡ true → length_told p.1 ≡ None → RemovalMayWant b.word.session b.word.known p → place_accepted p.1 ≡ [] → Steps s p b b
 still s p b answers zero on plain silent removal nothing =
     quiet s p b b (GoesOn-same b) refl (BeginsWith-same b.word.notes) nothing
     (λ h w bears stands going. led_same s h w p b b (answers h w) (GoesOn-same b) refl stands going on (zero h))

@@ -1,5 +1,5 @@
 -- Letters that a board put, and the reply to SEND.
-use Rattle.std.proofs.Common.{◌≡◌, ℕ, ◌+◌, true, List, [], ◌∷◌, length, take, filter, Option, Some, None, is_some, refl, sym, ap, ◌∙◌, arith}
+use Rattle.std.proofs.Common.{◌≡◌, ℕ, ◌+◌, true, List, [], ◌∷◌, length, take, filter, Option, Some, None, is_some, refl, sym, ap, ◌∙◌, subst, arith}
 use Rattle.std.proofs.lemmas.List.{append-nil}
 use Rattle.be_base.proofs.Beginnings.{BeginsWith-take}
 use Rattle.be_model.specs.Matching.{Assignments}
@@ -9,7 +9,7 @@ use Rattle.be_change.specs.History.{Entry, ByIds, is_of, hit_rows, hits}
 use Rattle.be_change.specs.Requests.{sending, sent, Note, Exchange}
 use Rattle.be_board.specs.declared.answers.Sent.{Sent}
 use Rattle.be_board.specs.Letters.{Sends, Posts}
-use Rattle.be_board.specs.State.{BoardState, WhereBox}
+use Rattle.be_board.specs.State.{BoardState, CountsPuts, WhereBox}
 use Rattle.be_session.specs.Bearing.{Bears}
 use Rattle.be_session.specs.Given.{GivesLetters}
 use Rattle.be_session.specs.Steps.{Replies}
@@ -52,5 +52,6 @@ sends s e t b b' q p =
           let nobody : length (filter (is_of 0) (hit_rows (take t.n h) e)) ≡ length (filter (is_of 0) (hit_rows b'.word.known e)) = ap (λ (l : List Entry). length (filter (is_of 0) (hit_rows l e))) front in
           omega (arith, nobody, p.drops.1, p.drops.2));
       tied = tied_one x b.counts b'.counts q.goes.counts (λ is. p.read.counted) (λ is. absurd cc) (λ is. absurd cc) (λ is. absurd cc);
+      puts = subst (λ (put : ℕ). CountsPuts b.box put b.counts b'.counts) (omega arith) p.puts;
       letters = letters_sent b.box b'.box e t b b' refl refl q p.read.length p.box;
     }

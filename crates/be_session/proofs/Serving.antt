@@ -25,11 +25,11 @@ use Rattle.be_session.specs.Ends.{is_on, goes_on}
 use Rattle.be_session.specs.Given.{GivesLetters}
 use Rattle.be_session.specs.Served.{TakesWithin}
 use Rattle.be_session.specs.Steps.{Steps, Replies, RepliedTo}
-use Rattle.be_session.specs.Tied.{Tied}
+use Rattle.be_session.specs.Tied.{Tied, TiedPuts}
 use Rattle.be_session.specs.Turns.{TurnState, IsReading, TakesAlike, IsFirstLine, TookLine, EndsAt, AnswersLine, new_reader, LinesGoOn, BoardServes, IsServing}
 use Rattle.be_session.proofs.BoardWalks.{serves_first, serves_step, bears_step}
 use Rattle.be_session.proofs.GivingOn.{letters_none, letters_on}
-use Rattle.be_session.proofs.Tying.{tied_none, tied_on}
+use Rattle.be_session.proofs.Tying.{tied_none, tied_on, puts_none, puts_on}
 
 -- one more line
 lines_on : (start unread b bytes unread' a : List ℕ) (ended : Bool) (done : List TextLine) → LinesGoOn false start unread b done
@@ -102,6 +102,9 @@ on_push ps p all last = list_all-append goes_on ps (p ∷ []) ∙ rw (all, last)
 pub tied_with : (s : Attributes) (link : LinkState) (b : BoardState) (before : TurnState) (next : BoardState) (g : IsServing s link b before) (p : Exchange) → Replies s p before.board next → Tied (g.ps ++ p ∷ []) (g.ps ++ p ∷ []) b.counts next.counts
 tied_with s link b before next g p q = tied_on g.ps (p ∷ []) g.ps (p ∷ []) b.counts before.board.counts next.counts g.tied q.tied
 
+pub puts_with : (s : Attributes) (link : LinkState) (b : BoardState) (before : TurnState) (next : BoardState) (g : IsServing s link b before) (p : Exchange) → TiedPuts (p ∷ []) before.board next → TiedPuts (g.ps ++ p ∷ []) b next
+puts_with s link b before next g p one = puts_on b.box g.ps (p ∷ []) b before.board next g.letters g.puts one
+
 pub letters_with : (s : Attributes) (link : LinkState) (b : BoardState) (before : TurnState) (next : BoardState) (g : IsServing s link b before) (p : Exchange) → Replies s p before.board next → GivesLetters b.box (g.ps ++ p ∷ []) b next
 letters_with s link b before next g p q =
     letters_on b.box g.ps (p ∷ []) b before.board next g.board.goes.session (λ h bears. bears_step s h p before.board next q.steps bears) g.letters q.letters
@@ -128,6 +131,7 @@ serves_on s link b before after g l t =
       somebody = g.somebody;
       board = subst (λ (o : Bool). BoardServes s o (g.ps ++ p ∷ []) b after.board) on one.board;
       tied = tied_with s link b before after.board g p w.replies;
+      puts = puts_with s link b before after.board g p w.replies.puts;
       letters = letters_with s link b before after.board g p w.replies;
       asked = one.asked;
       on = on_push g.ps p g.on on;
@@ -209,6 +213,7 @@ serving_first s link b r new first somebody = record {
   somebody = somebody;
   board = serves_first s b first;
   tied = tied_none b.counts;
+  puts = puts_none b.box b.counts;
   letters = letters_none b.box b refl;
   asked = refl;
   on = refl;

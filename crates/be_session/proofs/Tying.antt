@@ -1,13 +1,14 @@
 -- Replies and the counts of a board, from exchange to exchange.
-use Rattle.std.proofs.Common.{◌≡◌, ℕ, ◌+◌, ◌≤◌, Bool, List, [], ◌++◌, length, filter, sym, ap, ◌∙◌, subst, arith, length-append}
+use Rattle.std.proofs.Common.{◌≡◌, ℕ, ◌+◌, ◌≤◌, Bool, false, List, [], ◌∷◌, ◌++◌, length, filter, Option, Some, None, refl, sym, ap, ◌∙◌, subst, arith, length-append}
 use Rattle.std.specs.List.{sum_by}
 use Rattle.std.proofs.lemmas.List.Elements.{filter-append}
 use Rattle.std.proofs.lemmas.List.Sums.{sum_by-append}
 use Rattle.be_base.specs.Counts.{HasRisenBy}
 use Rattle.be_change.specs.History.{Entry}
-use Rattle.be_change.specs.Requests.{Exchange}
-use Rattle.be_board.specs.State.{BoardCounts, NoneFalls}
-use Rattle.be_session.specs.Tied.{is_read, is_shut, is_split, is_short, full_letters, Tied, TiedFull}
+use Rattle.be_change.specs.Requests.{sent, Note, Exchange}
+use Rattle.be_board.specs.State.{BoardCounts, BoardState, NoneFalls, CountsPuts}
+use Rattle.be_session.specs.Given.{GivesLetters}
+use Rattle.be_session.specs.Tied.{is_read, is_shut, is_split, is_short, full_letters, letters_put, Tied, TiedFull}
 
 risen_along : (a b x y z : ℕ) → HasRisenBy a x y → HasRisenBy b y z → HasRisenBy (a + b) x z
 risen_along a b x y z r t = omega (arith, r, t)
@@ -54,3 +55,31 @@ full_on h ps qs a b c t u =
 
 pub full_then : (h : List Entry) (ps : List Exchange) (a b c : BoardCounts) → TiedFull h ps a b → NoneFalls b c → TiedFull h ps a c
 full_then h ps a b c t n = risen_then (sum_by (full_letters h) ps) a.fulls b.fulls c.fulls t n.fulls
+
+pub puts_none : (o : Option (List Note)) (c : BoardCounts) → CountsPuts o (sum_by letters_put []) c c
+puts_none None c = omega arith
+puts_none (Some box) c = refl
+
+-- one exchange that put no letter
+pub puts_one : (o : Option (List Note)) (p : Exchange) (c c' : BoardCounts) → letters_put p ≡ 0 → c'.puts ≡ c.puts → CountsPuts o (sum_by letters_put (p ∷ [])) c c'
+puts_one None p c c' zero same = omega (arith, zero, same)
+puts_one (Some box) p c c' zero same = same
+
+-- only what tells of a read puts letters
+pub puts_unread : (o : Option (List Note)) (p : Exchange) (c c' : BoardCounts) → is_read p ≡ false → c'.puts ≡ c.puts → CountsPuts o (sum_by letters_put (p ∷ [])) c c'
+puts_unread o p c c' unread same = puts_one o p c c' (none p unread) same
+  where
+    none : (q : Exchange) → is_read q ≡ false → letters_put q ≡ 0
+    none (r, sent n put dropped) e = absurd cc
+    none (r, _) e = refl
+
+pub puts_on : (o : Option (List Note)) (ps qs : List Exchange) (b c d : BoardState) → GivesLetters o ps b c → CountsPuts o (sum_by letters_put ps) b.counts c.counts → CountsPuts c.box (sum_by letters_put qs) c.counts d.counts
+    → CountsPuts o (sum_by letters_put (ps ++ qs)) b.counts d.counts
+puts_on None ps qs b c d g t u =
+    let later = subst (λ (o : Option (List Note)). CountsPuts o (sum_by letters_put qs) c.counts d.counts) g.0 u in
+    omega (arith, t, later, sum_by-append letters_put ps qs)
+puts_on (Some box) ps qs b c d g t u = subst (λ (o : Option (List Note)). CountsPuts o (sum_by letters_put qs) c.counts d.counts) g.2 u ∙ t
+
+pub puts_then : (o : Option (List Note)) (n : ℕ) (a b c : BoardCounts) → CountsPuts o n a b → c.puts ≡ b.puts → CountsPuts o n a c
+puts_then None n a b c t same = same ∙ t
+puts_then (Some box) n a b c t same = same ∙ t

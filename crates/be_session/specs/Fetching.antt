@@ -36,5 +36,6 @@ pub record FetchesSo (s : Attributes) (max count : ℕ) (b now : BoardState) (be
   pub goes : GoesOn b now
   pub known : now.word.known ≡ b.word.known
   pub own : now.word.own ≡ b.word.own
+  pub puts : now.counts.puts ≡ b.counts.puts
   pub noted : (h : List Entry) → Bears h now.word → All (IsNoteFor b.word.session h) given
   pub from : Draws b.box given b now

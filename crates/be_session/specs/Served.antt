@@ -27,7 +27,7 @@ use Rattle.be_session.specs.Ends.{end_after, is_on, EndsBy}
 use Rattle.be_session.specs.Given.{GivesLetters, GivesInPart}
 use Rattle.be_session.specs.Bearing.{AddsOwn}
 use Rattle.be_session.specs.Steps.{RefusedOnce}
-use Rattle.be_session.specs.Tied.{Tied, TiedFull}
+use Rattle.be_session.specs.Tied.{Tied, TiedFull, TiedPuts}
 
 -- every list that keeps the word at return bears the exchanges out, as those of a session that was told of any of the
 -- changes known at entry
@@ -66,6 +66,7 @@ pub record Replied (s : Attributes) (lines : List TextLine) (end : Option Sessio
   pub ends : EndsBy end exchanges
   pub borne : AreBorneOut s lines exchanges b b'
   pub tied : Tied exchanges exchanges b.counts b'.counts
+  pub puts : TiedPuts exchanges b b'
   pub letters : GivesLetters b.box exchanges b b'
   pub alone : BeginsAlone b → RanOver s (is_on end) lines exchanges b b'
 
@@ -80,6 +81,7 @@ pub record RepliedInPart (s : Attributes) (lines : List TextLine) (before after 
   pub ends : EndsBy None exchanges
   pub borne : AreBorneOut s lines (exchanges ++ last ∷ []) b b'
   pub tied : Tied (exchanges ++ last ∷ []) exchanges b.counts b'.counts
+  pub puts : TiedPuts (exchanges ++ last ∷ []) b b'
   pub letters : GivesInPart b.box s exchanges last out b b'
   pub alone : BeginsAlone b → RanOver s (is_on (end_after last.0 last.1)) lines (exchanges ++ last ∷ []) b b'
 

@@ -18,7 +18,7 @@ use Rattle.be_board.specs.Word.{own_in, Keeps}
 use Rattle.be_session.specs.Bearing.{Bears, Stands, AddsOwn}
 use Rattle.be_session.specs.Ends.{goes_on}
 use Rattle.be_session.specs.Given.{GivesLetters, GivesInPart}
-use Rattle.be_session.specs.Tied.{Tied, TiedFull}
+use Rattle.be_session.specs.Tied.{Tied, TiedFull, TiedPuts}
 
 abbrev pub places_in : List (ℕ × Entry) → List ℕ
 places_in own = map (λ (p : ℕ × Entry). p.0) own
@@ -39,7 +39,7 @@ pub record StepsAlone (p : Exchange) (b b' : BoardState) : Type 0 where
   pub told : is_some b'.box ≡ true
   pub plain : comes_in_run true p.1 ≡ true
   pub tells : IsTold (length b'.word.known) (length_told p.1)
-  pub removal : RemovalMayWant b.word.known p
+  pub removal : RemovalMayWant b.word.session b.word.known p
   pub grows : b'.word.known ≡ b.word.known ++ change_made b.word.session (length (own_in b.word)) (length b.word.known) p
   pub counted : length (own_in b'.word) ≡ length (own_in b.word) + length (change_made b.word.session (length (own_in b.word)) (length b.word.known) p)
   pub keeps : Keeps b.word.known b.word → Keeps b'.word.known b'.word
@@ -58,12 +58,14 @@ pub record Steps (s : Attributes) (p : Exchange) (b b' : BoardState) : Type 0 wh
 pub record Replies (s : Attributes) (p : Exchange) (b b' : BoardState) : Type 0 where
   pub steps : Steps s p b b'
   pub tied : Tied (p ∷ []) (p ∷ []) b.counts b'.counts
+  pub puts : TiedPuts (p ∷ []) b b'
   pub letters : GivesLetters b.box (p ∷ []) b b'
 
 -- only this part of the reply was written
 pub record RepliesInPart (s : Attributes) (p : Exchange) (out : List ℕ) (b b' : BoardState) : Type 0 where
   pub steps : Steps s p b b'
   pub tied : Tied (p ∷ []) [] b.counts b'.counts
+  pub puts : TiedPuts (p ∷ []) b b'
   pub letters : GivesInPart b.box s [] p out b b'
 
 -- the sink refused a call, and counted it

@@ -4,7 +4,7 @@ use Rattle.std.specs.List.{sum_by}
 use Rattle.be_base.specs.Counts.{HasRisenBy}
 use Rattle.be_change.specs.History.{Entry, is_of, hit_rows}
 use Rattle.be_change.specs.Requests.{fetching, sending, hit, cost, listed, sent, notes, dumped, tailed, split, shut, Exchange}
-use Rattle.be_board.specs.State.{BoardCounts}
+use Rattle.be_board.specs.State.{BoardCounts, BoardState, CountsPuts}
 
 -- the reply tells what a read found
 abbrev pub is_read : Exchange → Bool
@@ -36,6 +36,11 @@ abbrev pub full_letters : List Entry → Exchange → ℕ
 full_letters h (sending e, sent n put dropped) = dropped - length (filter (is_of 0) (hit_rows (take n h) e))
 full_letters h (r, _) = 0
 
+-- how many letters a reply says were put
+abbrev pub letters_put : Exchange → ℕ
+letters_put (r, sent n put dropped) = put
+letters_put (r, _) = 0
+
 -- of these replies, and of those that were written whole, no more tell of a read, an entry that was refused, two numbers
 -- that differ, or an empty mailbox, than the board counted
 pub record Tied (ps whole : List Exchange) (before after : BoardCounts) : Type 0 where
@@ -47,3 +52,8 @@ pub record Tied (ps whole : List Exchange) (before after : BoardCounts) : Type 0
 -- over this list no more letters found their mailbox full than the board counted
 abbrev pub TiedFull : List Entry → List Exchange → BoardCounts → BoardCounts → Type 0
 TiedFull h ps before after = HasRisenBy (sum_by (full_letters h) ps) before.fulls after.fulls
+
+-- the letters that these replies say were put are together those that the board counted in shared mailboxes, where it doesn't
+-- tell its box
+abbrev pub TiedPuts : List Exchange → BoardState → BoardState → Type 0
+TiedPuts ps b b' = CountsPuts b.box (sum_by letters_put ps) b.counts b'.counts

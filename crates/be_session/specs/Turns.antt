@@ -33,7 +33,7 @@ use Rattle.be_session.specs.Ends.{end_after, is_on, goes_on, end_of}
 use Rattle.be_session.specs.Given.{GivesLetters}
 use Rattle.be_session.specs.Served.{BeginsAlone}
 use Rattle.be_session.specs.Steps.{places_in, RepliedTo, RepliedInPartTo}
-use Rattle.be_session.specs.Tied.{Tied, TiedFull}
+use Rattle.be_session.specs.Tied.{Tied, TiedFull, TiedPuts}
 
 -- how a session goes on after a reply that ended it so, or didn't
 abbrev pub turn_whole : Option SessionEnd → Turn
@@ -180,6 +180,7 @@ pub record IsServing (s : Attributes) (link : LinkState) (b : BoardState) (now :
   pub somebody : b.word.session ≢ 0
   pub board : BoardServes s true ps b now.board
   pub tied : Tied ps ps b.counts now.board.counts
+  pub puts : TiedPuts ps b now.board
   pub letters : GivesLetters b.box ps b now.board
   pub asked : requests ps ≡ map (reading s) done
   pub on : list_all goes_on ps ≡ true

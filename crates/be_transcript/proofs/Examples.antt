@@ -251,6 +251,10 @@ wanted = (tt, (refl, tt))
 wanted_for_nothing : RemovalsMayWant [] 1 [] ((subscribe (codes "a") [], ok 1) ∷ (unsubscribe (codes "b"), no_memory) ∷ []) → ⊥
 wanted_for_nothing wants = absurd cc
 
+-- and one of a row that isn't the session's
+wanted_of_another : RemovalsMayWant (subscribed 0 0 (row_made 0 0 (codes "a") []) ∷ []) 1 [] ((unsubscribe (codes "a"), no_memory) ∷ []) → ⊥
+wanted_of_another wants = absurd cc
+
 -- a text that is cut within its last reply, and one that isn't cut
 cut_within : IsCutText example ((quit, ok 1) ∷ []) (listing, listed 1 (codes "a" ∷ [])) (codes "OK 1\nLIST 1 ")
 unfolding digits

@@ -3,7 +3,7 @@ use Rattle.std.specs.Prelude.{◌≡◌, ℕ, ◌+◌, Bool, true, false, not, L
 use Rattle.std.specs.List.{list_all}
 use Rattle.be_io.specs.Lines.{TextLine}
 use Rattle.be_model.specs.Schemas.{Attributes}
-use Rattle.be_change.specs.History.{Entry, IsWellFormed, live, is_live_name}
+use Rattle.be_change.specs.History.{Entry, IsWellFormed, live, is_live_name_of}
 use Rattle.be_change.specs.Requests.{Request, unsubscribe, quit, Reply, ok, held, bye, dup, none, other, hit, cost, listed, sent, dumped, tailed, split, no_memory, shut, Note, Exchange}
 use Rattle.be_change.specs.Box.{KeepsBox}
 use Rattle.be_change.specs.Walk.{accepted}
@@ -48,16 +48,16 @@ abbrev pub TellsCounts : ℕ → List Exchange → Type 0
 TellsCounts n [] = Unit {0}
 TellsCounts n (p ∷ ps) = IsTold (n + length (accepted (p ∷ []))) (length_told p.1) × TellsCounts (n + length (accepted (p ∷ []))) ps
 
--- memory may be wanting to a removal only where the name is live
-abbrev pub RemovalMayWant : List Entry → Exchange → Type 0
-RemovalMayWant h (unsubscribe name, no_memory) = is_live_name name (live h) ≡ true
-RemovalMayWant h _ = Unit {0}
+-- memory may be wanting to a removal only where session k has a live row of the name
+abbrev pub RemovalMayWant : (k : ℕ) → List Entry → Exchange → Type 0
+RemovalMayWant k h (unsubscribe name, no_memory) = is_live_name_of k name (live h) ≡ true
+RemovalMayWant k h _ = Unit {0}
 
 -- the same of each exchange, over the list that those before it made
 abbrev pub RemovalsMayWant : (opening : List Entry) (k : ℕ) (before : List Exchange) → List Exchange → Type 0
 RemovalsMayWant opening k before [] = Unit {0}
 RemovalsMayWant opening k before (p ∷ ps) =
-    RemovalMayWant (made opening k before) p × RemovalsMayWant opening k (before ++ p ∷ []) ps
+    RemovalMayWant k (made opening k before) p × RemovalsMayWant opening k (before ++ p ∷ []) ps
 
 -- what is more known of replies where session k is alone behind an opening
 pub record AreAlone (opening : List Entry) (k : ℕ) (ps : List Exchange) : Type 0 where

@@ -1,10 +1,11 @@
 -- From the first line to the end.
-use Rattle.std.proofs.Common.{◌≡◌, refl, sym, ap, ◌∙◌, subst, arith, length}
+use Rattle.std.proofs.Common.{◌≡◌, refl, ap, ◌∙◌, arith, length}
 use Rattle.be_io.specs.Outside.{LinkState, link_state}
 use Rattle.be_io.specs.Reader.{ReaderState}
 use Rattle.be_board.specs.State.{BoardState}
-use Rattle.be_session.specs.Turns.{TurnState, IsServing}
+use Rattle.be_session.specs.Turns.{TurnState}
 use Rattle.be_session.proofs.Serving.{serving_first, serves_on, taken_within}
+use Rattle.be_session.proofs.Tending.{serving_tended}
 use Rattle.be_session.proofs.Ending.{ended_over, ended_after, kept_along, board_over, board_after}
 use Rattle.be_session.proofs.serve.serve_link.Goals as goal
 
@@ -26,12 +27,12 @@ lines-preserved-then-lines-eq0 g c =
     let b : BoardState = g.B.Board.state c.args.board.now in
     let before : TurnState = record { reader = c.lines.reader; link = link_state g.L.Source g.L.Sink c.lines.link; board = g.B.Board.state c.lines.board } in
     let after : TurnState = record { reader = c.take_turn.new.reader; link = link_state g.L.Source g.L.Sink c.take_turn.new.link; board = g.B.Board.state c.take_turn.new.board } in
-    let tended : g.B.Board.state c.tend.new.self ≡ g.B.Board.state c.take_turn.new.board = c.tend.ensures in
+    let serving = serving_tended c.args.schema.now start b after (g.B.Board.state c.tend.new.self) c.tend.ensures
+    (serves_on c.args.schema.now start b before after c.lines.invariant.serving c.in-Next.ensures.turned c.in-Next.ensures.alike) in
     record {
-      serving = subst (λ (x : BoardState). IsServing c.args.schema.now start b (record { reader = c.take_turn.new.reader; link = after.link; board = x })) (sym tended)
-          (serves_on c.args.schema.now start b before after c.lines.invariant.serving c.in-Next.ensures.turned c.in-Next.ensures.alike);
+      serving = serving;
       bound = c.take_turn.ensures.bound;
-      schema = ap (λ (x : BoardState). x.schema) tended ∙ ((serves_on c.args.schema.now start b before after c.lines.invariant.serving c.in-Next.ensures.turned c.in-Next.ensures.alike).board.goes.schema ∙ c.requires.schema);
+      schema = serving.board.goes.schema ∙ c.requires.schema;
       counted = omega (arith, c.lines.invariant.counted, c.in-Next.ensures.progress refl);
       beside = kept_along (g.L.Source.kept_by_read c.args.link.now) (g.L.Source.kept_by_read c.lines.link) (g.L.Source.kept_by_read c.take_turn.new.link) c.lines.invariant.beside c.take_turn.ensures.beside;
     }

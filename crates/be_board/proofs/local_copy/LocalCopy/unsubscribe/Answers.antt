@@ -3,7 +3,7 @@ use Rattle.be_model.specs.ByIds.{SayIds}
 use Rattle.be_change.specs.History.{live, is_live_name, IsWellFormed}
 use Rattle.be_change.proofs.Grows.{rising_live}
 use Rattle.be_change.proofs.Names.{live_say}
-use Rattle.be_board.proofs.LocalWords.{row_named, answered_unsub, answered_none, answered_other, answered_no_unsub, first_stands, first_owned, owned_live}
+use Rattle.be_board.proofs.LocalWords.{row_named, answered_unsub, answered_none, answered_other, answered_no_unsub, first_stands, first_owned}
 use Rattle.be_board.proofs.local_copy.LocalCopy.unsubscribe.Goals as goal
 
 pub returns-in_default-clause-answered : goal.returns-in_default-clause-answered
@@ -39,4 +39,4 @@ returns-in-Err-clause-answered g c =
     let row = c.deref.result.now in
     let first : row_named c.args.name.now (live h) ≡ Some row = search rules in
     let own : row.session.0 ≡ 1 = search rules in
-    answered_no_unsub h c.remove.new.self.list c.args.name.now c.in-Err.ensures.refused (owned_live 1 c.args.name.now (live h) (first_owned 1 c.args.name.now (live h) row own first))
+    answered_no_unsub h c.remove.new.self.list c.args.name.now c.in-Err.ensures.refused (first_owned 1 c.args.name.now (live h) row own first)

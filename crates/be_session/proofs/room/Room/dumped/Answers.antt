@@ -45,7 +45,7 @@ returns-clause-told g c =
     let b' : BoardState = g.B.Board.state c.all.new.self in
     let text : rows_in c.rows.result.now ≡ live_rows b'.word.known = c.rows.ensures ∙ c.in_ok-n.ensures.found in (
       asked.dumped c.in_ok-n.n (live_rows b'.word.known),
-      found b.schema (asked.dumping, asked.dumped c.in_ok-n.n (live_rows b'.word.known)) c.in_ok-n.n b b' c.all.ensures.looks c.in_ok-n.ensures.read refl refl refl refl tt refl refl refl refl (λ h. refl) (λ h box. (tt, refl))
+      found b.schema (asked.dumping, asked.dumped c.in_ok-n.n (live_rows b'.word.known)) c.in_ok-n.n b b' c.all.ensures.looks c.in_ok-n.ensures.read refl refl refl refl tt refl refl refl refl refl (λ h. refl) (λ h box. (tt, refl))
           (λ h w at front. (at, ap live_rows (sym front), refl)),
       c.in_ok-write_rows.ensures ∙ (ap (λ rows. reply_text c.args.schema.now (asked.dumped c.in_ok-n.n rows)) text ∙ ap (λ (s : Attributes). reply_text s (asked.dumped c.in_ok-n.n (live_rows b'.word.known))) (sym c.requires.schema)),
       refl,

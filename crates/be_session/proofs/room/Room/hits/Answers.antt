@@ -39,7 +39,7 @@ returns-clause-told g c =
     let names = names_in-rows_of (hit_rows b'.word.known c.args.event.now) in
     let text : rows_in c.rows.result.now ≡ rows_of (hit_rows b'.word.known c.args.event.now) = c.rows.ensures ∙ c.in_ok-n.ensures.found in (
       asked.hit c.in_ok-n.n (hits b'.word.known c.args.event.now),
-      found b.schema (asked.publish c.args.event.now, asked.hit c.in_ok-n.n (hits b'.word.known c.args.event.now)) c.in_ok-n.n b b' c.find.ensures.looks c.in_ok-n.ensures.read refl refl refl refl tt refl refl refl refl (λ h. refl) (λ h box. (tt, refl))
+      found b.schema (asked.publish c.args.event.now, asked.hit c.in_ok-n.n (hits b'.word.known c.args.event.now)) c.in_ok-n.n b b' c.find.ensures.looks c.in_ok-n.ensures.read refl refl refl refl tt refl refl refl refl refl (λ h. refl) (λ h box. (tt, refl))
           (λ h w at front. (at, ap (λ (l : List Entry). hits l c.args.event.now) (sym front), refl)),
       c.in_ok-write_names.ensures b.schema ∙ ap (λ ns. reply_text b.schema (asked.hit c.in_ok-n.n ns)) (ap names_in text ∙ names),
       refl,

@@ -41,7 +41,7 @@ returns-clause-told g c =
     let names = names_in-rows_of (filter (is_of k) (live b'.word.known)) in
     let text : rows_in c.rows.result.now ≡ rows_of (filter (is_of k) (live b'.word.known)) = c.rows.ensures ∙ c.in_ok-n.ensures.found in (
       asked.listed c.in_ok-n.n (names_of_session k b'.word.known),
-      found b.schema (asked.listing, asked.listed c.in_ok-n.n (names_of_session k b'.word.known)) c.in_ok-n.n b b' c.mine.ensures.looks c.in_ok-n.ensures.read refl refl refl refl tt refl refl refl refl (λ h. refl) (λ h box. (tt, refl))
+      found b.schema (asked.listing, asked.listed c.in_ok-n.n (names_of_session k b'.word.known)) c.in_ok-n.n b b' c.mine.ensures.looks c.in_ok-n.ensures.read refl refl refl refl tt refl refl refl refl refl (λ h. refl) (λ h box. (tt, refl))
           (λ h w at front. (at, ap (λ (l : List Entry). names_of_session k l) (sym front), refl)),
       c.in_ok-write_names.ensures b.schema ∙ ap (λ ns. reply_text b.schema (asked.listed c.in_ok-n.n ns)) (ap names_in text ∙ names),
       refl,

@@ -44,7 +44,7 @@ returns-clause-told g c =
     let b' : BoardState = g.B.Board.state c.tail.new.self in
     let entries : List Entry = tail_from c.args.place c.args.max b'.word.known in (
       asked.tailed c.in_ok-n.n c.args.place entries,
-      found b.schema (asked.tailing c.args.place c.args.max, asked.tailed c.in_ok-n.n c.args.place entries) c.in_ok-n.n b b' c.tail.ensures.looks c.in_ok-n.ensures.read refl refl refl refl tt refl refl refl refl (λ h. refl) (λ h box. (tt, refl))
+      found b.schema (asked.tailing c.args.place c.args.max, asked.tailed c.in_ok-n.n c.args.place entries) c.in_ok-n.n b b' c.tail.ensures.looks c.in_ok-n.ensures.read refl refl refl refl tt refl refl refl refl refl (λ h. refl) (λ h box. (tt, refl))
           (λ h w at front. (at, refl, ap (tail_from c.args.place c.args.max) (sym front), refl)),
       c.in_ok-write_changes.ensures ∙ (ap (λ es. reply_text c.args.schema.now (asked.tailed c.in_ok-n.n c.args.place es)) (ap entries_in c.as_slice.ensures.value ∙ (c.in_ok-n.ensures.tail ∙ ap (λ (l : List Entry). l ++ tail_from c.args.place c.args.max (g.B.Board.state c.tail.new.self).word.known) (ap entries_in c.clear-2.ensures.items))) ∙ ap (λ (s : Attributes). reply_text s (asked.tailed c.in_ok-n.n c.args.place entries)) (sym c.requires.schema)),
       refl,
