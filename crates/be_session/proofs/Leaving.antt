@@ -56,7 +56,7 @@ alone_from b c w NoMemory goes own known q a = a ∙ known
 pub asked_again : (b c d : BoardState) (answer : Answer) → Asked b c quit NoMemory → Asked c d quit answer → Asked b d quit answer
 asked_again b c d answer p q = record {
   goes = GoesOn-along b c d p.goes q.goes;
-  letters = record { notes = q.letters.notes ∙ p.letters.notes; box = q.letters.box ∙ p.letters.box };
+  letters = record { notes = q.letters.notes ∙ p.letters.notes; box = q.letters.box ∙ p.letters.box; puts = q.letters.puts ∙ p.letters.puts; fulls = q.letters.fulls ∙ p.letters.fulls };
   formed = q.formed;
   answers = answers_from b c d.word answer p.goes p.answers q.answers;
   split = λ i j e. HasRisen-later b.counts.splits c.counts.splits d.counts.splits p.goes.counts.splits (q.split i j e);
