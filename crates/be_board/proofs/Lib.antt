@@ -6,3 +6,4 @@ mod LocalWords
 mod InOrder
 mod LocalStates
 pub mod Going
+pub mod Delivered

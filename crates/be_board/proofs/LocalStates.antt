@@ -20,6 +20,7 @@ use Rattle.be_board.proofs.LocalLists.{none_opened}
 use Rattle.be_board.specs.declared.answers.Answer.{Answer}
 use Rattle.be_board.specs.declared.answers.Answer.TheVariants.{Done, Held, Split, NoMemory}
 use Rattle.be_board.specs.Word.{IsDelivered}
+use Rattle.be_board.proofs.Delivered.{delivered_along}
 use Rattle.be_board.specs.Letters.{IsLetterFor, note_of, Fetches}
 use Rattle.be_board.specs.Changes.{Asked, AnswersAlone}
 use Rattle.be_board.specs.LocalCopy.{local_word, IsAnswered}
@@ -96,11 +97,6 @@ pub fetches_view : {X : Type 0} (schema : X → Attributes) (v b b' : Local X) (
     → Fetches (local_state (schema b.index) b) (local_state (schema b'.index) b') (Some l)
 fetches_view {X} schema v b b' l is same t d =
     subst (λ (x : Local X). Fetches (local_state (schema x.index) x) (local_state (schema b'.index) b') (Some l)) is (fetches_local (schema v.index) (schema b'.index) v b' l same t d)
-
-delivered_along : (h h' : List Entry) (l : PlainLetter) → BeginsWith h' h → IsDelivered h l → IsDelivered h' l
-delivered_along h h' l longer d =
-    let same : take l.n h' ≡ take l.n h = ap (λ (x : List Entry). take l.n x) longer.1 ∙ take-append-le l.n h longer.0 d.within in
-    record { within = omega (arith, d.within, BeginsWith-length h' h longer); stands = ap (λ (x : List Entry). row_at (id_of l.row) (live x)) same ∙ d.stands }
 
 letter_along : (s s' : Attributes) (h h' : List Entry) (l : PlainLetter) → s' ≡ s → BeginsWith h' h → IsLocalLetter s h l → IsLocalLetter s' h' l
 letter_along s s' h h' l same longer a =

@@ -17,3 +17,4 @@ mod wanted;
 
 pub use copies::Copy2;
 pub use edits::Edit;
+pub use places::Places;

@@ -1,8 +1,9 @@
 //! The one writer.
 
-ghost use Rattle.std.specs.Prelude.{◌≡◌, ◌++◌, ◌<◌, [], true, length, drop, fold, IfOk, OnErr, MatchResult};
+ghost use Rattle.std.specs.Prelude.{◌≡◌, ◌++◌, ◌<◌, [], true, false, length, drop, fold, IfOk, OnOk, OnErr, MatchResult};
 ghost use Rattle.std.specs.Option.{option_to_list};
 ghost use Rattle.be_base.specs.Lists.{BeginsWith};
+ghost use Rattle.be_change.specs.Entries.{entries_in};
 ghost use Rattle.be_change.specs.Sound.{Sound};
 ghost use Rattle.be_published.specs.Notes.{MayEdit, edited, noted};
 ghost use Rattle.be_published.specs.States.{settled, new_glass};
@@ -16,12 +17,13 @@ use crate::told::Told;
 use crate::writing::{handed, is_settled, shown};
 use be_base::NoMemory;
 use be_copy::Edit;
+use be_model::Change;
 use core::mem::replace_with;
 use crossbeam_utils::rule::Unruled;
 use left_right::writer::Writer;
 use std::alloc::{AllocError, Global};
 use std::marker::Model;
-use std::sync::Wait;
+use std::sync::{Arc, Wait};
 
 /// The one writer. Contracts see what is published, and that with what is pending. It is not `Drop`: end it by `end`.
 pub struct Press<T: Sheet<J>, J: Naming> {
@@ -93,9 +95,17 @@ impl<T: Sheet<J>, J: Naming> Press<T, J> {
         self.writer.published().front().len()
     }
 
+    /// All of the history: what is published, and what is pending.
+    pub fn whole(&self) -> &Front<J>
+        ensures { result.now ≡ self.now.list }
+    {
+        &self.front
+    }
+
     /// Whether every change is published. A step that reshapes may be pending.
     pub fn is_settled(&self) -> bool
-        ensures { result ≡ true → self.now.published ≡ self.now.list }
+        ensures all { result ≡ true → self.now.published ≡ self.now.list }
+        ensures some { result ≡ false → length self.now.published < length self.now.list }
     {
         self.writer.published().front().len() == self.front.len()
     }
@@ -107,6 +117,15 @@ impl<T: Sheet<J>, J: Naming> Press<T, J> {
         Told {
             front: self.writer.published().front().again(),
         }
+    }
+
+    /// Appends the published changes, or none.
+    pub fn changes(&self, changes: &mut Vec<Arc<Change>>) -> Result<(), NoMemory>
+        ensures put { OnOk result (entries_in changes.new.items ≡ entries_in changes.old.items ++ self.now.published) }
+        ensures refused { OnErr result (changes.new.items ≡ changes.old.items) }
+    {
+        let copy = self.writer.published();
+        copy.tail(0, copy.front().len(), changes)
     }
 
     /// Puts an edit last among what is pending, or hands it back.

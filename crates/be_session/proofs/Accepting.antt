@@ -18,6 +18,7 @@ use Rattle.be_change.specs.Walk.{Walk, IsChangeOf, IsAcceptedAt}
 use Rattle.be_change.proofs.Placed.{placed_of-append}
 use Rattle.be_board.specs.Changes.{Accepts}
 use Rattle.be_board.specs.Word.{Word, own_of, own_in, top, Keeps, IsDelivered}
+use Rattle.be_board.proofs.Delivered.{delivered_along}
 use Rattle.be_session.specs.Bearing.{Bears, Stands, AddsOwn}
 use Rattle.be_session.specs.Steps.{places_in}
 
@@ -117,11 +118,6 @@ last_get (x ∷ xs) e = last_get xs e
 
 some_same : (x y : Entry) → Some x ≡ Some y → x ≡ y
 some_same x y e = cc
-
-pub delivered_along : (h h' : List Entry) (l : PlainLetter) → BeginsWith h' h → IsDelivered h l → IsDelivered h' l
-delivered_along h h' l longer d =
-    let same : take l.n h' ≡ take l.n h = ap (λ (x : List Entry). take l.n x) longer.1 ∙ take-append-le l.n h longer.0 d.within in
-    record { within = omega (arith, d.within, BeginsWith-length h' h longer); stands = ap (λ (x : List Entry). row_at (id_of l.row) (live x)) same ∙ d.stands }
 
 delivered_on : (h h' : List Entry) (ls : List PlainLetter) → BeginsWith h' h → All (IsDelivered h) ls → All (IsDelivered h') ls
 delivered_on h h' ls more all = λ i x inside. delivered_along h h' _ more (all i x inside)

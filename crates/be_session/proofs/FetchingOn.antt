@@ -23,7 +23,8 @@ use Rattle.be_board.specs.Word.{IsDelivered}
 use Rattle.be_board.proofs.Going.{GoesOn-same, GoesOn-along}
 use Rattle.be_session.specs.Bearing.{Bears}
 use Rattle.be_session.specs.Fetching.{note_lines, Draws, FetchesSo}
-use Rattle.be_session.proofs.Accepting.{delivered_along, all_last}
+use Rattle.be_board.proofs.Delivered.{delivered_along}
+use Rattle.be_session.proofs.Accepting.{all_last}
 use Rattle.be_session.proofs.BearsOut.{bears_before}
 
 pub fetch_first : (s : Attributes) (max : ℕ) (b : BoardState) (sink : SinkState) → FetchesSo s max 0 b b sink sink
