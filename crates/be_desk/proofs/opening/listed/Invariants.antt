@@ -1,0 +1,11 @@
+-- The list so far has the changes so far.
+use Rattle.std.proofs.Common.{◌≡◌, ◌++◌}
+use Rattle.be_change.specs.Entries.{entries_in}
+use Rattle.be_desk.proofs.opening.listed.Given as goal
+
+abbrev pub invariant-loop-change : goal.invariant-loop-change
+invariant-loop-change g l =
+    (goal.iterator-loop-change g).can_next l.change-iterator
+    × (goal.iterator-loop-change g).is_finite l.change-iterator
+    × (entries_in (l.yielded ++ l.change-iterator.rest.items) ≡ l.fn.press.list)
+    × (l.ledger ≡ entries_in l.yielded)

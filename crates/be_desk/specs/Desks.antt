@@ -1,0 +1,30 @@
+-- The desk as contracts see it.
+use Rattle.std.specs.Prelude.{◌≡◌, ℕ, ◌+◌, ◌≤◌, ◌<◌, List, length}
+use Rattle.be_base.specs.Lists.{BeginsWith}
+use Rattle.be_change.specs.History.{Entry}
+use Rattle.be_published.specs.States.{GlassState, new_glass}
+
+pub record DeskState : Type 0 where
+  -- what readers may see
+  pub published : List Entry
+  -- that, and the change that is held
+  pub list : List Entry
+  -- what the reader that plans knows and counted
+  pub glass : GlassState
+
+-- at most the last change is held
+pub record IsHeld (published list : List Entry) : Type 0 where
+  pub begins : BeginsWith list published
+  pub one : length list ≤ length published + 1
+
+-- a change is held
+abbrev pub HasHeld : DeskState → Type 0
+HasHeld d = length d.published < length d.list
+
+-- a desk whose list is this one, all of it published
+abbrev pub new_desk : List Entry → DeskState
+new_desk list = record { published = list; list = list; glass = new_glass list }
+
+-- the desk with all of its list published
+abbrev pub freed : DeskState → DeskState
+freed d = record d { published = d.list }

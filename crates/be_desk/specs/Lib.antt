@@ -1,0 +1,10 @@
+pub mod Numbers
+pub mod Rifts
+pub mod Seats
+pub mod Desks
+pub mod Asks
+pub mod Changes
+pub mod Maintained
+pub mod Registers
+pub mod Stands
+pub mod Ledgers

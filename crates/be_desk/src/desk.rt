@@ -1,0 +1,119 @@
+//! The desk.
+
+ghost use Rattle.std.specs.Prelude.{◌≡◌, ◌+◌, ◌<◌, ◌≤◌, ◌↔◌, Some, None, length, IfSome, MatchResult, OnErr};
+ghost use Rattle.std.specs.Option.{is_some};
+ghost use Rattle.be_base.specs.Lists.{BeginsWith};
+ghost use Rattle.be_change.specs.Sound.{Sound};
+ghost use Rattle.be_published.specs.Reads.{Meets};
+ghost use Rattle.be_desk.specs.Desks.{freed, HasHeld};
+ghost use Rattle.be_desk.specs.Numbers.{numbers};
+ghost use Rattle.be_desk.specs.Rifts.{numbers_of};
+ghost use Rattle.be_desk.specs.Seats.{SeatState, is_over};
+ghost use Rattle.be_desk.specs.Changes.{Continues};
+
+use crate::ledger::Ledger;
+use crate::rift::Rift;
+use crate::seat::Seat;
+use be_base::{NoMemory, SessionNo};
+use be_change::ChangeLog;
+use be_mail::BoxNames;
+use be_published::{Glass, Naming, Press, Sheet};
+use std::marker::Model;
+use std::sync::Wait;
+
+/// The desk. It stands behind a lock. It is not `Drop`: end it by `end`, or by `into_log`.
+pub struct Desk<T: Sheet<J>, J: Naming + BoxNames> {
+    pub(crate) press: Press<T, J>,
+    // The reader that plans what the maintainer does.
+    pub(crate) glass: Glass<T, J>,
+    pub(crate) ledger: Ledger,
+    // How many seats there are.
+    pub(crate) seats: u32,
+}
+
+impl<T: Sheet<J>, J: Naming + BoxNames> Model for Desk<T, J> {
+    ghost use Rattle.std.specs.Prelude.{◌≡◌, ◌<◌, length};
+    ghost use Rattle.be_desk.specs.Desks.{DeskState, IsHeld};
+
+    ghost Value = { DeskState };
+
+    ghost view = { λ d. record { published = d.press.published; list = d.press.list; glass = d.glass } };
+
+    ghost invariant = { λ d. (d.ledger ≡ d.press.list) × IsHeld d.press.published d.press.list × (d.seats ≡ length J.boxes) × (0 < d.seats) };
+}
+
+impl<T: Sheet<J>, J: Naming + BoxNames> Desk<T, J> {
+    /// The published length.
+    pub fn len(&self) -> u64
+        ensures len { result ≡ length self.now.published }
+        ensures sound { Sound J.schema self.now.list }
+        ensures begins { BeginsWith self.now.list self.now.published }
+        ensures held { length self.now.list ≤ result + 1 }
+    {
+        self.press.len()
+    }
+
+    /// Publishes the change that is held, where one is. It may wait for readers.
+    pub fn free<R: Wait>(&mut self, rt: &R) -> Result<(), NoMemory>
+        ensures { MatchResult result (λ _. self.new ≡ freed self.old) (λ _. (self.new ≡ self.old) × HasHeld self.old) }
+    {
+        if self.press.is_settled() {
+            return Ok(());
+        }
+        self.press.publish(rt)?;
+        Ok(())
+    }
+
+    /// Begins the seat's next session.
+    pub fn enter(&self, seat: &mut Seat<T, J>)
+        requires { seat.old.session < 4611686018427387904 }
+        ensures { seat.new ≡ record seat.old { session = seat.old.session + length J.boxes } }
+    {
+        seat.session = SessionNo(seat.session.0 + u64::from(self.seats));
+        seat.serial = 0;
+        seat.gone = false;
+    }
+
+    /// Whether what the seat knows is longer than what is published: then the two lengths.
+    pub fn ahead(&self, seat: &Seat<T, J>) -> Option<Rift>
+        ensures some { (result ≡ None) ↔ (length seat.now.glass.known ≤ length self.now.published) }
+        ensures numbers { IfSome result (λ r. numbers_of r ≡ numbers (length seat.now.glass.known) (length self.now.published)) }
+    {
+        let front = seat.glass.front();
+        let written = self.press.len();
+        if front > written {
+            Some(Rift::make(front, written))
+        } else {
+            None
+        }
+    }
+
+    /// Tells the seat's reader what is published, and lets it look. It may wait.
+    pub fn show<R: Wait>(&self, rt: &R, seat: &mut Seat<T, J>)
+        ensures goes { Continues seat.old seat.new }
+        ensures own { (seat.new.own ≡ seat.old.own) × (seat.new.splits ≡ seat.old.splits) × (seat.new.rift ≡ seat.old.rift) }
+        ensures known { BeginsWith seat.new.glass.known self.now.published }
+    {
+        seat.glass.learn(self.press.tell());
+        seat.glass.meet(rt);
+    }
+
+    /// Gives the list out, and all else up. It may wait for readers.
+    pub fn into_log<R: Wait>(self, rt: &R) -> ChangeLog
+        ensures { result.list ≡ self.list }
+    {
+        let Desk {
+            press,
+            glass: _,
+            ledger,
+            seats: _,
+        } = self;
+        press.end(rt);
+        ledger.into_log()
+    }
+
+    /// Gives it up, with what is held. It may wait for readers.
+    pub fn end<R: Wait>(self, rt: &R) {
+        drop(self.into_log(rt));
+    }
+}

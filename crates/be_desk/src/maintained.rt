@@ -1,0 +1,90 @@
+//! What a maintainer does at the desk.
+
+ghost use Rattle.std.specs.Prelude.{◌≡◌, IfOk};
+ghost use Rattle.be_base.specs.Counts.{raised};
+ghost use Rattle.be_desk.specs.Maintained.{IsMaintained, OnStep};
+
+use crate::broom::Broom;
+use crate::desk::Desk;
+use be_base::{NoMemory, NoRead};
+use be_copy::Edit;
+use be_mail::BoxNames;
+use be_model::Step;
+use be_published::{Naming, Sheet};
+use std::sync::Wait;
+
+/// What came of a call of the maintainer.
+#[derive(Drop)]
+pub enum Maintained {
+    /// A held change was published. The list has `n` changes.
+    Freed { n: u64 },
+    /// The published copies were reshaped by this step.
+    Stepped { step: Step },
+    /// There is nothing to reshape.
+    Idle,
+    /// The desk's reader was refused an entry.
+    Shut,
+    NoMemory,
+}
+
+impl<T: Sheet<J>, J: Naming + BoxNames> Desk<T, J> {
+    /// Publishes the change that is held, and does no more; or, where none is, makes the next step that the desk's reader
+    /// plans. It may wait for readers.
+    pub fn maintain<R: Wait>(&mut self, rt: &R, broom: &mut Broom) -> Maintained
+        ensures broom { broom.new ≡ raised 1 broom.old }
+        ensures done { IsMaintained self.old self.new result }
+    {
+        broom.calls = broom.calls.saturating_add(1);
+        if !self.press.is_settled() {
+            return match self.press.publish(rt) {
+                Ok(n) => Maintained::Freed { n },
+                Err(_) => Maintained::NoMemory,
+            };
+        }
+        match self.glass.plan() {
+            Ok(Some(step)) => self.reshape(rt, step),
+            Ok(None) => Maintained::Idle,
+            Err(NoRead::Shut) => Maintained::Shut,
+            Err(NoRead::NoMemory) => Maintained::NoMemory,
+        }
+    }
+
+    // Makes a step in both copies.
+    fn reshape<R: Wait>(&mut self, rt: &R, step: Step) -> Maintained
+        requires { self.old.published ≡ self.old.list }
+        ensures done { OnStep self.old self.new result }
+    {
+        let Ok(again) = copied(&step) else {
+            return Maintained::NoMemory;
+        };
+        if self.press.append(Edit::Reshape(again)).is_err() {
+            return Maintained::NoMemory;
+        }
+        match self.press.publish(rt) {
+            Ok(_) => Maintained::Stepped { step },
+            Err(_) => Maintained::NoMemory,
+        }
+    }
+}
+
+fn copied(step: &Step) -> Result<Step, NoMemory>
+    ensures { IfOk result (λ again. again ≡ step.now) }
+{
+    Ok(match step {
+        Step::SplitPart { path, attr } => Step::SplitPart {
+            path: path.copy()?,
+            attr: *attr,
+        },
+        Step::SplitHalf { path, half } => Step::SplitHalf {
+            path: path.copy()?,
+            half: *half,
+        },
+        Step::Merge { path } => Step::Merge { path: path.copy()? },
+        Step::Shift { path, from, to, id } => Step::Shift {
+            path: path.copy()?,
+            from: *from,
+            to: *to,
+            id: *id,
+        },
+    })
+}
