@@ -1,0 +1,4 @@
+pub mod Holding
+pub mod Rising
+pub mod Least
+pub mod Turns
