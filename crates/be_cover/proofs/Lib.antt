@@ -2,3 +2,4 @@ pub mod Holding
 pub mod Rising
 pub mod Least
 pub mod Turns
+pub mod Allowing

@@ -30,7 +30,7 @@ pub record ArePieces (r : Range) (ps : List Range) : Type 0 where
   pub parts : list_all (is_part r) ps ≡ true
   pub apart : rise_apart ps ≡ true
 
-all_also : {X : Type 0} (p q : X → Bool) → ((x : X) → p x ≡ true → q x ≡ true) → (xs : List X) → list_all p xs ≡ true → list_all q xs ≡ true
+pub all_also : {X : Type 0} (p q : X → Bool) → ((x : X) → p x ≡ true → q x ≡ true) → (xs : List X) → list_all p xs ≡ true → list_all q xs ≡ true
 all_also p q also [] h = refl
 all_also p q also (x ∷ xs) h =
     let k = and_parts (p x) (list_all p xs) h in

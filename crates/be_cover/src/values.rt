@@ -35,10 +35,12 @@ fn ranges_of(alloc: Global, s: &Schema, c: &Conj, a: AttrNo) -> Result<Vec<(i64,
 {
     let mut ranges = Vec::new(alloc);
     ranges.push(s.bounds(a))?;
-    for pred in c.preds() {
-        if pred.attr.0 == a.0 {
-            ranges = kept(alloc, ranges.as_slice(), &pred.op)?;
+    let preds = c.preds();
+    for pred in preds {
+        if pred.attr.0 != a.0 {
+            continue;
         }
+        ranges = kept(alloc, ranges.as_slice(), &pred.op)?;
     }
     Ok(ranges)
 }
