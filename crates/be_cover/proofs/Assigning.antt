@@ -1,13 +1,13 @@
 -- Events that give values to the attributes of a schema, in order.
-use Rattle.std.proofs.Common.{◌≡◌, inl, inr, ℕ, zero, suc, ◌+◌, ◌-◌, ◌<◌, ◌≤◌, ℤ, Bool, true, false, eqb, ltb, ◌&&◌, ◌||◌, find, append_assoc, List, [], ◌∷◌, ◌++◌, map, length, All, Option, Some, None, option_map, refl, sym, ap, subst, ◌∙◌, ⊎_elim, arith}
-use Rattle.std.specs.List.{list_all, list_any, filter_map, cons_option, range_with_len}
+use Rattle.std.proofs.Common.{◌≡◌, ℕ, zero, suc, ◌+◌, ◌-◌, ◌<◌, ◌≤◌, ℤ, Bool, true, false, eqb, ltb, ◌||◌, find, append_assoc, List, [], ◌∷◌, ◌++◌, map, All, Option, Some, None, option_map, refl, sym, ap, subst, ◌∙◌, ⊎_elim, arith}
+use Rattle.std.specs.List.{list_any, filter_map, cons_option, range_with_len}
 use Rattle.std.proofs.lemmas.Bool.{and_parts, and_from, or_parts, cases_lt, or_left, cond-true, cond-false, eq-eqb, ne_eqb, ltb-true, lt-ltb}
 use Rattle.std.proofs.lemmas.List.{map-append, append-nil}
 use Rattle.std.proofs.lemmas.List.Elements.{All-cons, All-nil}
 use Rattle.be_base.specs.declared.names.AttrNo.{AttrNo}
 use Rattle.be_model.specs.Domains.{Range, is_within}
 use Rattle.be_model.specs.Schemas.{Attributes, numbered, range_of}
-use Rattle.be_model.specs.Forms.{AreValues, attrs_rise, IsEvent}
+use Rattle.be_model.specs.Forms.{AreValues, attrs_rise}
 use Rattle.be_model.specs.Lies.{lies_in, item_lies, event_lies}
 use Rattle.be_model.specs.Matching.{Assignments, attrs_of, values_of}
 use Rattle.be_cover.specs.Covering.{is_single, IsSingleEvent, is_value, assigned}

@@ -3,13 +3,13 @@ use Rattle.std.proofs.Common.{◌≡◌, ℕ, zero, suc, ◌+◌, ◌<◌, ◌�
 use Rattle.std.specs.Prelude.{if◌then◌else◌, MatchOption}
 use Rattle.std.specs.Int.Signed.{le_z, lt_z}
 use Rattle.std.specs.Int.RustNames.{unsigned_abs}
-use Rattle.std.specs.List.{list_any, list_all}
+use Rattle.std.specs.List.{list_all}
 use Rattle.std.specs.Option.{option_or}
 use Rattle.std.proofs.lemmas.Int.{ints}
 use Rattle.std.proofs.lemmas.List.{at_drop_more}
-use Rattle.std.proofs.lemmas.Bool.{and_parts, and_left, and_right, or_left, or_from, false_from_ne_true}
+use Rattle.std.proofs.lemmas.Bool.{and_parts, or_left, or_from, false_from_ne_true}
 use Rattle.be_model.specs.Domains.{Range, is_within, width}
-use Rattle.be_model.proofs.Lists.{is_some-find, found_passes}
+use Rattle.be_model.proofs.Lists.{is_some-find}
 use Rattle.be_cover.specs.Ranges.{is_in, is_beyond, rise_apart, IsLeast, first_passing, least_in, least_behind, least_outside, least_beyond}
 
 -- there is one least value
@@ -50,9 +50,10 @@ pub least_first : (r : Range) (more : List Range) → rise_apart (r ∷ more) �
 least_first r more up =
     let u = and_parts (le_z r.0 r.1) (list_all (is_beyond r) more && rise_apart more) up in
     let v = and_parts (list_all (is_beyond r) more) (rise_apart more) u.1 in
-    let full = u.0 in
-    (or_left (is_within r r.0) (is_in more r.0) (holds_first r full),
-    λ w below. or_from (is_within r w) (is_in more w) (none_before r w below) (none_up_to r more w v.0 (omega (arith, ints))))
+    let full = u.0 in (
+      or_left (is_within r r.0) (is_in more r.0) (holds_first r full),
+      λ w below. or_from (is_within r w) (is_in more w) (none_before r w below) (none_up_to r more w v.0 (omega (arith, ints))),
+    )
 
 pub least_at_first : (ranges : List Range) (d : Range) → 1 ≤ length ranges → rise_apart ranges ≡ true → IsLeast (is_in ranges) (Some (get_or ranges 0 d).0)
 least_at_first [] d h up = absurd (omega arith)
@@ -176,9 +177,10 @@ least_beyond_is others (r ∷ more) h up =
     by_first : (o : Option ℤ) → IsOutside others r o → list_all (is_beyond r) more ≡ true → IsLeast (passes others more) (least_beyond others more) → IsLeast (passes others (r ∷ more)) (option_or o (least_beyond others more))
     by_first None k far later =
         least_of_same (passes others (r ∷ more)) (passes others more) (least_beyond others more) (λ v. hidden (is_within r v) (is_in more v) (is_in others v) (k v)) later
-    by_first (Some v) k far later =
-        (shown (is_within r v) (is_in more v) (is_in others v) k.0 k.1,
-        λ w below. missed (is_within r w) (is_in more w) (is_in others w) (λ m. k.2 w m below) (none_up_to r more w far (up_to_end r v w k.0 below)))
+    by_first (Some v) k far later = (
+      shown (is_within r v) (is_in more v) (is_in others v) k.0 k.1,
+      λ w below. missed (is_within r w) (is_in more w) (is_in others w) (λ m. k.2 w m below) (none_up_to r more w far (up_to_end r v w k.0 below)),
+    )
 
 -- the first value from v on that passes, among n
 abbrev IsFirst : (ℤ → Bool) → ℕ → ℤ → Option ℤ → Type 0

@@ -1,10 +1,10 @@
 -- The pieces of ranges rise and don't touch.
-use Rattle.std.proofs.Common.{◌≡◌, ℤ, pos, ◌+ℤ◌, ◌-ℤ◌, ◌≤ℤ◌, ◌<ℤ◌, Bool, true, false, not, ◌&&◌, ◌||◌, List, [], ◌∷◌, ◌++◌, All, refl, sym, ap, ◌∙◌, arith}
+use Rattle.std.proofs.Common.{◌≡◌, ℤ, pos, ◌+ℤ◌, ◌-ℤ◌, ◌≤ℤ◌, ◌<ℤ◌, Bool, true, false, ◌&&◌, ◌||◌, List, [], ◌∷◌, ◌++◌, All, refl, ap, ◌∙◌, arith}
 use Rattle.std.specs.Prelude.{if◌then◌else◌}
-use Rattle.std.specs.Int.Signed.{le_z, lt_z}
+use Rattle.std.specs.Int.Signed.{le_z}
 use Rattle.std.specs.Ordering.{int_eq}
 use Rattle.std.specs.Int.{int_max, int_min}
-use Rattle.std.specs.List.{list_any, list_all, flat_map}
+use Rattle.std.specs.List.{list_all, flat_map}
 use Rattle.std.proofs.lemmas.Int.{ints}
 use Rattle.std.proofs.lemmas.Bool.{and_parts, and_from}
 use Rattle.std.proofs.lemmas.List.Folds.{list_all-append}
@@ -191,8 +191,8 @@ all_beyond op x (r ∷ more) f up h =
     let here = pieces_pieces op r f (omega (arith, ints)) in
     list_all-append (is_beyond x) (pieces op r) (flat_map (pieces op) more)
     ∙ and_from (list_all (is_beyond x) (pieces op r)) (list_all (is_beyond x) (flat_map (pieces op) more))
-      (all_also (is_part r) (is_beyond x) (λ p. beyond_through x r p k.0) (pieces op r) here.parts)
-      (all_beyond op x more f v.1 k.1)
+    (all_also (is_part r) (is_beyond x) (λ p. beyond_through x r p k.0) (pieces op r) here.parts)
+    (all_beyond op x more f v.1 k.1)
 
 pub append_apart : (xs ys : List Range) → rise_apart xs ≡ true → rise_apart ys ≡ true → list_all (λ x. list_all (is_beyond x) ys) xs ≡ true → rise_apart (xs ++ ys) ≡ true
 append_apart [] ys h k l = k
@@ -202,8 +202,8 @@ append_apart (x ∷ xs) ys h k l =
     let w = and_parts (list_all (is_beyond x) ys) (list_all (λ z. list_all (is_beyond z) ys) xs) l in
     and_from (le_z x.0 x.1) (list_all (is_beyond x) (xs ++ ys) && rise_apart (xs ++ ys)) u.0
     (and_from (list_all (is_beyond x) (xs ++ ys)) (rise_apart (xs ++ ys))
-      (list_all-append (is_beyond x) xs ys ∙ and_from (list_all (is_beyond x) xs) (list_all (is_beyond x) ys) v.0 w.0)
-      (append_apart xs ys v.1 k w.1))
+    (list_all-append (is_beyond x) xs ys ∙ and_from (list_all (is_beyond x) xs) (list_all (is_beyond x) ys) v.0 w.0)
+    (append_apart xs ys v.1 k w.1))
 
 part_beyond : (r p y : Range) → is_part r p ≡ true → is_beyond r y ≡ true → is_beyond p y ≡ true
 part_beyond r p y h k = grind (arith, ints)
@@ -248,5 +248,5 @@ all_pieces_near op (r ∷ more) f up h =
     let here = pieces_pieces op r f (omega (arith, ints)) in
     list_all-append is_near (pieces op r) (flat_map (pieces op) more)
     ∙ and_from (list_all is_near (pieces op r)) (list_all is_near (flat_map (pieces op) more))
-      (all_also (is_part r) is_near (λ p. near_part r p k.0) (pieces op r) here.parts)
-      (all_pieces_near op more f v.1 k.1)
+    (all_also (is_part r) is_near (λ p. near_part r p k.0) (pieces op r) here.parts)
+    (all_pieces_near op more f v.1 k.1)

@@ -1,14 +1,13 @@
 -- What single values say of conditions.
 use Rattle.std.proofs.Common.{◌≡◌, ◌<◌, ℤ, Bool, true, false, not, eqb, cond, ◌&&◌, ◌||◌, List, [], ◌∷◌, length, find, is_some, Option, Some, None, refl, sym, ap, subst, ◌∙◌, ⊎_elim, arith}
-use Rattle.std.specs.List.{list_all, list_any}
 use Rattle.std.proofs.lemmas.Bool.{and_parts, and_from, and_left, and_right, and_cases, or_parts, or_left, or_right, eq-eqb, eqb-true, not-false, true≢false}
 use Rattle.be_base.specs.declared.names.AttrNo.{AttrNo}
 use Rattle.be_model.specs.declared.ops.Op.{Op}
 use Rattle.be_model.specs.declared.preds.Pred.{Pred}
-use Rattle.be_model.specs.Domains.{Range, is_within}
+use Rattle.be_model.specs.Domains.{is_within}
 use Rattle.be_model.specs.Schemas.{Attributes, range_of}
 use Rattle.be_model.specs.Hulls.{is_on}
-use Rattle.be_model.specs.Lies.{lies_within, conj_lies}
+use Rattle.be_model.specs.Lies.{conj_lies}
 use Rattle.be_model.specs.Matching.{Assignments, holds, is_met, values_of, satisfies}
 use Rattle.be_model.proofs.Lists.{is_some-find, found_passes}
 use Rattle.be_model.proofs.Spans.{pred_found}
@@ -52,7 +51,7 @@ satisfies_from e (p ∷ ps) h =
     and_from (is_met (values_of e p.attr) p.op) (satisfies e ps)
     (met_one (values_of e p.attr) here.0 p.op here.1 ∙ implied (is_on p.attr p) (holds p.op here.0) (own p) holds_here.0)
     (satisfies_from e ps (λ a k. let l = h a (or_right (is_on a p) (has ps a) k) in
-      (l.0, l.1, (and_parts (not (is_on a p) || holds p.op l.0) (hold_on a ps l.0) l.2).1)))
+    (l.0, l.1, (and_parts (not (is_on a p) || holds p.op l.0) (hold_on a ps l.0) l.2).1)))
 
 -- a condition on an attribute without a value isn't satisfied
 pub unsatisfied_without : (e : Assignments) (c : List Pred) (a : AttrNo) → values_of e a ≡ None → has c a ≡ true → satisfies e c ≡ false

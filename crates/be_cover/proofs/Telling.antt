@@ -1,8 +1,8 @@
 -- The event that tells two conditions apart shows that the first isn't covered, and where there is none it is.
-use Rattle.std.proofs.Common.{◌≡◌, ℕ, ◌+◌, ◌<◌, ◌≤◌, ℤ, Bool, true, false, not, eqb, cond, ◌&&◌, ◌||◌, List, [], ◌∷◌, length, find, is_some, is_none, Option, Some, None, refl, sym, ap, subst, ◌∙◌, ⊎_elim, arith}
+use Rattle.std.proofs.Common.{◌≡◌, ◌<◌, ℤ, Bool, true, false, not, eqb, ◌&&◌, ◌||◌, List, [], ◌∷◌, length, find, is_some, is_none, Option, Some, None, refl, sym, ap, subst, ◌∙◌, arith}
 use Rattle.std.specs.Prelude.{if◌then◌else◌, MatchOption, option_map, IsNone, ◌↔◌}
-use Rattle.std.specs.List.{list_all, list_any}
-use Rattle.std.proofs.lemmas.Bool.{and_parts, and_from, and_left, and_right, and_cases, or_parts, not-true, not-false, eq-eqb, true≢false}
+use Rattle.std.specs.List.{list_any}
+use Rattle.std.proofs.lemmas.Bool.{and_parts, or_parts, not-true, not-false, eq-eqb, true≢false}
 use Rattle.std.proofs.lemmas.List.Folds.{Any-from_list_any}
 use Rattle.be_base.specs.declared.names.AttrNo.{AttrNo}
 use Rattle.be_model.specs.declared.preds.Pred.{Pred}
@@ -12,9 +12,9 @@ use Rattle.be_model.specs.Matching.{Assignments, values_of, satisfies}
 use Rattle.be_model.proofs.Lists.{is_some-find, found_passes}
 use Rattle.be_model.proofs.InSchema.{same_attribute}
 use Rattle.be_cover.specs.Ranges.{IsLeast}
-use Rattle.be_cover.specs.Covering.{IsCovered, IsApart, IsSingleEvent, hold_on, is_value, allows, has, least_allowed, least_apart, attributes, allows_none, tells, chosen, event_at, apart_event}
+use Rattle.be_cover.specs.Covering.{IsCovered, IsApart, hold_on, is_value, allows, has, least_allowed, least_apart, attributes, allows_none, tells, chosen, event_at, apart_event}
 use Rattle.be_cover.proofs.Allowing.{least_allowed_is, least_apart_is}
-use Rattle.be_cover.proofs.Assigning.{attrs_from, given_from, one_value, values_given, is_single_event, none_passes}
+use Rattle.be_cover.proofs.Assigning.{one_value, values_given, is_single_event, none_passes}
 use Rattle.be_cover.proofs.Satisfying.{implied, has_below, satisfies_from, unsatisfied_without, unsatisfied_by, value_allowed}
 
 least_none : (p : ℤ → Bool) (o : Option ℤ) (v : ℤ) → IsLeast p o → is_some o ≡ false → p v ≡ false
@@ -118,9 +118,11 @@ first_satisfied s q r by lies t = satisfies_from (event_at s q r by) q each
     each : (a : AttrNo) → has q a ≡ true → (v : ℤ) × (values_of (event_at s q r by) a ≡ Some (v ∷ [])) × (hold_on a q v ≡ true)
     each a k =
         let below = has_below s q a lies k in
-        let value = there (chosen s q r by a) (chosen_there s q r by a k (not_void s q a t.open_ k below) (told a k)) in
-        (value.0, given_value s q r by a below ∙ ap one_value value.1,
-        (and_parts (is_value (range_of s a) value.0) (hold_on a q value.0) (chosen_allowed s q r by a value.0 value.1)).1)
+        let value = there (chosen s q r by a) (chosen_there s q r by a k (not_void s q a t.open_ k below) (told a k)) in (
+          value.0,
+          given_value s q r by a below ∙ ap one_value value.1,
+          (and_parts (is_value (range_of s a) value.0) (hold_on a q value.0) (chosen_allowed s q r by a value.0 value.1)).1,
+        )
 
 other_unsatisfied : (s : Attributes) (q r : List Pred) (by : AttrNo) → Told s q r by → satisfies (event_at s q r by) r ≡ false
 other_unsatisfied s q r by t = by_test (has q by) refl

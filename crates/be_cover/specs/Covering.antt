@@ -1,5 +1,5 @@
 -- When a condition is covered by another one, and the event that shows that it isn't.
-use Rattle.std.specs.Prelude.{◌≡◌, ℕ, ℤ, ◌==◌, ◌&&◌, ◌||◌, not, Bool, true, false, List, [], ◌∷◌, map, find, length, Option, Some, None, is_some, is_none, option_map, if◌then◌else◌}
+use Rattle.std.specs.Prelude.{◌≡◌, ℤ, ◌==◌, ◌&&◌, ◌||◌, not, Bool, true, false, List, [], ◌∷◌, map, find, length, Option, Some, None, is_some, is_none, option_map, if◌then◌else◌}
 use Rattle.std.specs.List.{list_any, list_all, filter_map, range_with_len}
 use Rattle.be_base.specs.declared.names.AttrNo.{AttrNo}
 use Rattle.be_model.specs.declared.preds.Pred.{Pred}

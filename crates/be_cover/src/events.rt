@@ -112,7 +112,14 @@ fn put_value(alloc: Global, event: &mut Event, a: AttrNo, v: Option<i64>) -> Res
 }
 
 // The value that it gives to an attribute.
-fn chosen(alloc: Global, s: &Schema, q: &Conj, r: &Conj, by: AttrNo, a: AttrNo) -> Result<Option<i64>, NoMemory>
+fn chosen(
+    alloc: Global,
+    s: &Schema,
+    q: &Conj,
+    r: &Conj,
+    by: AttrNo,
+    a: AttrNo,
+) -> Result<Option<i64>, NoMemory>
     requires first { conj_lies s.now q.now ≡ true }
     requires other { conj_lies s.now r.now ≡ true }
     requires below { a.0 < length s.now }

@@ -10,7 +10,11 @@ use be_base::NoMemory;
 use be_model::Op;
 
 /// Puts what the comparison leaves of a range last.
-pub(crate) fn put_pieces(out: &mut Vec<(i64, i64)>, op: &Op, range: (i64, i64)) -> Result<(), NoMemory>
+pub(crate) fn put_pieces(
+    out: &mut Vec<(i64, i64)>,
+    op: &Op,
+    range: (i64, i64),
+) -> Result<(), NoMemory>
     requires near { lies_within (FIRST_INT, LAST_INT) (values_in op.now) ≡ true }
     requires low { FIRST_INT ≤ℤ range.0 }
     requires high { range.1 ≤ℤ LAST_INT }

@@ -59,7 +59,12 @@ fn kept(alloc: Global, ranges: &[(i64, i64)], op: &Op) -> Result<Vec<(i64, i64)>
 }
 
 /// The least value of the attribute that the condition allows.
-pub(crate) fn least_allowed(alloc: Global, s: &Schema, c: &Conj, a: AttrNo) -> Result<Option<i64>, NoMemory>
+pub(crate) fn least_allowed(
+    alloc: Global,
+    s: &Schema,
+    c: &Conj,
+    a: AttrNo,
+) -> Result<Option<i64>, NoMemory>
     requires lies { conj_lies s.now c.now ≡ true }
     requires below { a.0 < length s.now }
     ensures { IfOk result (λ least. least ≡ least_allowed s.now c.now a) }
@@ -69,7 +74,13 @@ pub(crate) fn least_allowed(alloc: Global, s: &Schema, c: &Conj, a: AttrNo) -> R
 }
 
 /// The least value of the attribute that the first condition allows and the other doesn't.
-pub(crate) fn least_apart(alloc: Global, s: &Schema, q: &Conj, r: &Conj, a: AttrNo) -> Result<Option<i64>, NoMemory>
+pub(crate) fn least_apart(
+    alloc: Global,
+    s: &Schema,
+    q: &Conj,
+    r: &Conj,
+    a: AttrNo,
+) -> Result<Option<i64>, NoMemory>
     requires first { conj_lies s.now q.now ≡ true }
     requires other { conj_lies s.now r.now ≡ true }
     requires below { a.0 < length s.now }

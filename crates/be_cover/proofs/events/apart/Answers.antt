@@ -1,4 +1,4 @@
-use Rattle.std.proofs.Common.{◌≡◌, Some, None, sym, ap, ◌∙◌}
+use Rattle.std.proofs.Common.{Some, None, sym, ap, ◌∙◌}
 use Rattle.be_cover.proofs.Telling.{void_event, untold_event, none_is_covered, some_is_apart}
 use Rattle.be_cover.proofs.events.apart.Goals as goal
 

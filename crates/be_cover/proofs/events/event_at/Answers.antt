@@ -1,4 +1,4 @@
-use Rattle.std.proofs.Common.{◌≡◌, ◌<◌, ◌++◌, [], length, sym, ap, ◌∙◌, arith}
+use Rattle.std.proofs.Common.{◌<◌, ◌++◌, [], length, ap, ◌∙◌, arith}
 use Rattle.std.specs.List.{cons_option}
 use Rattle.be_model.specs.Schemas.{numbered}
 use Rattle.be_cover.specs.Covering.{chosen, assigned}

@@ -1,4 +1,4 @@
-use Rattle.std.proofs.Common.{◌≡◌, ◌<◌, length, sym, ◌∙◌, arith}
+use Rattle.std.proofs.Common.{◌<◌, length, sym, ◌∙◌, arith}
 use Rattle.be_cover.specs.Covering.{allows_none}
 use Rattle.be_cover.proofs.Assigning.{any_later}
 use Rattle.be_cover.proofs.events.is_void.Goals as goal

@@ -1,4 +1,4 @@
-use Rattle.std.proofs.Common.{◌≡◌, ◌<◌, length, sym, ◌∙◌, arith}
+use Rattle.std.proofs.Common.{◌<◌, length, sym, ◌∙◌, arith}
 use Rattle.be_cover.specs.Covering.{tells}
 use Rattle.be_cover.proofs.Assigning.{find_later}
 use Rattle.be_cover.proofs.events.telling.Goals as goal

@@ -1,4 +1,4 @@
-use Rattle.std.proofs.Common.{◌≡◌, ◌<◌, ◌≤ℤ◌, ℤ, pos, ◌+ℤ◌, ◌-ℤ◌, false, not, length, get_or, rules, arith, sym, ap, ◌∙◌, w64, FitsSigned, to_z, of_z}
+use Rattle.std.proofs.Common.{◌≡◌, ◌<◌, ◌≤ℤ◌, pos, ◌+ℤ◌, ◌-ℤ◌, false, not, length, get_or, rules, arith, sym, ap, ◌∙◌, w64, FitsSigned, to_z, of_z}
 use Rattle.std.proofs.lemmas.Int.{ints, to_z-of_z}
 use Rattle.be_base.specs.declared.limits.TheConstants.{FIRST_INT, LAST_INT}
 use Rattle.be_model.specs.Domains.{is_within}

@@ -1,4 +1,4 @@
-use Rattle.std.proofs.Common.{◌≡◌, ◌<◌, ℤ, pos, true, false, not, ◌++◌, length, get_or, rules, sym, ap, ◌∙◌, w64, FitsSigned, to_z, of_z}
+use Rattle.std.proofs.Common.{◌≡◌, ◌<◌, pos, true, false, not, ◌++◌, length, get_or, rules, sym, ap, ◌∙◌, w64, FitsSigned, to_z, of_z}
 use Rattle.std.proofs.lemmas.Int.{to_z-of_z}
 use Rattle.be_model.specs.Domains.{is_within}
 use Rattle.be_cover.proofs.Turns.{runs_pass, runs_put}

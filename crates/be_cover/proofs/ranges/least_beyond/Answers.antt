@@ -1,5 +1,4 @@
-use Rattle.std.proofs.Common.{◌≡◌, ◌<◌, pos, get_or, length, is_some, true, false, sym, ap, ◌∙◌}
-use Rattle.be_cover.specs.Ranges.{least_outside}
+use Rattle.std.proofs.Common.{pos, is_some, sym, ap, ◌∙◌}
 use Rattle.be_cover.proofs.Least.{walk_ends, walk_goes_on}
 use Rattle.be_cover.proofs.ranges.least_beyond.Goals as goal
 

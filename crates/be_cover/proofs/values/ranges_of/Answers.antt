@@ -1,10 +1,9 @@
-use Rattle.std.proofs.Common.{◌≡◌, ◌<◌, ◌∷◌, [], ◌++◌, List, true, All, length, get_or, drop, Some, refl, subst, sym, ap, ◌∙◌, ℤ}
+use Rattle.std.proofs.Common.{◌≡◌, ◌∷◌, [], ◌++◌, List, All, refl, subst, sym, ap, ◌∙◌}
 use Rattle.std.proofs.lemmas.List.{at_drop_all}
 use Rattle.be_model.specs.declared.preds.Pred.{Pred}
 use Rattle.be_model.specs.Domains.{Range}
 use Rattle.be_model.specs.Forms.{OpForm}
 use Rattle.be_model.specs.Lies.{conj_lies}
-use Rattle.be_model.specs.Schemas.{range_of}
 use Rattle.std.specs.List.{list_all, flat_map}
 use Rattle.be_cover.specs.Ranges.{rise_apart}
 use Rattle.be_cover.specs.Pieces.{is_near, pieces, narrowed}
@@ -47,6 +46,6 @@ returns-clause-exact c =
     let same : ps ≡ c.args.c.now = c.preds-preds.ensures.preds in
     let first : c.push.new.self.items ≡ d ∷ [] = c.in_ok-push.ensures.items ∙ ap (λ (rs : List Range). rs ++ d ∷ []) c.new-ranges.ensures.items in
     let left : ranges ≡ narrowed a c.args.c.now (d ∷ []) =
-        sym (at_drop_all (λ (qs : List Pred). narrowed a qs ranges) ps c.loop-pred.pred-index c.loop-pred-test.false)
-        ∙ c.loop-pred.invariant.rest ∙ ap (narrowed a ps) first ∙ ap (λ (qs : List Pred). narrowed a qs (d ∷ [])) same in
+    sym (at_drop_all (λ (qs : List Pred). narrowed a qs ranges) ps c.loop-pred.pred-index c.loop-pred-test.false)
+    ∙ c.loop-pred.invariant.rest ∙ ap (narrowed a ps) first ∙ ap (λ (qs : List Pred). narrowed a qs (d ∷ [])) same in
     λ v. left_is_allowed c.args.s.now a c.args.c.now d ranges v c.preds-preds.ensures.form.forms c.bounds.ensures.bounds left

@@ -1,4 +1,4 @@
-use Rattle.std.proofs.Common.{◌≡◌, true, [], ◌∷◌, drop}
+use Rattle.std.proofs.Common.{drop}
 use Rattle.be_cover.proofs.Allowing.{Turned}
 use Rattle.be_cover.proofs.values.ranges_of.Given as goal
 
