@@ -7,7 +7,6 @@ ghost use Rattle.be_model.specs.Lies.{row_lies};
 ghost use Rattle.be_change.specs.Opening.{IsTable};
 
 use crate::commands;
-use crate::tally::Tally;
 use be_base::{Id, Name, NoMemory, SessionNo};
 use be_board::{Board, LocalBoard};
 use be_expr::read_expr;
@@ -16,7 +15,6 @@ use be_model::{Row, Schema};
 use be_tree::BeTree;
 use std::alloc::Global;
 use std::sync::Arc;
-use std::sync::atomic::{AtomicU64, Ordering};
 
 pub fn answers(
     alloc: Global,
@@ -28,7 +26,6 @@ pub fn answers(
         "list" => over_list(alloc, schema, script),
         "tree" => over_tree(alloc, schema, script),
         "opened" => opened(alloc, schema, script),
-        "tally" => tallied(alloc, schema, script),
         _ => Ok(String::from_str(alloc, "no board")?),
     }
 }
@@ -77,17 +74,4 @@ fn row(alloc: Global, schema: &Schema, id: u64, name: &[u8], conj: &str) -> Opti
         name: Name::read(name).ok()?,
         conj: read_expr(alloc, schema, conj.as_bytes()).ok()?,
     })
-}
-
-// After the answers, how many searches the index was asked for.
-fn tallied(alloc: Global, schema: &Arc<Schema>, script: &str) -> Result<String, NoMemory> {
-    let finds = Arc::new(alloc, AtomicU64::new(0)).map_err(|_| NoMemory)?;
-    let index = Tally {
-        index: ListIndex::make(alloc, Arc::try_clone(schema)?),
-        finds: Arc::try_clone(&finds)?,
-    };
-    let mut board = LocalBoard::make(alloc, index)?;
-    let answers = commands::answers(alloc, schema, &mut board, script)?;
-    let count = finds.load(Ordering::SeqCst);
-    Ok(format!(in alloc; "{answers}; {count}")?)
 }

@@ -8,7 +8,6 @@ mod changes;
 mod commands;
 mod letters;
 mod reads;
-mod tally;
 
 use be_base::NoMemory;
 use be_event::read_schema;

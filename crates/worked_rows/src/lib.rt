@@ -16,6 +16,8 @@ mod limits;
 #[cfg(test)]
 mod loads;
 #[cfg(test)]
+mod plainly;
+#[cfg(test)]
 mod refusals;
 #[cfg(test)]
 mod rows;
