@@ -36,9 +36,9 @@ same_list known published more short = step more.0 more.1 (omega (arith, short, 
 pub looked : (g1 g2 g3 : GlassState) (told : List Entry) (n : ℕ) → g2 ≡ knowing g2.known g1 → Learns g1.known told g2.known → Meets g2 g3 n
     → (g3 ≡ knowing g3.known g1) × BeginsWith g3.known g1.known × BeginsWith g3.known told
 looked g1 g2 g3 told n same l m = (
-    m.counts ∙ ap (knowing g3.known) same,
-    BeginsWith-along g3.known g2.known g1.known m.known l.before,
-    BeginsWith-along g3.known g2.known told m.known l.told,
+  m.counts ∙ ap (knowing g3.known) same,
+  BeginsWith-along g3.known g2.known g1.known m.known l.before,
+  BeginsWith-along g3.known g2.known told m.known l.told,
 )
 
 -- the seat, its reader having looked, agrees with the desk

@@ -70,7 +70,7 @@ took_seat boxes made whole made' places places' serial gone leaves s e r own mor
       subst (λ (h : List Entry). IsRecord h places') (sym long) (subst (λ (ps : List ℕ). IsRecord ((made ++ more.0) ++ e ∷ []) ps) (sym all) (record_grown made more.0 e places r)),
       grown,
       subst (λ (l : List (ℕ × Entry)). IsSeat boxes (serial + 1) leaves (record s { own = l })) (sym grown)
-      (subst (λ (b : Bool). IsSeat boxes (serial + 1) b (record s { own = s.own ++ (length whole, e) ∷ [] })) (sym is_leaves) (seat_grown boxes serial s (length whole) e over present of)),
+          (subst (λ (b : Bool). IsSeat boxes (serial + 1) b (record s { own = s.own ++ (length whole, e) ∷ [] })) (sym is_leaves) (seat_grown boxes serial s (length whole) e over present of)),
     )
 
 -- a session after all that the seat had has no change

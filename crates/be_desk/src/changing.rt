@@ -55,13 +55,7 @@ impl<T: Sheet<J>, J: Naming + BoxNames> Desk<T, J> {
         answer
     }
 
-    fn decide<R: Wait>(
-        &mut self,
-        rt: &R,
-        alloc: Global,
-        seat: &mut Seat<T, J>,
-        ask: Ask,
-    ) -> Answer
+    fn decide<R: Wait>(&mut self, rt: &R, alloc: Global, seat: &mut Seat<T, J>, ask: Ask) -> Answer
         requires present { is_over seat.old ≡ false }
         requires lies { ask_lies J.schema ask ≡ true }
         ensures changed { Changed self.old self.new seat.old seat.new (request_of ask) result }

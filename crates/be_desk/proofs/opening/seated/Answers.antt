@@ -61,8 +61,7 @@ loop-pass-preserved g c =
     let popped = ap (λ l. length l) c.in-Some-pop.ensures.items in
     let is = all_here P c.pop.new.self.items c.in-Some-pop.glass [] glasses in
     let made : c.make.result ≡ seat_for c.args.press.now.list c.in-Some.pass =
-    c.make.ensures ∙ (ap (λ x. new_seat x.known (c.from.result + 1) c.in-Some.pass) is ∙ ap (λ n. new_seat c.args.press.now.list (n + 1) c.in-Some.pass) (c.from.ensures ∙ c.seat.ensures.seat)) in
-    (
+    c.make.ensures ∙ (ap (λ x. new_seat x.known (c.from.result + 1) c.in-Some.pass) is ∙ ap (λ n. new_seat c.args.press.now.list (n + 1) c.in-Some.pass) (c.from.ensures ∙ c.seat.ensures.seat)) in (
       tt,
       tt,
       all ∙ sym (append_assoc c.loop-pass.yielded (c.in-Some.pass ∷ []) c.next.new.self.rest.items),

@@ -27,15 +27,14 @@ returns-else-seat-stand-clause-agrees g c =
     let written : c.len-written.result ≡ length c.args.self.now.published = c.len-written.ensures.len ∙ ap (λ x. length x.published) c.self.view_is in
     let listed = d.0 ∙ ap (λ x. x.list) c.self.view_is in
     let own : List (ℕ × Entry) = placed_at (list_in c.seat.inside.made) c.seat.inside.places.items in
-    let made : c.top-made.result ≡ top own = c.top-made.ensures in
-    (
+    let made : c.top-made.result ≡ top own = c.top-made.ensures in (
       agreed c.args.self.now _ c.meet-front.result c.len-written.result c.top-made.result c.seat.inside.serial c.stand-stand.result c.requires.published
-      (subst (λ t. BeginsWith c.meet-front.new.self.known t) (c.tell.ensures ∙ ap (λ x. x.published) c.self.view_is) l.2)
-      c.meet-front.ensures.length written made c.if-front-written.false c.if-made-written.false i.1.serial_is
-      (c.stand-stand.ensures ∙ ap (λ h. stand c.seat.inside.session.0 h) listed) c.if-seat-stand.false,
+          (subst (λ t. BeginsWith c.meet-front.new.self.known t) (c.tell.ensures ∙ ap (λ x. x.published) c.self.view_is) l.2)
+          c.meet-front.ensures.length written made c.if-front-written.false c.if-made-written.false i.1.serial_is
+          (c.stand-stand.ensures ∙ ap (λ h. stand c.seat.inside.session.0 h) listed) c.if-seat-stand.false,
       few_below (length (own_of c.seat.inside.session.0 own)) (length (list_in c.seat.inside.made)) c.top-made.result c.len-written.result c.len-few.result
-      (serial_few (list_in c.seat.inside.made) c.seat.inside.places.items c.seat.inside.session.0 i.0)
-      (i.0.last ∙ sym made) c.if-made-written.false (written ∙ (ap (λ h. length h) (c.requires.published ∙ sym listed) ∙ sym c.len-few.ensures.len)) c.len-few.ensures.few,
+          (serial_few (list_in c.seat.inside.made) c.seat.inside.places.items c.seat.inside.session.0 i.0)
+          (i.0.last ∙ sym made) c.if-made-written.false (written ∙ (ap (λ h. length h) (c.requires.published ∙ sym listed) ∙ sym c.len-few.ensures.len)) c.len-few.ensures.few,
     )
 
 pub invariant_of-seat-2 : goal.invariant_of-seat-2

@@ -18,7 +18,6 @@ use Rattle.be_desk.proofs.Desks.{told_all}
 use Rattle.be_desk.proofs.Records.{serial_few}
 use Rattle.be_desk.proofs.desk.Desk.take.Goals as goal
 
-
 pub overflow_add-seat : goal.overflow_add-seat
 overflow_add-seat g c =
     let few = serial_few (list_in c.seat.inside.made) c.seat.inside.places.items c.seat.inside.session.0 c.seat.invariant.0 in
@@ -58,8 +57,7 @@ returns-in-Err-clause-took g c =
     (subst (λ x. is_over x ≡ false) (sym c.seat.view_is) c.requires.present)
     (c.requires.own ∙ sym (ap (λ x. x.session) c.seat.view_is)) i.1 in
     let listed : c.self.inside.ledger ≡ c.args.self.now.list = c.self.invariant.0 ∙ ap (λ x. x.list) c.self.view_is in
-    let grown : c.free.new.self.list ≡ c.append.new.ledger = ap (λ x. x.list) c.in-Err.ensures.0 ∙ c.append.ensures.press.0 in
-    (
+    let grown : c.free.new.self.list ≡ c.append.new.ledger = ap (λ x. x.list) c.in-Err.ensures.0 ∙ c.append.ensures.press.0 in (
       record {
         list = grown ∙ (c.in-Ok.ensures.list ∙ ap (λ h. h ++ e ∷ []) listed);
         own = t.1 ∙ (ap (λ x. x.own ++ (length c.self.inside.ledger, e) ∷ []) c.seat.view_is ∙ ap (λ h. c.args.seat.now.own ++ (length h, e) ∷ []) listed);
@@ -100,8 +98,7 @@ returns-clause-took g c =
     let free = c.in-Ok-free.ensures in
     let grown : c.free.new.self.list ≡ c.append.new.ledger = ap (λ x. x.list) free ∙ c.append.ensures.press.0 in
     let told : c.tell.result ≡ c.free.new.self.list = c.tell.ensures ∙ (ap (λ x. x.published) c.self-2.view_is ∙ (ap (λ x. x.published) free ∙ sym (ap (λ x. x.list) free))) in
-    let all : c.free.new.self.list ≡ c.args.self.now.list ++ e ∷ [] = grown ∙ (c.in-Ok.ensures.list ∙ ap (λ h. h ++ e ∷ []) listed) in
-    (
+    let all : c.free.new.self.list ≡ c.args.self.now.list ++ e ∷ [] = grown ∙ (c.in-Ok.ensures.list ∙ ap (λ h. h ++ e ∷ []) listed) in (
       record {
         list = all;
         own = t.1 ∙ (ap (λ x. x.own ++ (length c.self.inside.ledger, e) ∷ []) c.seat.view_is ∙ ap (λ h. c.args.seat.now.own ++ (length h, e) ∷ []) listed);
@@ -109,5 +106,5 @@ returns-clause-took g c =
       },
       ap (λ x. x.published) free ∙ sym (ap (λ x. x.list) free),
       told_all c.seat.inside.glass.known c.tell.result c.learn.new.self.known c.args.self.now.list e c.learn.ensures.learns.told c.learn.ensures.longer
-      (ap (λ x. x.glass.known) c.seat.view_is ∙ c.requires.agrees.known) (told ∙ all) ∙ told,
+          (ap (λ x. x.glass.known) c.seat.view_is ∙ c.requires.agrees.known) (told ∙ all) ∙ told,
     )
