@@ -19,3 +19,4 @@ pub use balky::BalkyBoard;
 pub use board::Board;
 pub use local::LocalBoard;
 pub use local_copy::SESSION;
+pub use posting::{count_addressed, make_letters};

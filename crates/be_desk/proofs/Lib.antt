@@ -4,6 +4,8 @@ mod Leaving
 mod StandSteps
 mod Records
 mod Seats
+mod Offered
+mod Fetched
 mod Desks
 mod Ledgers
 mod Draws

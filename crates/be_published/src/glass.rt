@@ -71,6 +71,20 @@ impl<T: Sheet<J>, J: Naming> Glass<T, J> {
         self.front.len()
     }
 
+    /// How many reads were answered.
+    pub fn reads(&self) -> u64
+        ensures { result ≡ self.now.reads }
+    {
+        self.reads
+    }
+
+    /// How many entries were refused.
+    pub fn shuts(&self) -> u64
+        ensures { result ≡ self.now.shuts }
+    {
+        self.shuts
+    }
+
     /// Takes in what was published when it was told.
     pub fn learn(&mut self, told: Told<J>)
         ensures counts { self.new ≡ knowing self.new.known self.old }
