@@ -1,6 +1,8 @@
 -- What a board answers where letters are sent and fetched.
 use Rattle.std.specs.Prelude.{◌≡◌, ◌≢◌, ℕ, ◌+◌, true, List, [], ◌∷◌, ◌++◌, length, filter, Option, Some, None, All}
 use Rattle.be_base.specs.Counts.{RisesBy}
+use Rattle.be_base.specs.declared.names.NoRead.{NoRead}
+use Rattle.be_base.specs.declared.names.NoRead.TheVariants.{Shut, NoMemory}
 use Rattle.be_model.specs.Lies.{event_lies}
 use Rattle.be_model.specs.Letters.{PlainLetter}
 use Rattle.be_model.specs.Matching.{Assignments, satisfies}
@@ -11,7 +13,7 @@ use Rattle.be_change.specs.Requests.{Note, note}
 use Rattle.be_board.specs.declared.answers.Sent.{Sent}
 use Rattle.be_board.specs.Word.{Word, IsDelivered}
 use Rattle.be_board.specs.State.{BoardState, GoesOn, CountsPuts, WhereBox}
-use Rattle.be_board.specs.Reads.{IsReadAt}
+use Rattle.be_board.specs.Reads.{IsReadAt, Refuses}
 
 -- what a letter says to whom it is for
 abbrev pub note_of : PlainLetter → Note
@@ -30,6 +32,11 @@ pub record Sends (b b' : BoardState) : Type 0 where
   pub own : b'.word.own ≡ b.word.own
   pub notes : b'.word.notes ≡ b.word.notes
   pub alone : b.alone ≡ true → b'.word.known ≡ b.word.known
+
+-- why SEND was refused: an entry was refused, as to any read; or memory was wanting, before the read or after it
+abbrev pub RefusesSend : BoardState → BoardState → NoRead → Type 0
+RefusesSend b b' Shut = Refuses b b' Shut
+RefusesSend b b' NoMemory = Unit {0}
 
 -- of these letters those for rows of session 0 are dropped, and each other dropped one found its mailbox full, which was counted
 abbrev pub Drops : BoardState → BoardState → ByIds → ℕ → Type 0

@@ -15,7 +15,7 @@ ghost use Rattle.be_change.specs.Walk.{live_rows, tail_from, IsNoteFor};
 ghost use Rattle.be_board.specs.State.{is_gone, LeavesLetters, Tends};
 ghost use Rattle.be_board.specs.Reads.{Looks, IsReadAt, Refuses};
 ghost use Rattle.be_board.specs.Changes.{Asked};
-ghost use Rattle.be_board.specs.Letters.{IsLetterFor, Sends, Posts, Fetches};
+ghost use Rattle.be_board.specs.Letters.{IsLetterFor, Sends, RefusesSend, Posts, Fetches};
 
 use crate::answers::{Answer, Sent};
 use be_base::{Name, NoRead};
@@ -103,7 +103,7 @@ pub trait Board: Drop {
         ensures sends { Sends (state self.old) (state self.new) }
         ensures posts { IfOk result (Posts (state self.old) (state self.new) event.now) }
         ensures found { OnOk result (found.new.rows ≡ rows_of (hit_rows (state self.new).word.known event.now)) }
-        ensures refused { IfErr result (Refuses (state self.old) (state self.new)) }
+        ensures refused { IfErr result (RefusesSend (state self.old) (state self.new)) }
         ensures kept { OnErr result (LeavesLetters (state self.old) (state self.new)) };
 
     /// Takes the session's next letter out of its mailbox. Letters for an earlier session of the same mailbox are taken out

@@ -28,10 +28,10 @@ use Rattle.be_board.specs.Word.{IsDelivered}
 use Rattle.be_base.specs.declared.names.NoRead.{NoRead}
 use Rattle.be_base.specs.declared.names.NoRead.TheVariants.{Shut, NoMemory}
 use Rattle.be_board.specs.Reads.{Looks, IsReadAt, Refuses}
-use Rattle.be_board.specs.Letters.{Sends, Posts}
+use Rattle.be_board.specs.Letters.{Sends, RefusesSend, Posts}
 use Rattle.be_board.specs.Local.{letter_for, letters_for, addressed}
 use Rattle.be_desk.specs.Seats.{SeatState, IsOfSeat, IsSeat}
-use Rattle.be_desk.specs.Boards.{board_of, put_count, OnBoards, RefusesSend, AreSome, after_puts, Offers}
+use Rattle.be_desk.specs.Boards.{board_of, put_count, OnBoards, AreSome, after_puts, Offers}
 
 -- one letter more was offered, and is not, or is, among those that were put
 some_skip : (some all : List PlainLetter) (l : PlainLetter) → AreSome some all → AreSome some (all ++ l ∷ [])

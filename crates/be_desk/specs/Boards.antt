@@ -2,14 +2,11 @@
 use Rattle.std.specs.Prelude.{◌≡◌, ℕ, ◌-◌, ◌⊎◌, false, List, [], ◌∷◌, length, None}
 use Rattle.std.specs.List.{sum_by}
 use Rattle.be_base.specs.Counts.{raised}
-use Rattle.be_base.specs.declared.names.NoRead.{NoRead}
-use Rattle.be_base.specs.declared.names.NoRead.TheVariants.{Shut, NoMemory}
 use Rattle.be_model.specs.Letters.{PlainLetter}
 use Rattle.be_model.specs.Schemas.{Attributes}
 use Rattle.be_mail.specs.Letters.{seat_of}
 use Rattle.be_mail.specs.Passes.{Passes, after_put}
 use Rattle.be_board.specs.State.{BoardState}
-use Rattle.be_board.specs.Reads.{Refuses}
 use Rattle.be_desk.specs.Seats.{SeatState, word_of}
 
 -- how many letters were put, into whatever mailbox
@@ -38,11 +35,6 @@ board_of schema tends s = record {
 -- it holds of the board before and after, however often the rows were maintained
 abbrev pub OnBoards : Attributes → (BoardState → BoardState → Type 0) → SeatState → SeatState → Type 0
 OnBoards schema P s s' = (tends : ℕ) → P (board_of schema tends s) (board_of schema tends s')
-
--- why SEND was refused: an entry was refused, as to any read; or memory was wanting, before the read or after it
-abbrev pub RefusesSend : BoardState → BoardState → NoRead → Type 0
-RefusesSend b b' Shut = Refuses b b' Shut
-RefusesSend b b' NoMemory = Unit {0}
 
 -- the first are in order some of the others
 abbrev pub AreSome : List PlainLetter → List PlainLetter → Type 0

@@ -9,11 +9,11 @@ ghost use Rattle.be_model.specs.Lies.{event_lies};
 ghost use Rattle.be_change.specs.History.{hit_rows};
 ghost use Rattle.be_mail.specs.Letters.{posting, seat_of, IsFit};
 ghost use Rattle.be_mail.specs.Passes.{after_put, after_full, after_fetch, after_empty, AreOfSeat};
-ghost use Rattle.be_board.specs.Letters.{IsLetterFor, Sends, Posts, Fetches};
+ghost use Rattle.be_board.specs.Letters.{IsLetterFor, Sends, RefusesSend, Posts, Fetches};
 ghost use Rattle.be_board.specs.Local.{letters_for};
 ghost use Rattle.be_board.specs.State.{LeavesLetters};
 ghost use Rattle.be_board.specs.Word.{IsDelivered};
-ghost use Rattle.be_desk.specs.Boards.{OnBoards, RefusesSend, Offers};
+ghost use Rattle.be_desk.specs.Boards.{OnBoards, Offers};
 
 use crate::seat::Seat;
 use be_base::NoRead;
