@@ -2,18 +2,22 @@
 use Rattle.std.proofs.Common.{◌≡◌, ℕ, ◌+◌, true, List, [], ◌∷◌, length, take, filter, Option, Some, None, is_some, refl, sym, ap, ◌∙◌, subst, arith}
 use Rattle.std.proofs.lemmas.List.{append-nil}
 use Rattle.be_base.proofs.Beginnings.{BeginsWith-take}
+use Rattle.be_base.specs.declared.names.NoRead.{NoRead}
+use Rattle.be_base.specs.declared.names.NoRead.TheVariants.{Shut, NoMemory}
 use Rattle.be_model.specs.Matching.{Assignments}
 use Rattle.be_model.specs.Schemas.{Attributes}
 use Rattle.be_change.specs.Box.{with_letters}
 use Rattle.be_change.specs.History.{Entry, ByIds, is_of, hit_rows, hits}
 use Rattle.be_change.specs.Requests.{sending, sent, Note, Exchange}
 use Rattle.be_board.specs.declared.answers.Sent.{Sent}
-use Rattle.be_board.specs.Letters.{Sends, Posts}
-use Rattle.be_board.specs.State.{BoardState, CountsPuts, WhereBox}
+use Rattle.be_board.specs.Letters.{Sends, RefusesSend, Posts}
+use Rattle.be_board.specs.State.{BoardState, LeavesLetters, CountsPuts, WhereBox}
 use Rattle.be_session.specs.Bearing.{Bears}
 use Rattle.be_session.specs.Given.{GivesLetters}
+use Rattle.be_session.specs.Reads.{short_of}
+use Rattle.be_session.specs.Short.{plain_reply}
 use Rattle.be_session.specs.Steps.{Replies}
-use Rattle.be_session.proofs.Looking.{looks, tied_one}
+use Rattle.be_session.proofs.Looking.{looks, tied_one, refused_read, wanted_memory}
 
 where_told : (o o' : Option (List Note)) (P : List Note → List Note → Type 0) → WhereBox o o' P → is_some o ≡ true → is_some o' ≡ true
 where_told None None P w told = absurd cc
@@ -55,3 +59,8 @@ sends s e t b b' q p =
       puts = subst (λ (put : ℕ). CountsPuts b.box put b.counts b'.counts) (omega arith) p.puts;
       letters = letters_sent b.box b'.box e t b b' refl refl q p.read.length p.box;
     }
+
+-- an entry was refused, or memory was wanting after the read or before it
+pub refused_send : (s : Attributes) (e : Assignments) (b b' : BoardState) (no : NoRead) → Sends b b' → LeavesLetters b b' → RefusesSend b b' no → Replies s (sending e, plain_reply (short_of no)) b b'
+refused_send s e b b' Shut q letters f = refused_read s (sending e) b b' Shut refl q.goes letters f
+refused_send s e b b' NoMemory q letters f = wanted_memory s (sending e) b b' refl (record { goes = q.goes; own = q.own; letters = letters; alone = q.alone })
