@@ -1,5 +1,5 @@
 -- The board refused, and the reply says why.
-use Rattle.std.proofs.Common.{◌≡◌, sym, subst}
+use Rattle.std.proofs.Common.{sym, subst}
 use Rattle.be_board.specs.State.{BoardState}
 use Rattle.be_change.specs.Requests as asked
 use Rattle.be_session.specs.declared.short.Short.{Short}
