@@ -10,4 +10,6 @@ mod Desks
 mod Ledgers
 mod Draws
 mod Answering
+mod CoreSteps
+mod CoreRuns
 mod Openings

@@ -9,3 +9,4 @@ pub mod Maintained
 pub mod Registers
 pub mod Stands
 pub mod Ledgers
+pub mod Core

@@ -1,9 +1,9 @@
 //! How a change is taken.
 
-ghost use Rattle.std.specs.Prelude.{◌≡◌, ◌≢◌, ◌+◌, ◌<◌, ◌≤◌, ◌^◌, ◌++◌, ◌∷◌, [], true, false, length, IfOk, IfErr, OnOk, OnErr, MatchResult};
+ghost use Rattle.std.specs.Prelude.{◌≡◌, ◌≢◌, ◌+◌, ◌<◌, ◌≤◌, ◌^◌, ◌⊎◌, ◌++◌, ◌∷◌, [], true, false, length, IfOk, IfErr, OnOk, OnErr, MatchResult};
 ghost use Rattle.std.specs.Arc.{arc_value};
 ghost use Rattle.be_base.specs.Lists.{BeginsWith};
-ghost use Rattle.be_base.specs.declared.limits.TheConstants.{LOG_CHANGES};
+ghost use Rattle.be_base.specs.declared.limits.TheConstants.{COUNT_END, LOG_CHANGES};
 ghost use Rattle.be_change.specs.Entries.{entry_of};
 ghost use Rattle.be_change.specs.History.{session_of, IsWellFormed};
 ghost use Rattle.be_change.specs.Made.{change_named};
@@ -11,9 +11,11 @@ ghost use Rattle.be_change.specs.Requests as asked;
 ghost use Rattle.be_change.specs.Sound.{MayAppend, Sound};
 ghost use Rattle.be_model.specs.Lies.{conj_lies};
 ghost use Rattle.be_board.specs.Changes.{Answers};
+ghost use Rattle.be_board.specs.Word.{top};
 ghost use Rattle.be_desk.specs.Asks.{request_of, ask_lies};
 ghost use Rattle.be_desk.specs.Changes.{Agrees, IsRift, IsRefusal, Changed, Took, Counts, Continues, serial_in};
-ghost use Rattle.be_desk.specs.Desks.{DeskState, HasHeld};
+ghost use Rattle.be_desk.specs.Core.{IsRunOfCore};
+ghost use Rattle.be_desk.specs.Desks.{DeskState, HasHeld, freed};
 ghost use Rattle.be_desk.specs.Seats.{SeatState, word_of, is_over, list_in};
 
 use crate::ask::Ask;
@@ -48,11 +50,24 @@ impl<T: Sheet<J>, J: Naming + BoxNames> Desk<T, J> {
         ensures glass { self.new.glass ≡ self.old.glass }
         ensures answers { Answers (word_of seat.old) (word_of seat.new) (request_of ask) result }
         ensures formed { IsWellFormed seat.new.glass.known }
+        ensures core { IsRunOfCore self.old self.new seat.old seat.new (request_of ask) result }
     {
+        // That at most one change is held, and then that the list is well formed, comes to light at the desk's length.
+        let _ = self.len();
         let answer = self.decide(rt, alloc, seat, ask);
+        let _ = self.len();
+        self.few(seat);
         // That what the seat knows is well formed comes to light at its session.
         let _ = seat.session();
         answer
+    }
+
+    // A session whose changes lie in the list has few of them. To call it does nothing.
+    fn few(&self, seat: &Seat<T, J>)
+        ensures { top seat.now.own ≤ length self.now.list → serial_in seat.now < COUNT_END }
+    {
+        let _ = self.ledger.len();
+        let _serial = seat.serial;
     }
 
     fn decide<R: Wait>(&mut self, rt: &R, alloc: Global, seat: &mut Seat<T, J>, ask: Ask) -> Answer
@@ -62,6 +77,7 @@ impl<T: Sheet<J>, J: Naming + BoxNames> Desk<T, J> {
         ensures counts { Counts seat.old seat.new result }
         ensures seat { Continues seat.old seat.new }
         ensures glass { self.new.glass ≡ self.old.glass }
+        ensures spared { (result ≡ Answer.NoMemory) → (self.new ≡ self.old) ⊎ (self.new ≡ freed self.old) }
     {
         match self.free(rt) {
             Err(NoMemory) => return Answer::NoMemory,
@@ -207,6 +223,7 @@ impl<T: Sheet<J>, J: Naming + BoxNames> Desk<T, J> {
         ensures took { Took self.old self.new seat.old seat.new (entry_of (arc_value change)) result }
         ensures seat { Continues seat.old seat.new × (seat.new.splits ≡ seat.old.splits) × (seat.new.rift ≡ seat.old.rift) }
         ensures glass { self.new.glass ≡ self.old.glass }
+        ensures spared { (result ≡ Answer.NoMemory) → self.new ≡ self.old }
     {
         let leaves = is_leave_of(&change, seat.session);
         begins(&seat.made, self.press.whole());

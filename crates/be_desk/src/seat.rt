@@ -109,6 +109,13 @@ impl<T: Sheet<J>, J: Naming + BoxNames> Seat<T, J> {
         self.gone
     }
 
+    /// How often the desk told it two numbers that differ. A count at the end of its type stays there.
+    pub fn splits(&self) -> u64
+        ensures { result ≡ self.now.splits }
+    {
+        self.splits
+    }
+
     /// The numbers of the last Split, where there was one.
     pub fn rift(&self) -> Option<Rift>
         ensures rift { option_map numbers_of result ≡ self.now.rift }
