@@ -9,3 +9,4 @@ mod Ledgers
 mod Draws
 mod Answering
 mod Openings
+mod Closing

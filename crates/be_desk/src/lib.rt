@@ -10,6 +10,7 @@
 mod ask;
 mod broom;
 mod changing;
+mod checking;
 mod desk;
 mod ledger;
 mod maintained;
@@ -18,6 +19,7 @@ mod register;
 mod rift;
 mod seat;
 mod stands;
+mod stray;
 
 pub use ask::Ask;
 pub use broom::Broom;
@@ -26,3 +28,4 @@ pub use maintained::Maintained;
 pub use opening::{make_desk, open_desk};
 pub use rift::Rift;
 pub use seat::Seat;
+pub use stray::Stray;
