@@ -9,4 +9,5 @@ mod Ledgers
 mod Draws
 mod Answering
 mod Openings
+mod Places
 mod Closing

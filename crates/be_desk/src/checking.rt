@@ -27,7 +27,7 @@ impl<T: Sheet<J>, J: Naming + BoxNames> Desk<T, J> {
         self.meet_all(seats);
         let at = self.first_unkept(seats);
         let made = first_from(seats, at);
-        if at == self.ledger.len() && made.is_none() {
+        if agree(at, self.ledger.len(), made) {
             return Ok(None);
         }
         let listed = self.change_at(Some(at))?;
@@ -111,16 +111,24 @@ impl<T: Sheet<J>, J: Naming + BoxNames> Seat<T, J> {
     fn next_from(&self, place: u64) -> Option<u64>
         ensures { IsNextPlace place self.now.own result }
     {
-        match self.places.binary_search(&place) {
-            Ok(_) => Some(place),
-            Err(next) => self.places.get(next).copied(),
+        let next = match self.places.binary_search(&place) {
+            Ok(_) => return Some(place),
+            Err(next) => next,
+        };
+        if next < self.places.len() {
+            Some(self.places[next])
+        } else {
+            None
         }
     }
 
     fn has(&self, place: u64) -> bool
         ensures { MatchBool result (HasPlace place self.now.own) (All (λ p. p.0 ≢ place) self.now.own) }
     {
-        self.next_from(place) == Some(place)
+        match self.next_from(place) {
+            Some(next) => next == place,
+            None => false,
+        }
     }
 }
 
@@ -162,4 +170,11 @@ fn least(a: Option<u64>, b: Option<u64>) -> Option<u64>
         (Some(a), None) => Some(a),
         (None, b) => b,
     }
+}
+
+// Whether the records and the list, which agree up to this place, both end there.
+fn agree(at: u64, end: u64, made: Option<u64>) -> bool
+    ensures { MatchBool result ((at ≡ end) × (made ≡ None)) (at ≡ end → made ≢ None) }
+{
+    at == end && made.is_none()
 }
