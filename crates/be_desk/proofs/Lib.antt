@@ -9,5 +9,5 @@ mod Ledgers
 mod Draws
 mod Answering
 mod Openings
-mod Places
-mod Closing
+pub mod Places
+pub mod Closing

@@ -1,6 +1,6 @@
 //! What shows that the records of the seats and the list differ.
 
-ghost use Rattle.std.specs.Prelude.{◌≡◌, ◌≢◌, option_map, None};
+ghost use Rattle.std.specs.Prelude.{◌≡◌, option_map, IfSome};
 ghost use Rattle.std.specs.Arc.{arc_value};
 ghost use Rattle.be_change.specs.Entries.{entry_of};
 
@@ -41,18 +41,16 @@ impl Stray {
         self.at
     }
 
-    /// The next place that a record has, there or behind.
-    pub fn place(&self) -> Option<u64>
-        ensures { result ≡ self.now.made }
+    /// The next place that a record has, there or behind, and the list's change at it. A record tells no change of its
+    /// own, so there is none where the list ends before that place.
+    pub fn made(&self) -> Option<(u64, Option<&Arc<Change>>)>
+        ensures place { option_map (λ p. p.0) result ≡ self.now.made }
+        ensures change { IfSome result (λ p. option_map (λ c. entry_of (arc_value c.now)) p.1 ≡ self.now.change) }
     {
-        self.made
-    }
-
-    /// The list's change at that next place, where the list is so long.
-    pub fn made(&self) -> Option<&Arc<Change>>
-        ensures { option_map (λ c. entry_of (arc_value c.now)) result ≡ self.now.change }
-    {
-        self.change.as_ref()
+        match self.made {
+            None => None,
+            Some(place) => Some((place, self.change.as_ref())),
+        }
     }
 
     /// The list's change at the place from which on they differ. There is none where the list ends there.
