@@ -13,3 +13,5 @@ mod Answering
 mod CoreSteps
 mod CoreRuns
 mod Openings
+pub mod Places
+pub mod Closing

@@ -10,6 +10,7 @@
 mod ask;
 mod broom;
 mod changing;
+mod checking;
 mod desk;
 mod ledger;
 mod letters;
@@ -20,6 +21,7 @@ mod register;
 mod rift;
 mod seat;
 mod stands;
+mod stray;
 
 pub use ask::Ask;
 pub use broom::Broom;
@@ -28,3 +30,4 @@ pub use maintained::Maintained;
 pub use opening::{make_desk, open_desk};
 pub use rift::Rift;
 pub use seat::Seat;
+pub use stray::Stray;

@@ -1,0 +1,231 @@
+-- The records of all seats against the list.
+use Rattle.std.proofs.Common.{◌≡◌, ◌≢◌, ℕ, zero, suc, ◌+◌, ◌<◌, ◌≤◌, ◌==◌, ◌⊎◌, Bool, true, false, cond, List, [], ◌∷◌, ◌++◌, length, Option, Some, None, slice_get, get_or, inl, inr, refl, sym, ap, ◌∙◌, subst, arith, length-append, append_assoc}
+use Rattle.std.specs.List.{All, AllPairs, Any, Contains}
+use Rattle.std.proofs.lemmas.Bool.{cases_order, eqb-true}
+use Rattle.std.proofs.lemmas.List.{append-nil, get_or_at, get_or_default}
+use Rattle.std.proofs.lemmas.List.Elements.{All-cons, All-head, All-nil, All-tail}
+use Rattle.std.proofs.lemmas.Option.{slice_get-get_or, slice_get_past, slice_get_within}
+use Rattle.atomic_table.specs.Seated.{TableId}
+use Rattle.be_base.specs.Lists.{BeginsWith}
+use Rattle.be_change.specs.History.{Entry, session_of, placed_from, placed_of, IsWellFormed}
+use Rattle.be_change.proofs.Extends.{get-append}
+use Rattle.be_mail.specs.Letters.{seat_of}
+use Rattle.be_board.specs.Word.{own_of, IsDelivered, Keeps}
+use Rattle.be_desk.specs.Seats.{SeatState, word_of, IsKeptSeat, put_placed, placed_at, IsRecord, IsOfSeat}
+use Rattle.be_desk.specs.Closing.{AreApart, KeepsRecord, AreRecorded, AreKept, IsListed, AreListed, HasPlace, IsFirstPlace, entry_at, StrayState, Differ, IsStray, RisesFrom, IsBeside, IsKeptAt, AreKeptBelow, IsUnkeptAt}
+use Rattle.be_desk.proofs.Places.{In, in_any}
+
+-- the pair is the list's own
+abbrev Stands : List Entry → ℕ × Entry → Type 0
+Stands h p = slice_get h p.0 ≡ Some p.1
+
+-- what a record shows beside the list
+
+stands_put : (h : List Entry) (p : ℕ) (o : Option Entry) (rest : List (ℕ × Entry)) → slice_get h p ≡ o → All (Stands h) rest → All (Stands h) (put_placed p o rest)
+stands_put h p None rest at all = all
+stands_put h p (Some e) rest at all = All-cons (Stands h) (p, e) rest at all
+
+stands_placed : (h : List Entry) (ps : List ℕ) → All (Stands h) (placed_at h ps)
+stands_placed h [] = All-nil (Stands h)
+stands_placed h (p ∷ ps) = stands_put h p (slice_get h p) (placed_at h ps) refl (stands_placed h ps)
+
+rises_lower : (n m : ℕ) (own : List (ℕ × Entry)) → n ≤ m → RisesFrom m own → RisesFrom n own
+rises_lower n m [] le up = tt
+rises_lower n m (q ∷ qs) le up = (omega (arith, le, up.0), up.1)
+
+rises_put : (n p : ℕ) (o : Option Entry) (rest : List (ℕ × Entry)) → n ≤ p → RisesFrom (p + 1) rest → RisesFrom n (put_placed p o rest)
+rises_put n p None rest le up = rises_lower n (p + 1) rest (omega (arith, le)) up
+rises_put n p (Some e) rest le up = (le, up)
+
+rises_placed : (h : List Entry) (n : ℕ) (ps : List ℕ) → AllPairs (λ (i j : ℕ). i < j) ps → All (λ (p : ℕ). n ≤ p) ps → RisesFrom n (placed_at h ps)
+rises_placed h n [] up from = tt
+rises_placed h n (p ∷ ps) up from =
+    rises_put n p (slice_get h p) (placed_at h ps) (All-head (λ (q : ℕ). n ≤ q) p ps from)
+    (rises_placed h (p + 1) ps (λ i j d lt within. up (suc i) (suc j) d (omega (arith, lt)) (omega (arith, within))) (λ k d within. omega (arith, up zero (suc k) d (omega arith) (omega (arith, within)))))
+
+-- of two lists, of which one begins the other, the shorter has the longer's entries
+listed_either : (h made : List Entry) (p : ℕ) (e : Entry) → (BeginsWith h made) ⊎ (BeginsWith made h) → slice_get made p ≡ Some e → p < length h → slice_get h p ≡ Some e
+listed_either h made p e (inl more) at within = ap (λ (l : List Entry). slice_get l p) more.1 ∙ get-append made more.0 p e at
+listed_either h made p e (inr more) at within =
+    let here : slice_get h p ≡ Some (get_or h p e) = slice_get-get_or h p e within in
+    here ∙ (sym (ap (λ (l : List Entry). slice_get l p) more.1 ∙ get-append h more.0 p (get_or h p e) here) ∙ at)
+
+pub beside : (boxes : List TableId) (h made : List Entry) (ps : List ℕ) (s : SeatState) → IsRecord made ps → s.own ≡ placed_at made ps → (BeginsWith h made) ⊎ (BeginsWith made h)
+    → All (IsOfSeat (length boxes) s.passes.seat s.session) s.own → IsBeside boxes h s
+beside boxes h made ps s r own either all = record {
+  listed = subst (λ (l : List (ℕ × Entry)). All (IsListed (length h) h) l) (sym own)
+      (λ k d lt within. listed_either h made _ _ either (stands_placed made ps k d lt) within);
+  rising = subst (RisesFrom 0) (sym own) (rises_placed made 0 ps r.rising (λ k d lt. omega arith));
+  own_all = all;
+}
+
+-- a record has just a session's entries, where it has each of them
+
+in_above : (n p : ℕ) (own : List (ℕ × Entry)) → RisesFrom n own → In p own → n ≤ p
+in_above n p [] up i = absurd i
+in_above n p (q ∷ qs) up (inl is) = omega (arith, up.0, is)
+in_above n p (q ∷ qs) up (inr i) = omega (arith, up.0, in_above (q.0 + 1) p qs up.1 i)
+
+-- from the place n on, each entry of the session has its place in the record
+abbrev HasAll : ℕ → List Entry → ℕ → List (ℕ × Entry) → Type 0
+HasAll k h n own = (p : ℕ) (e : Entry) → n ≤ p → slice_get h p ≡ Some e → session_of e ≡ k → In p own
+
+skipped : (k n : ℕ) (e : Entry) (es h : List Entry) (own : List (ℕ × Entry)) (b : Bool) → (session_of e == k) ≡ b → slice_get h n ≡ Some e → RisesFrom (n + 1) own → HasAll k h n own
+    → placed_from k (n + 1) es ≡ own_of k own → cond b ((n, e) ∷ placed_from k (n + 1) es) (placed_from k (n + 1) es) ≡ own_of k own
+skipped k n e es h own true is at up has rest = absurd (omega (arith, in_above (n + 1) n own up (has n e (omega arith) at (eqb-true (session_of e) k is))))
+skipped k n e es h own false is at up has rest = rest
+
+both : (b : Bool) (x : ℕ × Entry) (xs ys : List (ℕ × Entry)) → xs ≡ ys → cond b (x ∷ xs) xs ≡ cond b (x ∷ ys) ys
+both true x xs ys same = ap (λ (l : List (ℕ × Entry)). x ∷ l) same
+both false x xs ys same = same
+
+matched : (k n : ℕ) (e : Entry) (P : List (ℕ × Entry)) (q : ℕ × Entry) (qs : List (ℕ × Entry)) → q ≡ (n, e) → P ≡ own_of k qs
+    → cond (session_of e == k) ((n, e) ∷ P) P ≡ cond (session_of q.1 == k) (q ∷ own_of k qs) (own_of k qs)
+matched k n e P q qs is rest =
+    subst (λ (z : ℕ × Entry). cond (session_of e == k) ((n, e) ∷ P) P ≡ cond (session_of z.1 == k) (z ∷ own_of k qs) (own_of k qs)) (sym is) (both (session_of e == k) (n, e) P (own_of k qs) rest)
+
+some_same : (x y : Entry) → Some x ≡ Some y → x ≡ y
+some_same x y same = cc
+
+pair_is : (h : List Entry) (p : ℕ) (e : Entry) (q : ℕ × Entry) → q.0 ≡ p → slice_get h p ≡ Some e → slice_get h q.0 ≡ Some q.1 → q ≡ (p, e)
+pair_is h p e q place at stands =
+    let entry : q.1 ≡ e = some_same q.1 e (sym stands ∙ (ap (λ (n : ℕ). slice_get h n) place ∙ at)) in
+    ap (λ (n : ℕ). (n, q.1)) place ∙ ap (λ (x : Entry). (p, x)) entry
+
+has_later : (k n : ℕ) (h : List Entry) (q : ℕ × Entry) (qs : List (ℕ × Entry)) → q.0 ≡ n → HasAll k h n (q ∷ qs) → HasAll k h (n + 1) qs
+has_later k n h q qs here has p e le at of = step (has p e (omega (arith, le)) at of)
+  where
+    step : In p (q ∷ qs) → In p qs
+    step (inl is) = absurd (omega (arith, is, here, le))
+    step (inr i) = i
+
+entry_here : (h front : List Entry) (e : Entry) (es : List Entry) (n : ℕ) → h ≡ front ++ e ∷ es → n ≡ length front → slice_get h n ≡ Some e
+entry_here h front e es n all long =
+    let within : n < length (front ++ e ∷ es) = omega (arith, long, length-append front (e ∷ es)) in
+    ap (λ (l : List Entry). slice_get l n) all ∙ (slice_get-get_or (front ++ e ∷ es) n e within ∙ ap (λ (x : Entry). Some x) (get_or_at front e es e n (sym long)))
+
+by_place : (k n : ℕ) (h : List Entry) (e : Entry) (es : List Entry) (q : ℕ × Entry) (qs : List (ℕ × Entry)) → slice_get h n ≡ Some e → RisesFrom n (q ∷ qs) → All (Stands h) (q ∷ qs) → HasAll k h n (q ∷ qs)
+    → (n ≡ q.0) ⊎ ((n < q.0) ⊎ (q.0 < n))
+    → ((own : List (ℕ × Entry)) → RisesFrom (n + 1) own → All (Stands h) own → HasAll k h (n + 1) own → placed_from k (n + 1) es ≡ own_of k own)
+    → placed_from k n (e ∷ es) ≡ own_of k (q ∷ qs)
+by_place k n h e es q qs at up stands has (inl is) rest =
+    matched k n e (placed_from k (n + 1) es) q qs (pair_is h n e q (sym is) at (All-head (Stands h) q qs stands))
+    (rest qs (subst (λ (m : ℕ). RisesFrom (m + 1) qs) (sym is) up.1) (All-tail (Stands h) q qs stands) (has_later k n h q qs (sym is) has))
+by_place k n h e es q qs at up stands has (inr (inr lt)) rest = absurd (omega (arith, lt, up.0))
+by_place k n h e es q qs at up stands has (inr (inl lt)) rest =
+    let up' : RisesFrom (n + 1) (q ∷ qs) = (omega (arith, lt), up.1) in
+    skipped k n e es h (q ∷ qs) (session_of e == k) refl at up' has (rest (q ∷ qs) up' stands (λ p x le a of. has p x (omega (arith, le)) a of))
+
+-- the entries of the session in the rest of the list, which begins at the place n
+rest_kept : (k : ℕ) (h front es : List Entry) (n : ℕ) (own : List (ℕ × Entry)) → h ≡ front ++ es → n ≡ length front → RisesFrom n own → All (Stands h) own → HasAll k h n own
+    → placed_from k n es ≡ own_of k own
+rest_kept k h front [] n [] all long up stands has = refl
+rest_kept k h front [] n (q ∷ qs) all long up stands has =
+    absurd (omega (arith, slice_get_within h q.0 q.1 (All-head (Stands h) q qs stands), up.0, long, ap (λ (l : List Entry). length l) all, length-append front []))
+rest_kept k h front (e ∷ es) n [] all long up stands has =
+    let next : h ≡ (front ++ e ∷ []) ++ es = all ∙ sym (append_assoc front (e ∷ []) es) in
+    let longer : n + 1 ≡ length (front ++ e ∷ []) = omega (arith, long, length-append front (e ∷ [])) in
+    let at : slice_get h n ≡ Some e = entry_here h front e es n all long in
+    skipped k n e es h [] (session_of e == k) refl at tt has (rest_kept k h (front ++ e ∷ []) es (n + 1) [] next longer tt stands (λ p x le a of. has p x (omega (arith, le)) a of))
+rest_kept k h front (e ∷ es) n (q ∷ qs) all long up stands has =
+    let next : h ≡ (front ++ e ∷ []) ++ es = all ∙ sym (append_assoc front (e ∷ []) es) in
+    let longer : n + 1 ≡ length (front ++ e ∷ []) = omega (arith, long, length-append front (e ∷ [])) in
+    let at : slice_get h n ≡ Some e = entry_here h front e es n all long in
+    by_place k n h e es q qs at up stands has (cases_order n q.0) (λ own up' stands' has'. rest_kept k h (front ++ e ∷ []) es (n + 1) own next longer up' stands' has')
+
+-- what was found is found at the one seat that has this number
+only : (seats : List SeatState) (number : ℕ) (P : SeatState → Type 0) → AreApart seats → Any (λ (t : SeatState). (t.passes.seat ≡ number) × P t) seats → All (λ (s : SeatState). s.passes.seat ≡ number → P s) seats
+only seats number P apart found j d within is = step (cases_order found.0 j)
+  where
+    x_at : get_or seats found.0 d ≡ found.1
+    x_at = get_or_default seats found.0 d found.1 found.2 ∙ found.3
+
+    number_at : (get_or seats found.0 d).passes.seat ≡ number
+    number_at = ap (λ (s : SeatState). s.passes.seat) x_at ∙ found.4.0
+
+    step : (found.0 ≡ j) ⊎ ((found.0 < j) ⊎ (j < found.0)) → P (get_or seats j d)
+    step (inr (inl lt)) = absurd (apart found.0 j d lt within (number_at ∙ sym is))
+    step (inl same) = subst P (sym x_at ∙ ap (λ (i : ℕ). get_or seats i d) same) found.4.1
+    step (inr (inr lt)) = absurd (apart j found.0 d lt found.2 (is ∙ sym number_at))
+
+keeps_record : (boxes : List TableId) (h : List Entry) (seats : List SeatState) → AreApart seats → AreKeptBelow (length h) (length boxes) h seats
+    → All (IsBeside boxes h) seats → All (λ (s : SeatState). All (λ (p : ℕ × Entry). p.0 < length h) s.own) seats → All (KeepsRecord boxes h) seats
+keeps_record boxes h seats apart kept besides low j d within k some is =
+    let s : SeatState = get_or seats j d in
+    let b : IsBeside boxes h s = besides j d within in
+    rest_kept k h [] h 0 s.own refl refl b.rising (λ i x lt. b.listed i x lt (low j d within i x lt))
+    (λ p e le at of. in_any p s.own
+    (only seats (seat_of (length boxes) (session_of e)) (λ (t : SeatState). HasPlace p t.own) apart (kept p e (slice_get_within h p e at) at (omega (arith, of, some))) j d within
+    (sym is ∙ ap (seat_of (length boxes)) (sym of))))
+
+contains_pair : (h : List Entry) (p : ℕ) (e : Entry) (own : List (ℕ × Entry)) → All (IsListed (length h) h) own → slice_get h p ≡ Some e → HasPlace p own → Contains own (p, e)
+contains_pair h p e own listed at found =
+    let q : ℕ × Entry = found.1 in
+    let low : p < length h = slice_get_within h p e at in
+    let stands : slice_get h q.0 ≡ Some q.1 = subst (IsListed (length h) h) found.3 (listed found.0 q found.2) (omega (arith, found.4, low)) in
+    (found.0, found.2, subst (λ (z : ℕ × Entry). get_or own found.0 z ≡ z) (pair_is h p e q found.4 at stands) found.3)
+
+recorded : (n : ℕ) (boxes : List TableId) (h : List Entry) (seats : List SeatState) → AreKeptBelow n (length boxes) h seats → All (IsBeside boxes h) seats → AreRecorded n h seats
+recorded n boxes h seats kept besides p e lt at some =
+    let found = kept p e lt at some in
+    let b : IsBeside boxes h found.1 = subst (IsBeside boxes h) found.3 (besides found.0 found.1 found.2) in
+    (found.0, found.1, found.2, found.3, contains_pair h p e found.1.own b.listed at found.4.1)
+
+pub are_kept : (boxes : List TableId) (h : List Entry) (seats : List SeatState) → AreApart seats → All (IsBeside boxes h) seats → AreKeptBelow (length h) (length boxes) h seats → IsFirstPlace (length h) seats None → AreKept boxes h seats
+are_kept boxes h seats apart besides kept low = record { records = keeps_record boxes h seats apart kept besides low; entries = recorded (length h) boxes h seats kept besides }
+
+-- the place isn't the next one of any record
+not_made : (boxes : List TableId) (h : List Entry) (seats : List SeatState) (at : ℕ) (made : Option ℕ) → All (IsBeside boxes h) seats → IsUnkeptAt (length boxes) h seats at → IsFirstPlace at seats made → made ≢ Some at
+not_made boxes h seats at made besides unkept first is =
+    let found = (subst (IsFirstPlace at seats) is first).1 in
+    let s : SeatState = found.1 in
+    let q : ℕ × Entry = found.4.1 in
+    let place : q.0 ≡ at = found.4.4 in
+    let b : IsBeside boxes h s = subst (IsBeside boxes h) found.3 (besides found.0 s found.2) in
+    let low : at < length h = slice_get_within h at unkept.0 unkept.1 in
+    let stands : slice_get h q.0 ≡ Some q.1 = subst (IsListed (length h) h) found.4.3 (b.listed found.4.0 q found.4.2) (omega (arith, place, low)) in
+    let same : q ≡ (at, unkept.0) = pair_is h at unkept.0 q place unkept.1 stands in
+    let of : IsOfSeat (length boxes) s.passes.seat s.session q = subst (IsOfSeat (length boxes) s.passes.seat s.session) found.4.3 (b.own_all found.4.0 q found.4.2) in
+    let none : s.passes.seat ≡ seat_of (length boxes) (session_of unkept.0) → All (λ (z : ℕ × Entry). z.0 ≢ at) s.own =
+    subst (λ (t : SeatState). t.passes.seat ≡ seat_of (length boxes) (session_of unkept.0) → All (λ (z : ℕ × Entry). z.0 ≢ at) t.own) found.3 (unkept.3 found.0 s found.2) in
+    none (sym of.seat_is ∙ ap (λ (z : ℕ × Entry). seat_of (length boxes) (session_of z.1)) same) found.4.0 q found.4.2 (ap (λ (z : ℕ × Entry). z.0) found.4.3 ∙ place)
+
+differ : (boxes : List TableId) (h : List Entry) (seats : List SeatState) (at : ℕ) (made : Option ℕ) (o : Option Entry) → All (IsBeside boxes h) seats → at ≤ length h → slice_get h at ≡ o
+    → (at < length h → IsUnkeptAt (length boxes) h seats at) → (at ≡ length h → made ≢ None) → IsFirstPlace at seats made → Differ at o made
+differ boxes h seats at made None besides le is here end first =
+    end (step (cases_order (length h) at))
+  where
+    step : (length h ≡ at) ⊎ ((length h < at) ⊎ (at < length h)) → at ≡ length h
+    step (inr (inl lt)) = absurd (omega (arith, lt, le))
+    step (inl same) = sym same
+    step (inr (inr lt)) = absurd (none_some (slice_get_some h at lt))
+      where
+        slice_get_some : (l : List Entry) (i : ℕ) → i < length l → (e : Entry) × (slice_get l i ≡ Some e)
+        slice_get_some [] i lt = absurd (omega (arith, lt))
+        slice_get_some (e ∷ es) zero lt = (e, refl)
+        slice_get_some (e ∷ es) (suc i) lt = slice_get_some es i (omega (arith, lt))
+
+        none_some : (e : Entry) × (slice_get h at ≡ Some e) → ⊥
+        none_some found = absurd (never found.0 (sym is ∙ found.1))
+          where
+            never : (e : Entry) → None ≡ Some e → ⊥
+            never e same = absurd cc
+differ boxes h seats at made (Some e) besides le is here end first =
+    let unkept = here (slice_get_within h at e is) in
+    (subst (λ (x : Entry). 0 < session_of x) (some_same unkept.0 e (sym unkept.1 ∙ is)) unkept.2, not_made boxes h seats at made besides unkept first)
+
+pub is_stray : (boxes : List TableId) (h : List Entry) (seats : List SeatState) (s : StrayState) → All (IsBeside boxes h) seats → s.at ≤ length h → AreKeptBelow s.at (length boxes) h seats
+    → (s.at < length h → IsUnkeptAt (length boxes) h seats s.at) → (s.at ≡ length h → s.made ≢ None) → IsFirstPlace s.at seats s.made → s.listed ≡ slice_get h s.at → s.change ≡ entry_at h s.made → IsStray h seats s
+is_stray boxes h seats s besides le kept here end first listed change = record {
+  within = le;
+  recorded = recorded s.at boxes h seats kept besides;
+  own = λ j d within i x lt low. (besides j d within).listed i x lt (omega (arith, low, le));
+  listed = listed;
+  made = first;
+  change = change;
+  differ = subst (λ (o : Option Entry). Differ s.at o s.made) (sym listed) (differ boxes h seats s.at s.made (slice_get h s.at) besides le refl here end first);
+}
+
+-- a list that keeps the seat's record, and all else that the seat vouches for, keeps its word
+pub keeps_word : (boxes : List TableId) (h : List Entry) (s : SeatState) → IsKeptSeat boxes s → KeepsRecord boxes h s → IsWellFormed h → BeginsWith h s.glass.known → All (IsDelivered h) (word_of s).notes → Keeps h (word_of s)
+keeps_word boxes h s is keeps formed known notes = record { formed = formed; known = known; own = keeps s.session is.somebody is.seat_is; notes = notes }

@@ -1,0 +1,108 @@
+-- What the records of all seats are against the list, when the server closes.
+use Rattle.std.specs.Prelude.{◌≡◌, ◌≢◌, ℕ, ◌<◌, ◌≤◌, ◌+◌, ⊤, List, [], ◌∷◌, length, All, AllPairs, Any, Contains, min, Option, Some, None, slice_get}
+use Rattle.atomic_table.specs.Seated.{TableId}
+use Rattle.be_change.specs.History.{Entry, session_of, placed_of}
+use Rattle.be_mail.specs.Letters.{seat_of}
+use Rattle.be_board.specs.Word.{own_of}
+use Rattle.be_desk.specs.Seats.{SeatState, IsOfSeat}
+
+-- no two of them are the same seat
+abbrev pub AreApart : List SeatState → Type 0
+AreApart seats = AllPairs (λ (s t : SeatState). s.passes.seat ≢ t.passes.seat) seats
+
+-- for each session that the seat may have, its record has that session's entries of the list, at their places, and no others
+abbrev pub KeepsRecord : List TableId → List Entry → SeatState → Type 0
+KeepsRecord boxes h s = (k : ℕ) → 0 < k → seat_of (length boxes) k ≡ s.passes.seat → placed_of k h ≡ own_of k s.own
+
+-- each of the first n entries, but those of the opening, stands in the record of one of these seats, at its place
+abbrev pub AreRecorded : ℕ → List Entry → List SeatState → Type 0
+AreRecorded n h seats = (p : ℕ) (e : Entry) → p < n → slice_get h p ≡ Some e → 0 < session_of e → Any (λ (s : SeatState). Contains s.own (p, e)) seats
+
+-- the records keep the list
+pub record AreKept (boxes : List TableId) (h : List Entry) (seats : List SeatState) : Type 0 where
+  pub records : All (KeepsRecord boxes h) seats
+  pub entries : AreRecorded (length h) h seats
+
+-- a pair that lies below n is the list's own
+abbrev pub IsListed : ℕ → List Entry → ℕ × Entry → Type 0
+IsListed n h p = p.0 < n → slice_get h p.0 ≡ Some p.1
+
+-- and so for each pair of each record
+abbrev pub AreListed : ℕ → List Entry → List SeatState → Type 0
+AreListed n h seats = All (λ (s : SeatState). All (IsListed n h) s.own) seats
+
+-- the record has an entry at this place
+abbrev pub HasPlace : ℕ → List (ℕ × Entry) → Type 0
+HasPlace n own = Any (λ (p : ℕ × Entry). p.0 ≡ n) own
+
+-- it is the record's first place from `from` on, where there is one
+abbrev pub IsNextPlace : ℕ → List (ℕ × Entry) → Option ℕ → Type 0
+IsNextPlace from own None = All (λ (p : ℕ × Entry). p.0 < from) own
+IsNextPlace from own (Some n) = (from ≤ n) × HasPlace n own × All (λ (p : ℕ × Entry). from ≤ p.0 → n ≤ p.0) own
+
+-- it is the first such place in any of the records
+abbrev pub IsFirstPlace : ℕ → List SeatState → Option ℕ → Type 0
+IsFirstPlace from seats None = All (λ (s : SeatState). All (λ (p : ℕ × Entry). p.0 < from) s.own) seats
+IsFirstPlace from seats (Some n) =
+    (from ≤ n) × Any (λ (s : SeatState). HasPlace n s.own) seats × All (λ (s : SeatState). All (λ (p : ℕ × Entry). from ≤ p.0 → n ≤ p.0) s.own) seats
+
+-- the list's entry at this place, where there are both
+abbrev pub entry_at : List Entry → Option ℕ → Option Entry
+entry_at h None = None
+entry_at h (Some n) = slice_get h n
+
+pub record StrayState : Type 0 where
+  -- where the records and the list first differ
+  pub at : ℕ
+  -- the list's entry there
+  pub listed : Option Entry
+  -- the next place that a record has, there or behind, and the list's entry at it
+  pub made : Option ℕ
+  pub change : Option Entry
+
+-- the list's entry isn't one of the opening, and no record has this place; or the list has ended, and a record has not
+abbrev pub Differ : ℕ → Option Entry → Option ℕ → Type 0
+Differ at None made = made ≢ None
+Differ at (Some e) made = (0 < session_of e) × (made ≢ Some at)
+
+-- below this place the records and the list agree, and here they differ
+pub record IsStray (h : List Entry) (seats : List SeatState) (s : StrayState) : Type 0 where
+  pub within : s.at ≤ length h
+  pub recorded : AreRecorded s.at h seats
+  pub own : AreListed s.at h seats
+  pub listed : s.listed ≡ slice_get h s.at
+  pub made : IsFirstPlace s.at seats s.made
+  pub change : s.change ≡ entry_at h s.made
+  pub differ : Differ s.at s.listed s.made
+
+-- what follows serves the proof
+
+-- the least of both, where there are two
+abbrev pub least_of : Option ℕ → Option ℕ → Option ℕ
+least_of (Some a) (Some b) = Some (min a b)
+least_of (Some a) None = Some a
+least_of None b = b
+
+-- the places rise, from n on
+abbrev pub RisesFrom : ℕ → List (ℕ × Entry) → Type 0
+RisesFrom n [] = ⊤
+RisesFrom n (p ∷ ps) = (n ≤ p.0) × RisesFrom (p.0 + 1) ps
+
+-- what holds of a seat's record beside the list, whichever is longer
+pub record IsBeside (boxes : List TableId) (h : List Entry) (s : SeatState) : Type 0 where
+  pub listed : All (IsListed (length h) h) s.own
+  pub rising : RisesFrom 0 s.own
+  pub own_all : All (IsOfSeat (length boxes) s.passes.seat s.session) s.own
+
+-- the record of the entry's seat has its place
+abbrev pub IsKeptAt : ℕ → List SeatState → ℕ → Entry → Type 0
+IsKeptAt count seats p e = Any (λ (s : SeatState). (s.passes.seat ≡ seat_of count (session_of e)) × HasPlace p s.own) seats
+
+abbrev pub AreKeptBelow : ℕ → ℕ → List Entry → List SeatState → Type 0
+AreKeptBelow n count h seats = (p : ℕ) (e : Entry) → p < n → slice_get h p ≡ Some e → 0 < session_of e → IsKeptAt count seats p e
+
+-- the entry at this place has a session, and the record of the session's seat doesn't have its place
+abbrev pub IsUnkeptAt : ℕ → List Entry → List SeatState → ℕ → Type 0
+IsUnkeptAt count h seats p =
+    (e : Entry) × (slice_get h p ≡ Some e) × (0 < session_of e)
+    × All (λ (s : SeatState). s.passes.seat ≡ seat_of count (session_of e) → All (λ (q : ℕ × Entry). q.0 ≢ p) s.own) seats
