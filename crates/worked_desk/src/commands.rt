@@ -1,0 +1,100 @@
+//! What is asked at a desk.
+
+ghost use Rattle.std.specs.Prelude.{◌≡◌};
+
+use crate::{seats, texts};
+use be_desk::{Broom, Desk, Maintained, Seat};
+use be_mail::BoxNames;
+use be_model::Schema;
+use be_published::{Naming, Sheet};
+use std::alloc::Global;
+use std::sync::Wait;
+
+// A maintainer that came so often gives up.
+const CALLS: u32 = 16;
+
+/// The answers to commands, parted as they are.
+pub fn answers<T: Sheet<J>, J: Naming + BoxNames, R: Wait>(
+    rt: &R,
+    alloc: Global,
+    schema: &Schema,
+    desk: &mut Desk<T, J>,
+    seats: &mut Vec<Seat<T, J>>,
+    script: &str,
+) -> Option<String>
+    requires { schema.now ≡ J.schema }
+{
+    let mut broom = Broom::make();
+    let mut answers = String::new(alloc);
+    for command in script.split("; ") {
+        if !answers.is_empty() {
+            answers.push_str("; ").ok()?;
+        }
+        match answer(rt, alloc, schema, desk, seats, &mut broom, command) {
+            Some(answer) => answers.push_str(answer.as_str()).ok()?,
+            None => answers.push_str("none").ok()?,
+        }
+    }
+    Some(answers)
+}
+
+fn answer<T: Sheet<J>, J: Naming + BoxNames, R: Wait>(
+    rt: &R,
+    alloc: Global,
+    schema: &Schema,
+    desk: &mut Desk<T, J>,
+    seats: &mut Vec<Seat<T, J>>,
+    broom: &mut Broom,
+    command: &str,
+) -> Option<String>
+    requires { schema.now ≡ J.schema }
+{
+    let (word, rest) = command.split_once(' ').unwrap_or((command, ""));
+    match word {
+        "A" => seats::answer(rt, alloc, schema, desk, seats.get_mut(0)?, rest),
+        "B" => seats::answer(rt, alloc, schema, desk, seats.get_mut(1)?, rest),
+        "MAINTAIN" => texts::maintained(alloc, &desk.maintain(rt, broom)),
+        "REST" => rested(rt, alloc, desk, broom),
+        "FREE" => freed(rt, alloc, desk),
+        "STATE" => format!(in alloc; "{} {}", desk.len(), broom.calls()).ok(),
+        _ => None,
+    }
+}
+
+fn freed<T: Sheet<J>, J: Naming + BoxNames, R: Wait>(
+    rt: &R,
+    alloc: Global,
+    desk: &mut Desk<T, J>,
+) -> Option<String> {
+    match desk.free(rt) {
+        Ok(()) => String::from_str(alloc, "free").ok(),
+        Err(_) => String::from_str(alloc, "no memory").ok(),
+    }
+}
+
+// Maintains the desk until there is nothing to do.
+fn rested<T: Sheet<J>, J: Naming + BoxNames, R: Wait>(
+    rt: &R,
+    alloc: Global,
+    desk: &mut Desk<T, J>,
+    broom: &mut Broom,
+) -> Option<String> {
+    let mut text = String::from_str(alloc, "rest").ok()?;
+    for _ in 0..CALLS {
+        let done = desk.maintain(rt, broom);
+        text.push_str(" ").ok()?;
+        text.push_str(texts::maintained(alloc, &done)?.as_str())
+            .ok()?;
+        if is_idle(&done) {
+            return Some(text);
+        }
+    }
+    None
+}
+
+fn is_idle(done: &Maintained) -> bool {
+    match done {
+        Maintained::Idle => true,
+        _ => false,
+    }
+}

@@ -1,0 +1,187 @@
+//! The kinds of desks. Which history a desk has, and which mailboxes its seats, is picked where these were made.
+
+ghost use Rattle.std.specs.Prelude.{◌≡◌, ◌<◌, ◌≤◌, [], true, length, map, IfSome};
+ghost use Rattle.std.specs.Arc.{arc_value};
+ghost use Rattle.std.specs.List.{list_all, range_with_len};
+ghost use Rattle.be_base.specs.declared.limits.TheConstants.{SEATS};
+ghost use Rattle.be_model.specs.Lies.{row_lies};
+ghost use Rattle.be_change.specs.Opening.{IsTable};
+ghost use Rattle.be_index.specs.Rows.{plain_index};
+ghost use Rattle.be_mail.specs.Mailbox.{ForEachState};
+ghost use Rattle.be_mail.specs.Passes.{new_passes};
+
+use crate::balky::BalkyIndex;
+use crate::tables::table;
+use crate::{commands, texts};
+use be_base::{NoMemory, SEATS};
+use be_desk::{Desk, Seat, make_desk, open_desk};
+use be_index::{Index, ListIndex};
+use be_mail::{BoxNames, Mail, MailPasses, Post, make_mail};
+use be_model::{Row, Schema};
+use be_published::{Naming, Opened, Page};
+use be_tree::BeTree;
+use std::alloc::Global;
+use std::marker::Brand;
+use std::sync::{Arc, Wait};
+
+// How many seats a desk is to have, and what is asked there.
+#[derive(Drop)]
+struct Script {
+    seats: u32,
+    commands: String,
+    ghost few: { (0 < seats) × (seats ≤ SEATS) },
+}
+
+/// The answers at a desk of this kind, and the list that it left.
+pub fn answers<R: Wait>(
+    rt: &R,
+    alloc: Global,
+    schema: &Arc<Schema>,
+    kind: &str,
+    seats: u32,
+    commands: &str,
+) -> Option<String> {
+    if seats == 0 || seats > SEATS {
+        return None;
+    }
+    let commands = String::from_str(alloc, commands).ok()?;
+    let script = Script { seats, commands };
+    match kind {
+        "list" => over_list(rt, alloc, schema, Vec::new(alloc), &script),
+        "tree" => over_tree(rt, alloc, schema, &script),
+        "balky" => over_balky(rt, alloc, schema, &script),
+        "opened" => over_list(rt, alloc, schema, table(alloc, schema)?, &script),
+        _ => None,
+    }
+}
+
+fn over_list<R: Wait>(
+    rt: &R,
+    alloc: Global,
+    schema: &Arc<Schema>,
+    rows: Vec<Row>,
+    script: &Script,
+) -> Option<String>
+    requires table { IsTable rows.items }
+    requires lie { list_all (row_lies (arc_value schema.now)) rows.items ≡ true }
+{
+    let (a, b) = (plain(alloc, schema)?, plain(alloc, schema)?);
+    mailed::<ListIndex, Brand, R>(rt, alloc, schema, a, b, rows, script)
+}
+
+fn over_tree<R: Wait>(
+    rt: &R,
+    alloc: Global,
+    schema: &Arc<Schema>,
+    script: &Script,
+) -> Option<String> {
+    let a = BeTree::make(alloc, Arc::try_clone(schema).ok()?);
+    let b = BeTree::make(alloc, Arc::try_clone(schema).ok()?);
+    mailed::<BeTree, Brand, R>(rt, alloc, schema, a, b, Vec::new(alloc), script)
+}
+
+fn over_balky<R: Wait>(
+    rt: &R,
+    alloc: Global,
+    schema: &Arc<Schema>,
+    script: &Script,
+) -> Option<String> {
+    let (a, b) = (balky(alloc, schema)?, balky(alloc, schema)?);
+    let rows = Vec::new(alloc);
+    mailed::<BalkyIndex<ListIndex>, Brand, R>(rt, alloc, schema, a, b, rows, script)
+}
+
+fn plain(alloc: Global, schema: &Arc<Schema>) -> Option<ListIndex>
+    ensures { IfSome result (λ index. index ≡ plain_index (arc_value schema.now) []) }
+{
+    Some(ListIndex::make(alloc, Arc::try_clone(schema).ok()?))
+}
+
+// It refuses its first two inserts.
+fn balky(alloc: Global, schema: &Arc<Schema>) -> Option<BalkyIndex<ListIndex>>
+    ensures { IfSome result (λ balky. balky.index ≡ plain_index (arc_value schema.now) []) }
+{
+    let refuse = Vec::from_array(alloc, [1, 2]).ok()?;
+    Some(BalkyIndex::make(plain(alloc, schema)?, refuse))
+}
+
+// Makes the mail of the seats. A call that picks has no `&str`.
+fn mailed<I: Index, S: Post, R: Wait>(
+    rt: &R,
+    alloc: Global,
+    schema: &Arc<Schema>,
+    index_a: I,
+    index_b: I,
+    rows: Vec<Row>,
+    script: &Script,
+) -> Option<String>
+    requires schema { (I.schema index_a ≡ arc_value schema.now) × (I.schema index_b ≡ arc_value schema.now) }
+    requires bounded { (I.is_bounded index_a ≡ true) × (I.is_bounded index_b ≡ true) }
+    requires empty { (I.rows index_a ≡ []) × (I.rows index_b ≡ []) }
+    requires mail { (script.now.seats ≡ S.seats) × ForEachState S.found }
+    requires table { IsTable rows.items }
+    requires lie { list_all (row_lies (arc_value schema.now)) rows.items ≡ true }
+{
+    let (mail, passes) = make_mail::<S>(alloc, script.seats).ok()?;
+    let opened = Opened::new();
+    with_desk::<I, S, Brand, R>(
+        rt, alloc, opened, &mail, schema, index_a, index_b, rows, passes, script,
+    )
+}
+
+fn with_desk<I: Index, S: Post, J: Naming + BoxNames, R: Wait>(
+    rt: &R,
+    alloc: Global,
+    opened: Opened,
+    mail: &Mail<S>,
+    schema: &Arc<Schema>,
+    index_a: I,
+    index_b: I,
+    rows: Vec<Row>,
+    passes: Vec<MailPasses>,
+    script: &Script,
+) -> Option<String>
+    requires named { (opened.seen.book ≡ J.book) × (mail.now ≡ J.boxes) × (arc_value schema.now ≡ J.schema) }
+    requires schema { (I.schema index_a ≡ J.schema) × (I.schema index_b ≡ J.schema) }
+    requires bounded { (I.is_bounded index_a ≡ true) × (I.is_bounded index_b ≡ true) }
+    requires empty { (I.rows index_a ≡ []) × (I.rows index_b ≡ []) }
+    requires seats { length mail.now ≡ script.now.seats }
+    requires table { IsTable rows.items }
+    requires lie { list_all (row_lies J.schema) rows.items ≡ true }
+    requires passes { passes.items ≡ map (new_passes mail.now) (range_with_len 0 script.now.seats) }
+{
+    let seats = script.seats;
+    let (mut desk, mut seats) = begun::<I, J, R>(
+        rt, alloc, opened, index_a, index_b, seats, rows, passes,
+    ).ok()?;
+    let commands = script.commands.as_str();
+    let answers = commands::answers(rt, alloc, schema, &mut desk, &mut seats, commands);
+    let list = texts::log_text(alloc, &desk.into_log(rt));
+    format!(in alloc; "{} |{}", answers?, list?).ok()
+}
+
+// A desk whose list begins with these rows, or with none.
+fn begun<I: Index, J: Naming + BoxNames, R: Wait>(
+    rt: &R,
+    alloc: Global,
+    opened: Opened,
+    index_a: I,
+    index_b: I,
+    seats: u32,
+    rows: Vec<Row>,
+    passes: Vec<MailPasses>,
+) -> Result<(Desk<Page<I, J>, J>, Vec<Seat<Page<I, J>, J>>), NoMemory>
+    requires named { opened.seen.book ≡ J.book }
+    requires schema { (I.schema index_a ≡ J.schema) × (I.schema index_b ≡ J.schema) }
+    requires bounded { (I.is_bounded index_a ≡ true) × (I.is_bounded index_b ≡ true) }
+    requires empty { (I.rows index_a ≡ []) × (I.rows index_b ≡ []) }
+    requires seats { (0 < seats) × (seats ≤ SEATS) × (length J.boxes ≡ seats) }
+    requires table { IsTable rows.items }
+    requires lie { list_all (row_lies J.schema) rows.items ≡ true }
+    requires passes { passes.items ≡ map (new_passes J.boxes) (range_with_len 0 seats) }
+{
+    if rows.is_empty() {
+        return make_desk(rt, alloc, opened, index_a, index_b, seats, passes);
+    }
+    open_desk(rt, alloc, opened, index_a, index_b, seats, rows, passes)
+}
