@@ -295,7 +295,7 @@ if command -v python3 >/dev/null; then
     python3 "$top/tests/client.py" "$program" || exit 1
     python3 "$top/tests/model.py" "$program" 40 || exit 1
     python3 "$top/tests/cover.py" "$program" || exit 1
-    passed=$((passed + 2))
+    passed=$((passed + 3))
 else
     echo 'skipped: the client and the model: there is no python3 here'
 fi
