@@ -25,22 +25,22 @@ pub fn cover<F: Shelf, K: Sink>(
     alloc: Global,
     schema: &str,
     file: &str,
-    name: Name,
+    name: &str,
     shelf: &mut F,
     out: &mut K,
 ) -> Status
-    ensures ends { CoverEnds (out.new ≡ out.old) (run_files (F.content shelf.old) schema.now (Some file.now)) name
+    ensures ends { CoverEnds (out.new ≡ out.old) (run_files (F.content shelf.old) schema.now (Some file.now)) name.now
         (F.read_faults shelf.old) (F.read_faults shelf.new) (sink_state K.Sink out.old) (sink_state K.Sink out.new) result }
     ensures asked { AsksFor (files_of (Some (run schema.now (Some file.now)))) (F.asked shelf.old) (F.asked shelf.new) }
 {
     match load_files(alloc, shelf, schema, Some(file)) {
-        Ok(loaded) => write_lines(alloc, &loaded, &name, out),
+        Ok(loaded) => write_lines(alloc, &loaded, name, out),
         Err(status) => status,
     }
 }
 
 // Writes the lines, once they are all there.
-fn write_lines<K: Sink>(alloc: Global, loaded: &Loaded, name: &Name, out: &mut K) -> Status
+fn write_lines<K: Sink>(alloc: Global, loaded: &Loaded, name: &str, out: &mut K) -> Status
     requires { list_all (row_lies loaded.now.schema) loaded.now.rows.items ≡ true }
     ensures { WritesLines (out.new ≡ out.old) (cover_text loaded.now.schema loaded.now.rows.items name.now) (sink_state K.Sink out.old) (sink_state K.Sink out.new) result }
 {
@@ -51,7 +51,7 @@ fn write_lines<K: Sink>(alloc: Global, loaded: &Loaded, name: &Name, out: &mut K
 }
 
 // What is written for this name.
-fn text_for(alloc: Global, schema: &Schema, rows: &[Row], name: &Name) -> Result<Vec<u8>, NoMemory>
+fn text_for(alloc: Global, schema: &Schema, rows: &[Row], name: &str) -> Result<Vec<u8>, NoMemory>
     requires { list_all (row_lies schema.now) rows.now ≡ true }
     ensures { IfOk result (λ text. text.items ≡ cover_text schema.now rows.now name.now) }
 {
@@ -61,10 +61,10 @@ fn text_for(alloc: Global, schema: &Schema, rows: &[Row], name: &Name) -> Result
     }
 }
 
-fn row_named<'a>(rows: &'a [Row], name: &Name) -> Option<&'a Row>
+fn row_named<'a>(rows: &'a [Row], name: &str) -> Option<&'a Row>
     ensures { option_copied result ≡ find (is_named name.now) rows.now }
 {
-    rows.iter().find(|row| row.name.same(name))
+    rows.iter().find(|row| row.name.bytes() == name.as_bytes())
 }
 
 fn unknown(alloc: Global) -> Result<Vec<u8>, NoMemory>

@@ -44,12 +44,12 @@ gen_of (number ∷ subs ∷ events ∷ []) [] =
     gen_of_counts (count_of number) (count_within GENERATED_SUBSCRIPTIONS subs) (count_within GENERATED_EVENTS events)
 gen_of _ _ = None
 
-abbrev pub cover_of_name : Text → Text → Result Text NameFault → Option Request
-cover_of_name schema file (Ok name) = Some (cover schema file name)
-cover_of_name schema file (Err fault) = None
+abbrev pub if_named : Result Text NameFault → Request → Option Request
+if_named (Ok name) request = Some request
+if_named (Err fault) request = None
 
 abbrev pub cover_of : List Text → List Text → Option Request
-cover_of (schema ∷ file ∷ name ∷ []) [] = cover_of_name schema file (name_of name)
+cover_of (schema ∷ file ∷ name ∷ []) [] = if_named (name_of name) (cover schema file name)
 cover_of _ _ = None
 
 -- a command's word, and what it makes of the words by their places and of the FILEs of `--load`
@@ -77,7 +77,7 @@ words_of words = map (λ word. string_bytes word) words
 abbrev pub plain_request : WordsRequest → Request
 plain_request (Run schema load) = run schema.now (option_map now_of load)
 plain_request (Gen number subs events) = gen number subs events
-plain_request (Cover schema file name) = cover schema.now file.now name
+plain_request (Cover schema file name) = cover schema.now file.now name.now
 
 -- the request exactly where the words have a reading, and the refusal exactly where they have none, want of memory aside
 abbrev pub IsAnswerTo : List Text → Result WordsRequest WordsFault → Type 0

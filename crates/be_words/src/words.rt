@@ -26,7 +26,7 @@ pub enum Request<'a> {
     Cover {
         schema: &'a str,
         file: &'a str,
-        name: Name,
+        name: &'a str,
     },
 }
 
@@ -84,7 +84,7 @@ fn cover_of<'a>(words: &[&'a str], loads: &[&'a str]) -> Option<Request<'a>>
         return None;
     };
     match Name::read(name.as_bytes()) {
-        Ok(name) => Some(Request::Cover { schema, file, name }),
+        Ok(_) => Some(Request::Cover { schema, file, name }),
         Err(_) => None,
     }
 }
