@@ -1,13 +1,13 @@
 -- How `cover` ends, once its files were read and its lines were written.
-use Rattle.std.proofs.Common.{◌≡◌, ◌⊎◌, inl, inr, ℕ, List, Result, Ok, Err}
+use Rattle.std.proofs.Common.{◌≡◌, inl, inr, ℕ, List, Err}
 use Rattle.be_base.specs.Text.{Text}
 use Rattle.be_io.specs.Sink.{SinkState}
 use Rattle.be_model.specs.declared.changes.Row.{Row}
 use Rattle.be_model.specs.Schemas.{Attributes}
 use Rattle.be_server.specs.declared.status.Status.{Status}
-use Rattle.be_server.specs.declared.status.Status.TheVariants.{Done, Words, SchemaBad, LoadBad, NoMemory, ReadFault, LongFile, WriteFault, Spent, Split, Stray, Shut}
+use Rattle.be_server.specs.declared.status.Status.TheVariants.{Done, SchemaBad, LoadBad, NoMemory, ReadFault, LongFile, WriteFault}
 use Rattle.be_server.specs.Files.{RunFiles, IsSchemaOf, AreRowsOf, LoadsRun}
-use Rattle.be_server.specs.Covers.{cover_text, WroteCover, WritesLines, CoverEnds}
+use Rattle.be_server.specs.Covers.{cover_text, WritesLines, CoverEnds}
 
 -- the lines were written, or not
 pub cover_written : (Kept : Type 0) (files : RunFiles) (name : Text) (shelf shelf' : ℕ) (before after : SinkState) (s : Attributes) (rows : List Row) (status : Status) → shelf' ≡ shelf → IsSchemaOf files.schema s → AreRowsOf s files.load rows

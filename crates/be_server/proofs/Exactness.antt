@@ -11,7 +11,6 @@ use Rattle.be_io.specs.Shelf.{HoldsFile}
 use Rattle.be_io.specs.Sink.{SinkState}
 use Rattle.be_model.specs.declared.changes.Row.{Row}
 use Rattle.be_model.specs.Schemas.{Attributes}
-use Rattle.be_table.specs.declared.faults.TableFault.{TableFault}
 use Rattle.be_table.specs.declared.faults.TableFault.TheVariants as table
 use Rattle.be_table.specs.declared.faults.TableKind.{TableKind}
 use Rattle.be_table.specs.Tables.{table_of}

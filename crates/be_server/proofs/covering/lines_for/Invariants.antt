@@ -1,4 +1,4 @@
-use Rattle.std.proofs.Common.{◌≡◌, true, take, drop}
+use Rattle.std.proofs.Common.{◌≡◌, take}
 use Rattle.std.specs.List.{flat_map}
 use Rattle.be_server.specs.Covers.{line_of}
 use Rattle.be_server.proofs.covering.lines_for.Given as goal
