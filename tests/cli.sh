@@ -174,6 +174,19 @@ call gen 7 0 0; same 'the sums of an empty script' 0 'GEN 0 0 0 0 0\n' ''
 : >out; "$program" gen 7 0 0 >&- 2>err; code=$?
 same 'sums to a closed output' 5 '' 'write fault\n'
 
+# covering
+printf 'ROW a price < 5\nROW b price < 10\nROW c price < 5 and qty = 0\nROW d all\nROW f price > 7 and price < 3\n' >rows.txt
+call cover schema.txt rows.txt a; same 'covered rows' 0 'COVER b\nNOT c price=0\nCOVER d\nNOT f price=0\n' ''
+call cover schema.txt rows.txt f; same 'a condition without values' 0 'COVER a\nCOVER b\nCOVER c\nCOVER d\n' ''
+call cover schema.txt rows.txt x; same 'no row of the name' 0 'UNKNOWN\n' ''
+call cover schema.txt rows.txt 'a b'; same 'cover without a name' 2 '' 'words refused\n'
+call cover schema.txt rows.txt; same 'cover of two words' 2 '' 'words refused\n'
+call cover schema.txt rows.txt a --load rows.txt; same 'cover with a load file' 2 '' 'words refused\n'
+call cover schema.txt missing.txt a; same 'cover of a missing file' 4 '' 'read fault\n'
+call cover schema.txt schema.txt a; same 'cover of a faulty file' 3 '' 'load line 1: Form\n'
+"$program" cover schema.txt rows.txt a <in >&- 2>err; code=$?; : >out
+same 'covered rows to a closed output' 5 '' 'write fault\n'
+
 # input and output that fail
 : >out; "$program" run schema.txt <&- >out 2>err; code=$?
 same 'a closed input' 4 '' 'read fault\n'
@@ -208,6 +221,9 @@ for script in "$top"/examples/*/script.txt; do
     same "example $name" 0 "$(cat "$folder/expected.txt")\n" ''
 done
 
+call cover "$top/examples/ads/schema.txt" "$top/examples/ads/campaigns.txt" toys.kids
+same 'the example of covering' 0 "$(cat "$top/examples/ads/covered.txt")\n" ''
+
 # the script's own words and codes, in a checkout of three crates whose `rt` builds by writing a file
 own="$room/own"
 mkdir -p "$own/bin" "$own/top/crates"/{low,high,justmeadow}/src
@@ -236,7 +252,7 @@ building="justmeadow: building the program, which proves its 3 crates. The log: 
 building+='justmeadow: 1 of 3: low\njustmeadow: 2 of 3: high\n'
 script --help; cp out usage
 same 'the usage' 0 "$(sed 's/%/%%/g' usage)\n" ''
-for words in 'run SCHEMA' 'run SCHEMA --load FILE' 'gen NUMBER SUBS EVENTS' 'SUB name condition' 'UNSUB name' 'PUB event' 'COST event' LIST 'SEND event' 'FETCH most' DUMP 'TAIL place most' QUIT --help --version --build --unproved; do
+for words in 'run SCHEMA' 'run SCHEMA --load FILE' 'gen NUMBER SUBS EVENTS' 'cover SCHEMA FILE NAME' 'SUB name condition' 'UNSUB name' 'PUB event' 'COST event' LIST 'SEND event' 'FETCH most' DUMP 'TAIL place most' QUIT --help --version --build --unproved; do
     grep -q -- "^    \(./justmeadow \)\?$words" usage || { echo "FAILED: the usage lacks $words"; exit 1; }
 done
 script; same 'the script alone' 2 '' "$(cat usage)\n"
@@ -278,7 +294,8 @@ fi
 if command -v python3 >/dev/null; then
     python3 "$top/tests/client.py" "$program" || exit 1
     python3 "$top/tests/model.py" "$program" 40 || exit 1
-    passed=$((passed + 2))
+    python3 "$top/tests/cover.py" "$program" || exit 1
+    passed=$((passed + 3))
 else
     echo 'skipped: the client and the model: there is no python3 here'
 fi

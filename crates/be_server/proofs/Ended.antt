@@ -1,5 +1,5 @@
 -- How a run ends, once its files were read and its session was served.
-use Rattle.std.proofs.Common.{◌≡◌, ◌⊎◌, inl, inr, ℕ, true, List, Option, Some, None, is_some, Result, Ok, Err, refl, sym, subst}
+use Rattle.std.proofs.Common.{◌≡◌, inl, inr, true, List, Some, is_some, Err, refl, subst}
 use Rattle.be_io.specs.Outside.{LinkState}
 use Rattle.be_model.specs.declared.changes.Row.{Row}
 use Rattle.be_model.specs.Schemas.{Attributes}
@@ -8,7 +8,7 @@ use Rattle.be_change.specs.Opening.{opening_of}
 use Rattle.be_session.specs.declared.serve.SessionEnd.{SessionEnd}
 use Rattle.be_session.specs.declared.serve.SessionEnd.TheVariants as ends
 use Rattle.be_server.specs.declared.status.Status.{Status}
-use Rattle.be_server.specs.declared.status.Status.TheVariants.{Done, Words, SchemaBad, LoadBad, NoMemory, ReadFault, LongFile, WriteFault, Spent, Split, Stray, Shut}
+use Rattle.be_server.specs.declared.status.Status.TheVariants.{Done, SchemaBad, LoadBad, NoMemory, ReadFault, LongFile, WriteFault, Spent}
 use Rattle.be_server.specs.Files.{RunFiles, IsSchemaOf, AreRowsOf, LoadsRun}
 use Rattle.be_server.specs.Promise.{CommandState, SessionRuns, ServedWith, RunEnds}
 use Rattle.be_server.specs.Status.{status_of}

@@ -11,15 +11,15 @@ use Rattle.be_io.specs.Shelf.{HoldsFile}
 use Rattle.be_io.specs.Sink.{SinkState}
 use Rattle.be_model.specs.declared.changes.Row.{Row}
 use Rattle.be_model.specs.Schemas.{Attributes}
-use Rattle.be_table.specs.declared.faults.TableFault.{TableFault}
 use Rattle.be_table.specs.declared.faults.TableFault.TheVariants as table
 use Rattle.be_table.specs.declared.faults.TableKind.{TableKind}
 use Rattle.be_table.specs.Tables.{table_of}
-use Rattle.be_words.specs.Words.{Request, run, gen}
+use Rattle.be_words.specs.Words.{Request, run, gen, cover}
 use Rattle.be_server.specs.declared.status.Status.{Status}
 use Rattle.be_server.specs.declared.status.Status.TheVariants.{Done, Words, SchemaBad, LoadBad, NoMemory, ReadFault, LongFile, WriteFault, Spent, Split, Stray, Shut}
 use Rattle.be_server.specs.Exact.{IsFaultless, FileIsRefused, ToldAs, ToldLong, LoadIsGood, SchemaDecides, LoadDecides, IsExact, EndsExactly}
 use Rattle.be_server.specs.Files.{ToldFile, RunFiles, run_files, FileReads, FileIsLong, IsSchemaOf, IfLoads, TableReads, AreRowsOf, SchemaIsBad, LoadIsBad, OneIsLong}
+use Rattle.be_server.specs.Covers.{CoverEnds}
 use Rattle.be_server.specs.Generated.{GenEnds}
 use Rattle.be_server.specs.Promise.{CommandState, RunEnds, Ends}
 
@@ -188,8 +188,19 @@ exact_gen K number subs events before after WriteFault e quiet = absurd (quiet e
 exact_gen K number subs events before after NoMemory e quiet = inr refl
 exact_gen K number subs events before after _ e quiet = absurd e
 
+exact_cover : (Kept : Type 0) (files : RunFiles) (name : Text) (before after : CommandState) (status : Status) → CoverEnds Kept files name before.shelf after.shelf before.link.sink after.link.sink status → IsExact files before after status
+exact_cover K files name before after Done r = exact_served files before after Done r.1.schema r.1.rows r.1.is_schema r.1.are_rows (λ quiet. inl refl)
+exact_cover K files name before after (SchemaBad l k) r = exact_schema_bad files before after l k r.2
+exact_cover K files name before after (LoadBad l k) r = exact_load_bad files before after l k r.2
+exact_cover K files name before after NoMemory r = exact_refused files before after NoMemory (inr (refl, r.0)) (λ quiet. inr refl)
+exact_cover K files name before after ReadFault r = exact_refused files before after ReadFault (inl (refl, r.0)) (λ quiet. absurd (quiet.shelf r.0))
+exact_cover K files name before after LongFile r = exact_long files before after r.2
+exact_cover K files name before after WriteFault r = exact_served files before after WriteFault r.1.schema r.1.rows r.1.is_schema r.1.are_rows (λ quiet. absurd (quiet.sink r.1.written.1))
+exact_cover K files name before after _ r = absurd r
+
 pub exact_ends : (c : Option Request) (InputKept OutKept : Type 0) (content : Text → ToldFile) (before after : CommandState) (status : Status)
     → Ends c InputKept OutKept content before after status → EndsExactly c content before after status
 exact_ends None I O content before after status e = tt
 exact_ends (Some (run schema load)) I O content before after status e = exact_run (I × O) (run_files content schema load) before after status e
 exact_ends (Some (gen number subs events)) I O content before after status e = exact_gen O number subs events before.link.sink after.link.sink status e.2
+exact_ends (Some (cover schema file name)) I O content before after status e = exact_cover O (run_files content schema (Some file)) name before after status e.1

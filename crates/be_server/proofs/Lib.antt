@@ -7,3 +7,4 @@ pub mod ScriptLists
 pub mod Tallies
 pub mod ScriptSteps
 pub mod CountedReplies
+pub mod CoverEnded

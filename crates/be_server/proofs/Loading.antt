@@ -1,15 +1,12 @@
 -- The files of a run are read one after another.
-use Rattle.std.proofs.Common.{◌≡◌, inl, inr, ℕ, List, [], ◌∷◌, ◌++◌, Option, Some, None, Result, Ok, Err, refl, sym, ap, ◌∙◌, subst, append_assoc}
-use Rattle.std.specs.declared.alloc.Global.{Global}
-use Rattle.std.specs.declared.vec.Vec.{Vec}
+use Rattle.std.proofs.Common.{◌≡◌, inl, inr, ℕ, List, [], ◌∷◌, ◌++◌, Option, Some, None, Err, refl, ap, ◌∙◌, subst, append_assoc}
 use Rattle.be_base.specs.Text.{Text}
 use Rattle.be_change.specs.Opening.{IsTable}
-use Rattle.be_model.specs.declared.changes.Row.{Row}
 use Rattle.be_model.specs.Schemas.{Attributes}
 use Rattle.be_words.specs.Words.{run}
 use Rattle.be_server.specs.declared.status.Status.{Status}
-use Rattle.be_server.specs.declared.status.Status.TheVariants.{Done, Words, SchemaBad, LoadBad, NoMemory, ReadFault, LongFile, WriteFault, Spent, Split, Stray, Shut}
-use Rattle.be_server.specs.Files.{ToldFile, run_files, IsSchemaOf, AreRowsOf, LoadsSchema, LoadsTable, LoadsRun, AsksFor}
+use Rattle.be_server.specs.declared.status.Status.TheVariants.{SchemaBad, LoadBad, NoMemory, ReadFault, LongFile}
+use Rattle.be_server.specs.Files.{ToldFile, run_files, IsSchemaOf, LoadsSchema, LoadsTable, LoadsRun, AsksFor}
 use Rattle.be_server.specs.Words.{files_of}
 
 -- no rows are a table

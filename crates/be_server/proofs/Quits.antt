@@ -1,5 +1,5 @@
 -- What the replies of a session say of its lines: which of them is a QUIT.
-use Rattle.std.proofs.Common.{◌≡◌, ℕ, Bool, true, false, not, ◌&&◌, List, [], ◌∷◌, ◌++◌, map, Option, Some, None, refl, sym, ap, ◌∙◌, subst}
+use Rattle.std.proofs.Common.{◌≡◌, ℕ, Bool, true, false, not, ◌&&◌, List, [], ◌∷◌, ◌++◌, map, Some, None, refl, sym, ap, ◌∙◌}
 use Rattle.std.specs.List.{list_all}
 use Rattle.std.proofs.lemmas.Bool.{and_parts, and_from}
 use Rattle.std.proofs.lemmas.List.Folds.{list_all-append, list_all-map}
@@ -9,7 +9,6 @@ use Rattle.be_change.specs.Requests.{Request, refused, subscribe, unsubscribe, p
 use Rattle.be_transcript.specs.Readings.{reading}
 use Rattle.be_transcript.specs.Runs.{comes_in_run, is_quit, HasNoQuit, EndsWithQuit}
 use Rattle.be_transcript.specs.Transcript.{requests}
-use Rattle.be_session.specs.declared.serve.SessionEnd.{SessionEnd}
 use Rattle.be_session.specs.declared.serve.SessionEnd.TheVariants.{Quit, Split}
 use Rattle.be_session.specs.Ends.{end_after, is_on, goes_on}
 

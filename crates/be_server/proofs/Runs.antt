@@ -1,14 +1,13 @@
 -- A session over a board that was opened with a table, and is nobody else's, is the session of a run.
-use Rattle.std.proofs.Common.{◌≡◌, ◌⊎◌, inl, inr, ℕ, ◌+◌, Bool, true, false, not, ◌==◌, List, [], ◌∷◌, ◌++◌, map, Option, Some, None, refl, sym, ap, ◌∙◌, subst}
+use Rattle.std.proofs.Common.{◌≡◌, inl, inr, ℕ, ◌+◌, Bool, true, false, not, List, [], ◌∷◌, ◌++◌, map, Some, None, refl, ap, ◌∙◌, subst}
 use Rattle.std.specs.List.{list_all}
-use Rattle.std.proofs.lemmas.Bool.{and_parts, and_from}
 use Rattle.be_io.specs.Lines.{TextLine}
 use Rattle.be_io.specs.Outside.{LinkState}
 use Rattle.be_io.specs.Sink.{SinkState}
 use Rattle.be_model.specs.declared.changes.Row.{Row}
 use Rattle.be_model.specs.Schemas.{Attributes}
 use Rattle.be_change.specs.History.{Entry, is_opening}
-use Rattle.be_change.specs.Opening.{IsTable, opening_of, subs_of, is_of_nobody}
+use Rattle.be_change.specs.Opening.{opening_of, subs_of}
 use Rattle.be_change.specs.Made.{made}
 use Rattle.be_change.specs.Requests.{Exchange}
 use Rattle.be_transcript.specs.Readings.{reading}
@@ -19,7 +18,7 @@ use Rattle.be_board.specs.State.{BoardState}
 use Rattle.be_board.specs.Word.{Keeps}
 use Rattle.be_session.specs.declared.serve.SessionEnd.{SessionEnd}
 use Rattle.be_session.specs.declared.serve.SessionEnd.TheVariants.{Eof, Quit, ReadFault, WriteFault, Spent, Split, NoMemory}
-use Rattle.be_session.specs.Ends.{end_after, is_on, EndsBy}
+use Rattle.be_session.specs.Ends.{end_after, is_on}
 use Rattle.be_session.specs.Served as served
 use Rattle.be_session.specs.Served.{BeginsAlone, RanOver}
 use Rattle.be_server.specs.Promise.{QuitsAtEnd, Replied, CutShort, SessionRuns}

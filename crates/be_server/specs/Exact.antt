@@ -12,7 +12,7 @@ use Rattle.be_model.specs.Schemas.{Attributes}
 use Rattle.be_table.specs.declared.faults.TableFault.TheVariants as table
 use Rattle.be_table.specs.declared.faults.TableKind.{TableKind}
 use Rattle.be_table.specs.Tables.{table_of}
-use Rattle.be_words.specs.Words.{Request, run, gen}
+use Rattle.be_words.specs.Words.{Request, run, gen, cover}
 use Rattle.be_server.specs.declared.status.Status.{Status}
 use Rattle.be_server.specs.declared.status.Status.TheVariants.{Done, SchemaBad, LoadBad, NoMemory, ReadFault, LongFile}
 use Rattle.be_server.specs.Files.{ToldFile, RunFiles, run_files}
@@ -64,9 +64,10 @@ pub record IsExact (files : RunFiles) (before after : CommandState) (status : St
   -- where nothing is wrong all is done, want of memory aside
   pub complete : (s : Attributes) → ToldAs schema_of files.schema (Ok s) → LoadIsGood s files.load → IsFaultless before after → (status ≡ Done) ⊎ (status ≡ NoMemory)
 
--- for `run` what the files hold decides. Where no write failed, all of `gen` is done, want of memory aside
+-- for `run` and `cover` what the files hold decides. Where no write failed, all of `gen` is done, want of memory aside
 abbrev pub EndsExactly : Option Request → (Text → ToldFile) → CommandState → CommandState → Status → Type 0
 EndsExactly None content before after status = Unit {0}
 EndsExactly (Some (run schema load)) content before after status = IsExact (run_files content schema load) before after status
 EndsExactly (Some (gen number subs events)) content before after status =
     (HasRisen before.link.sink.faults after.link.sink.faults → ⊥) → (status ≡ Done) ⊎ (status ≡ NoMemory)
+EndsExactly (Some (cover schema file name)) content before after status = IsExact (run_files content schema (Some file)) before after status

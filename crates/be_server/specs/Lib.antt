@@ -5,3 +5,4 @@ pub mod Promise
 pub mod Exact
 pub mod Sums
 pub mod Generated
+pub mod Covers

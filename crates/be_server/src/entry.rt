@@ -10,6 +10,7 @@ ghost use Rattle.be_server.specs.Words.{files};
 ghost use Rattle.be_session.specs.Served.{TakesWithin};
 ghost use Rattle.be_words.specs.Words.{reading, words_of};
 
+use crate::covering::cover;
 use crate::generated::generate;
 use crate::run::run;
 use crate::status::Status;
@@ -21,9 +22,9 @@ use std::thread::Threads;
 
 /// Reads the words after the program's name, and does what they ask.
 ///
-/// `run SCHEMA` serves one session over `input` and `out`, with `--load FILE` over the rows of that file, and
-/// `gen NUMBER SUBS EVENTS` writes the sums over a generated
-/// script to `out`. The door and the gate aren't used yet.
+/// `run SCHEMA` serves one session over `input` and `out`, with `--load FILE` over the rows of that file,
+/// `gen NUMBER SUBS EVENTS` writes the sums over a generated script to `out`, and `cover SCHEMA FILE NAME` writes which rows
+/// of a load file are covered by the one of this name. The door and the gate aren't used yet.
 #[tactic(auto, using(crate::proofs::Exactness::exact_ends))]
 pub fn be_main<R, F, S, K, L, D, G>(
     _rt: &R,
@@ -81,6 +82,7 @@ where
                 events,
             },
         ) => generate(alloc, number, subs, events, out),
+        Ok(Request::Cover { schema, file, name }) => cover(alloc, schema, file, name, shelf, out),
         Err(WordsFault::Refused) => Status::Words,
         Err(WordsFault::NoMemory) => Status::NoMemory,
     }

@@ -59,7 +59,7 @@ fn line_of(alloc: Global, number: u64, subs: u64, events: u64) -> Result<String,
 }
 
 // The status, once the line was written so.
-fn status_of(written: Result<(), SinkFault>) -> Status
+pub(crate) fn status_of(written: Result<(), SinkFault>) -> Status
     ensures { result ≡ status_written written }
 {
     match written {

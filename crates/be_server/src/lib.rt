@@ -7,6 +7,7 @@
 
 mod counted;
 mod counting;
+mod covering;
 mod entry;
 mod files;
 mod generated;

@@ -4,11 +4,12 @@ use Rattle.std.specs.declared.alloc.Global.{Global}
 use Rattle.std.specs.declared.string.String.{String}
 use Rattle.be_base.specs.Numbers.{count_of}
 use Rattle.be_base.specs.Readers.{now_of}
-use Rattle.be_base.specs.Text.{Text, same_text}
+use Rattle.be_base.specs.Text.{Text, same_text, name_of}
+use Rattle.be_base.specs.declared.names.NameFault.{NameFault}
 use Rattle.be_base.specs.declared.limits.TheConstants.{GENERATED_SUBSCRIPTIONS, GENERATED_EVENTS}
 use Rattle.be_words.specs.Arguments.{Arguments, arguments}
 use Rattle.be_words.specs.declared.words.Request.{Request as WordsRequest}
-use Rattle.be_words.specs.declared.words.Request.TheVariants.{Run, Gen}
+use Rattle.be_words.specs.declared.words.Request.TheVariants.{Run, Gen, Cover}
 use Rattle.be_words.specs.declared.words.WordsFault.{WordsFault}
 use Rattle.be_words.specs.declared.words.WordsFault.TheVariants.{Refused, NoMemory}
 
@@ -17,6 +18,8 @@ pub data Request : Type 0 where
   run : Text → Option Text → Request
   -- a generated workload of this number, with so many subscriptions and events
   gen : ℕ → ℕ → ℕ → Request
+  -- which rows of a load file are covered by the one of this name: the schema's file, the load file, the name
+  cover : Text → Text → Text → Request
 
 -- FILE of `--load` stands once or not at all
 abbrev pub load_once : (Option Text → Request) → List Text → Option Request
@@ -41,13 +44,21 @@ gen_of (number ∷ subs ∷ events ∷ []) [] =
     gen_of_counts (count_of number) (count_within GENERATED_SUBSCRIPTIONS subs) (count_within GENERATED_EVENTS events)
 gen_of _ _ = None
 
+abbrev pub if_named : Result Text NameFault → Request → Option Request
+if_named (Ok name) request = Some request
+if_named (Err fault) request = None
+
+abbrev pub cover_of : List Text → List Text → Option Request
+cover_of (schema ∷ file ∷ name ∷ []) [] = if_named (name_of name) (cover schema file name)
+cover_of _ _ = None
+
 -- a command's word, and what it makes of the words by their places and of the FILEs of `--load`
 pub record Row : Type 0 where
   pub word : Text
   pub request : List Text → List Text → Option Request
 
 abbrev pub commands : List Row
-commands = record { word = codes "run"; request = run_of } ∷ record { word = codes "gen"; request = gen_of } ∷ []
+commands = record { word = codes "run"; request = run_of } ∷ record { word = codes "gen"; request = gen_of } ∷ record { word = codes "cover"; request = cover_of } ∷ []
 
 abbrev pub row_of : Text → Option Row
 row_of command = find (λ row. same_text row.word command) commands
@@ -66,6 +77,7 @@ words_of words = map (λ word. string_bytes word) words
 abbrev pub plain_request : WordsRequest → Request
 plain_request (Run schema load) = run schema.now (option_map now_of load)
 plain_request (Gen number subs events) = gen number subs events
+plain_request (Cover schema file name) = cover schema.now file.now name.now
 
 -- the request exactly where the words have a reading, and the refusal exactly where they have none, want of memory aside
 abbrev pub IsAnswerTo : List Text → Result WordsRequest WordsFault → Type 0

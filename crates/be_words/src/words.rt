@@ -2,10 +2,10 @@
 
 ghost use Rattle.std.specs.Prelude.{◌≡◌, map, option_map};
 ghost use Rattle.be_base.specs.Readers.{now_of};
-ghost use Rattle.be_words.specs.Words.{IsAnswerTo, words_of, plain_request, request_of, run_of, gen_of, count_within};
+ghost use Rattle.be_words.specs.Words.{IsAnswerTo, words_of, plain_request, request_of, run_of, gen_of, cover_of, count_within};
 
 use crate::arguments::{LOAD, WORD, read_arguments, values_of};
-use be_base::{GENERATED_EVENTS, GENERATED_SUBSCRIPTIONS, NoMemory, read_count};
+use be_base::{GENERATED_EVENTS, GENERATED_SUBSCRIPTIONS, Name, NoMemory, read_count};
 use std::alloc::Global;
 
 /// What the words ask for.
@@ -21,6 +21,12 @@ pub enum Request<'a> {
         number: u64,
         subs: u64,
         events: u64,
+    },
+    /// Which rows of a load file are covered by the one of this name.
+    Cover {
+        schema: &'a str,
+        file: &'a str,
+        name: &'a str,
     },
 }
 
@@ -70,6 +76,19 @@ fn gen_of<'a>(words: &[&'a str], loads: &[&'a str]) -> Option<Request<'a>>
     })
 }
 
+// `cover SCHEMA FILE NAME`.
+fn cover_of<'a>(words: &[&'a str], loads: &[&'a str]) -> Option<Request<'a>>
+    ensures { option_map plain_request result ≡ cover_of (map now_of words.now) (map now_of loads.now) }
+{
+    let ([schema, file, name], []) = (words, loads) else {
+        return None;
+    };
+    match Name::read(name.as_bytes()) {
+        Ok(_) => Some(Request::Cover { schema, file, name }),
+        Err(_) => None,
+    }
+}
+
 // A count of this number at most.
 fn count_within(most: u64, word: &str) -> Option<u64>
     ensures { result ≡ count_within most word.now }
@@ -101,6 +120,7 @@ fn request_of<'a>(command: &str, words: &[&'a str], loads: &[&'a str]) -> Option
     match command {
         "run" => run_of(words, loads),
         "gen" => gen_of(words, loads),
+        "cover" => cover_of(words, loads),
         _ => None,
     }
 }

@@ -42,8 +42,8 @@ fn generated<'a>(words: &'a [&'a str], failing_write: u64) -> Setting<'a> {
     }
 }
 
-// Whether the command ends so, writes this, and leaves the input and the shelf alone.
-fn ends<R: Threads + Wait + Sync>(
+/// Whether the command ends so, writes this, leaves the input of six bytes alone, and the next ask for a file fails.
+pub fn ends<R: Threads + Wait + Sync>(
     rt: &R,
     alloc: Global,
     setting: &Setting,

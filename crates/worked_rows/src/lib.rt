@@ -4,6 +4,8 @@
 #[cfg(test)]
 mod costs;
 #[cfg(test)]
+mod covers;
+#[cfg(test)]
 mod dumps;
 #[cfg(test)]
 mod faults;

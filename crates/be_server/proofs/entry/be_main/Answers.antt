@@ -1,7 +1,7 @@
--- What the files hold decides the status of a run.
-use Rattle.std.proofs.Common.{rules, ◌≡◌, Some, option_map}
+-- What the files hold decides the status of a run, and of `cover`.
+use Rattle.std.proofs.Common.{rules, ◌≡◌, Some, option_map, refl}
 use Rattle.be_base.specs.Readers.{now_of}
-use Rattle.be_words.specs.Words.{run, reading, words_of}
+use Rattle.be_words.specs.Words.{run, cover, reading, words_of}
 use Rattle.be_io.specs.Outside.{source_state, sink_state}
 use Rattle.be_server.specs.Promise.{command_state}
 use Rattle.be_server.proofs.Exactness.{exact_ends}
@@ -13,3 +13,10 @@ returns-in-Ok-Run-clause-exact g c =
     let after = command_state (g.F.Shelf.read_faults c.run.new.shelf) (source_state g.S.Source c.run.new.input) (sink_state g.K.Sink c.run.new.out) in
     let is : reading (words_of c.args.words.now) ≡ Some (run c.in-Ok-Run.schema.now (option_map now_of c.in-Ok-Run.load)) = search rules in
     rw is (exact_ends (Some (run c.in-Ok-Run.schema.now (option_map now_of c.in-Ok-Run.load))) (c.run.new.input ≡ c.args.input.now) (c.run.new.out ≡ c.args.out.now) (g.F.Shelf.content c.args.shelf.now) before after c.run.result c.run.ensures.ends)
+
+pub returns-in-Ok-Cover-clause-exact : goal.returns-in-Ok-Cover-clause-exact
+returns-in-Ok-Cover-clause-exact g c =
+    let before = command_state (g.F.Shelf.read_faults c.args.shelf.now) (source_state g.S.Source c.args.input.now) (sink_state g.K.Sink c.args.out.now) in
+    let after = command_state (g.F.Shelf.read_faults c.cover.new.shelf) (source_state g.S.Source c.args.input.now) (sink_state g.K.Sink c.cover.new.out) in
+    let is : reading (words_of c.args.words.now) ≡ Some (cover c.in-Ok-Cover.schema.now c.in-Ok-Cover.file.now c.in-Ok-Cover.name.now) = search rules in
+    rw is (exact_ends (Some (cover c.in-Ok-Cover.schema.now c.in-Ok-Cover.file.now c.in-Ok-Cover.name.now)) (c.args.input.now ≡ c.args.input.now) (c.cover.new.out ≡ c.args.out.now) (g.F.Shelf.content c.args.shelf.now) before after c.cover.result (refl, c.cover.ensures.ends))
