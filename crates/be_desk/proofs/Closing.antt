@@ -2,12 +2,12 @@
 use Rattle.std.proofs.Common.{◌≡◌, ◌≢◌, ℕ, zero, suc, ◌+◌, ◌<◌, ◌≤◌, ◌==◌, ◌⊎◌, Bool, true, false, true≢false, cond, List, [], ◌∷◌, ◌++◌, length, Option, Some, None, slice_get, get_or, inl, inr, refl, sym, ap, ◌∙◌, subst, arith, length-append, append_assoc}
 use Rattle.std.specs.List.{All, AllPairs, Any, Contains, filter}
 use Rattle.std.proofs.lemmas.Bool.{cases_order, eq-eqb, eqb-true}
-use Rattle.std.proofs.lemmas.List.{append-nil, get_or_at, get_or_default}
+use Rattle.std.proofs.lemmas.List.{get_or_at, get_or_default}
 use Rattle.std.proofs.lemmas.List.Elements.{All-cons, All-contains, All-head, All-nil, All-tail}
-use Rattle.std.proofs.lemmas.Option.{slice_get-get_or, slice_get_past, slice_get_within}
+use Rattle.std.proofs.lemmas.Option.{slice_get-get_or, slice_get_within}
 use Rattle.atomic_table.specs.Seated.{TableId}
 use Rattle.be_base.specs.Lists.{BeginsWith}
-use Rattle.be_change.specs.History.{Entry, session_of, placed_from, placed_of, IsWellFormed}
+use Rattle.be_change.specs.History.{Entry, session_of, placed_from, IsWellFormed}
 use Rattle.be_change.proofs.Extends.{get-append}
 use Rattle.be_mail.specs.Letters.{seat_of}
 use Rattle.be_board.specs.Word.{own_of, IsDelivered, Keeps}
