@@ -1,19 +1,19 @@
 -- The records of all seats against the list.
-use Rattle.std.proofs.Common.{◌≡◌, ◌≢◌, ℕ, zero, suc, ◌+◌, ◌<◌, ◌≤◌, ◌==◌, ◌⊎◌, Bool, true, false, cond, List, [], ◌∷◌, ◌++◌, length, Option, Some, None, slice_get, get_or, inl, inr, refl, sym, ap, ◌∙◌, subst, arith, length-append, append_assoc}
-use Rattle.std.specs.List.{All, AllPairs, Any, Contains}
-use Rattle.std.proofs.lemmas.Bool.{cases_order, eqb-true}
-use Rattle.std.proofs.lemmas.List.{append-nil, get_or_at, get_or_default}
-use Rattle.std.proofs.lemmas.List.Elements.{All-cons, All-head, All-nil, All-tail}
-use Rattle.std.proofs.lemmas.Option.{slice_get-get_or, slice_get_past, slice_get_within}
+use Rattle.std.proofs.Common.{◌≡◌, ◌≢◌, ℕ, zero, suc, ◌+◌, ◌<◌, ◌≤◌, ◌==◌, ◌⊎◌, Bool, true, false, true≢false, cond, List, [], ◌∷◌, ◌++◌, length, Option, Some, None, slice_get, get_or, inl, inr, refl, sym, ap, ◌∙◌, subst, arith, length-append, append_assoc}
+use Rattle.std.specs.List.{All, AllPairs, Any, Contains, filter}
+use Rattle.std.proofs.lemmas.Bool.{cases_order, eq-eqb, eqb-true}
+use Rattle.std.proofs.lemmas.List.{get_or_at, get_or_default}
+use Rattle.std.proofs.lemmas.List.Elements.{All-cons, All-contains, All-head, All-nil, All-tail}
+use Rattle.std.proofs.lemmas.Option.{slice_get-get_or, slice_get_within}
 use Rattle.atomic_table.specs.Seated.{TableId}
 use Rattle.be_base.specs.Lists.{BeginsWith}
-use Rattle.be_change.specs.History.{Entry, session_of, placed_from, placed_of, IsWellFormed}
+use Rattle.be_change.specs.History.{Entry, session_of, placed_from, IsWellFormed}
 use Rattle.be_change.proofs.Extends.{get-append}
 use Rattle.be_mail.specs.Letters.{seat_of}
 use Rattle.be_board.specs.Word.{own_of, IsDelivered, Keeps}
 use Rattle.be_desk.specs.Seats.{SeatState, word_of, IsKeptSeat, put_placed, placed_at, IsRecord, IsOfSeat}
-use Rattle.be_desk.specs.Closing.{AreApart, KeepsRecord, AreRecorded, AreKept, IsListed, AreListed, HasPlace, IsFirstPlace, entry_at, StrayState, Differ, IsStray, RisesFrom, IsBeside, IsKeptAt, AreKeptBelow, IsUnkeptAt}
-use Rattle.be_desk.proofs.Places.{In, in_any}
+use Rattle.be_desk.specs.Closing.{AreApart, KeepsRecord, AreRecorded, AreKept, IsListed, pairs_at, pair_of, merged, pairs_of, HasPlace, IsFirstPlace, entry_at, StrayState, Differ, IsStray, RisesFrom, IsBeside, IsKeptAt, AreKeptBelow, IsUnkeptAt}
+use Rattle.be_desk.proofs.Places.{In, in_any, any_in}
 
 -- the pair is the list's own
 abbrev Stands : List Entry → ℕ × Entry → Type 0
@@ -86,6 +86,13 @@ matched k n e P q qs is rest =
 
 some_same : (x y : Entry) → Some x ≡ Some y → x ≡ y
 some_same x y same = cc
+
+none_some : (e : Entry) → None ≡ Some e → ⊥
+none_some e same = absurd cc
+
+some_at : (h : List Entry) (i : ℕ) → i < length h → (e : Entry) × (slice_get h i ≡ Some e)
+some_at [] i lt = absurd (omega (arith, lt))
+some_at (e ∷ es) i lt = (get_or (e ∷ es) i e, slice_get-get_or (e ∷ es) i e lt)
 
 pair_is : (h : List Entry) (p : ℕ) (e : Entry) (q : ℕ × Entry) → q.0 ≡ p → slice_get h p ≡ Some e → slice_get h q.0 ≡ Some q.1 → q ≡ (p, e)
 pair_is h p e q place at stands =
@@ -165,6 +172,10 @@ contains_pair h p e own listed at found =
     let stands : slice_get h q.0 ≡ Some q.1 = subst (IsListed (length h) h) found.3 (listed found.0 q found.2) (omega (arith, found.4, low)) in
     (found.0, found.2, subst (λ (z : ℕ × Entry). get_or own found.0 z ≡ z) (pair_is h p e q found.4 at stands) found.3)
 
+-- what stands in a record is of its seat
+of_seat : (boxes : List TableId) (h : List Entry) (p : ℕ) (e : Entry) (s : SeatState) → IsBeside boxes h s → slice_get h p ≡ Some e → HasPlace p s.own → IsOfSeat (length boxes) s.passes.seat s.session (p, e)
+of_seat boxes h p e s b at found = All-contains (IsOfSeat (length boxes) s.passes.seat s.session) s.own (p, e) b.own_all (contains_pair h p e s.own b.listed at found)
+
 recorded : (n : ℕ) (boxes : List TableId) (h : List Entry) (seats : List SeatState) → AreKeptBelow n (length boxes) h seats → All (IsBeside boxes h) seats → AreRecorded n h seats
 recorded n boxes h seats kept besides p e lt at some =
     let found = kept p e lt at some in
@@ -173,6 +184,80 @@ recorded n boxes h seats kept besides p e lt at some =
 
 pub are_kept : (boxes : List TableId) (h : List Entry) (seats : List SeatState) → AreApart seats → All (IsBeside boxes h) seats → AreKeptBelow (length h) (length boxes) h seats → IsFirstPlace (length h) seats None → AreKept boxes h seats
 are_kept boxes h seats apart besides kept low = record { records = keeps_record boxes h seats apart kept besides low; entries = recorded (length h) boxes h seats kept besides }
+
+-- the merge of the records
+
+no_pair : (p : ℕ) (own : List (ℕ × Entry)) → (In p own → ⊥) → filter (λ (q : ℕ × Entry). q.0 == p) own ≡ []
+no_pair p [] none = refl
+no_pair p (q ∷ qs) none = step (q.0 == p) refl (no_pair p qs (λ i. none (inr i)))
+  where
+    step : (b : Bool) → (q.0 == p) ≡ b → filter (λ (z : ℕ × Entry). z.0 == p) qs ≡ [] → cond b (q ∷ filter (λ (z : ℕ × Entry). z.0 == p) qs) (filter (λ (z : ℕ × Entry). z.0 == p) qs) ≡ []
+    step true is rest = absurd (none (inl (eqb-true q.0 p is)))
+    step false is rest = rest
+
+one_pair : (h : List Entry) (p n : ℕ) (e : Entry) (own : List (ℕ × Entry)) → slice_get h p ≡ Some e → RisesFrom n own → All (IsListed (length h) h) own → In p own → filter (λ (q : ℕ × Entry). q.0 == p) own ≡ (p, e) ∷ []
+one_pair h p n e [] at up listed i = absurd i
+one_pair h p n e (q ∷ qs) at up listed i = step (q.0 == p) refl i (one_pair h p (q.0 + 1) e qs at up.1 (All-tail (IsListed (length h) h) q qs listed))
+  where
+    rest : List (ℕ × Entry)
+    rest = filter (λ (z : ℕ × Entry). z.0 == p) qs
+
+    here : q.0 ≡ p → q ∷ rest ≡ (p, e) ∷ []
+    here is =
+        let low : q.0 < length h = omega (arith, is, slice_get_within h p e at) in
+        let pair : q ≡ (p, e) = pair_is h p e q is at (All-head (IsListed (length h) h) q qs listed low) in
+        ap (λ (z : ℕ × Entry). z ∷ rest) pair ∙ ap (λ (l : List (ℕ × Entry)). (p, e) ∷ l) (no_pair p qs (λ i'. absurd (omega (arith, in_above (q.0 + 1) p qs up.1 i', is))))
+
+    step : (b : Bool) → (q.0 == p) ≡ b → In p (q ∷ qs) → (In p qs → rest ≡ (p, e) ∷ []) → cond b (q ∷ rest) rest ≡ (p, e) ∷ []
+    step true is i' more = here (eqb-true q.0 p is)
+    step false is (inl same) more = absurd (true≢false (sym (eq-eqb q.0 p same) ∙ is))
+    step false is (inr i') more = more i'
+
+no_pairs : (p : ℕ) (seats : List SeatState) → All (λ (s : SeatState). In p s.own → ⊥) seats → pairs_at p seats ≡ []
+no_pairs p [] none = refl
+no_pairs p (s ∷ ss) none =
+    ap (λ (l : List (ℕ × Entry)). l ++ pairs_at p ss) (no_pair p s.own (All-head (λ (t : SeatState). In p t.own → ⊥) s ss none)) ∙ no_pairs p ss (All-tail (λ (t : SeatState). In p t.own → ⊥) s ss none)
+
+one_of_pairs : (boxes : List TableId) (h : List Entry) (p : ℕ) (e : Entry) (seats : List SeatState) → slice_get h p ≡ Some e → AreApart seats → All (IsBeside boxes h) seats → IsKeptAt (length boxes) seats p e
+    → pairs_at p seats ≡ (p, e) ∷ []
+one_of_pairs boxes h p e [] at apart besides (k, x, lt, is, found) = absurd (omega (arith, lt))
+one_of_pairs boxes h p e (s ∷ ss) at apart besides (zero, x, lt, is, found) =
+    let b : IsBeside boxes h s = All-head (IsBeside boxes h) s ss besides in
+    let here : In p s.own = in_any p s.own (subst (λ (t : SeatState). HasPlace p t.own) (sym is) found.1) in
+    let number : s.passes.seat ≡ seat_of (length boxes) (session_of e) = ap (λ (t : SeatState). t.passes.seat) is ∙ found.0 in
+    let none : pairs_at p ss ≡ [] = no_pairs p ss (λ j d within i. apart zero (suc j) d (omega arith) (omega (arith, within)) (number ∙ (of_seat boxes h p e (get_or ss j d) (besides (suc j) d (omega (arith, within))) at (any_in p (get_or ss j d).own i)).seat_is)) in
+    ap (λ (l : List (ℕ × Entry)). l ++ pairs_at p ss) (one_pair h p 0 e s.own at b.rising b.listed here) ∙ ap (λ (l : List (ℕ × Entry)). (p, e) ∷ l) none
+one_of_pairs boxes h p e (s ∷ ss) at apart besides (suc k, x, lt, is, found) =
+    let b : IsBeside boxes h s = All-head (IsBeside boxes h) s ss besides in
+    let within : k < length ss = omega (arith, lt) in
+    let there : (get_or ss k s).passes.seat ≡ seat_of (length boxes) (session_of e) = ap (λ (t : SeatState). t.passes.seat) (get_or_default ss k s x within ∙ is) ∙ found.0 in
+    let none : In p s.own → ⊥ = λ i. apart zero (suc k) s (omega arith) (omega (arith, within)) (sym (of_seat boxes h p e s b at (any_in p s.own i)).seat_is ∙ sym there) in
+    ap (λ (l : List (ℕ × Entry)). l ++ pairs_at p ss) (no_pair p s.own none)
+    ∙ one_of_pairs boxes h p e ss at (λ i j d lt' w. apart (suc i) (suc j) d (omega (arith, lt')) (omega (arith, w))) (All-tail (IsBeside boxes h) s ss besides) (k, x, within, is, found)
+
+merged_at : (boxes : List TableId) (h : List Entry) (p : ℕ) (e : Entry) (seats : List SeatState) → AreApart seats → All (IsBeside boxes h) seats → slice_get h p ≡ Some e
+    → (0 < session_of e → IsKeptAt (length boxes) seats p e) → pairs_at p seats ≡ pair_of p (Some e)
+merged_at boxes h p e seats apart besides at kept = step (session_of e == 0) refl
+  where
+    opening : session_of e ≡ 0 → All (λ (s : SeatState). In p s.own → ⊥) seats
+    opening is j d within i = absurd (omega (arith, is, (of_seat boxes h p e (get_or seats j d) (besides j d within) at (any_in p (get_or seats j d).own i)).somebody))
+
+    step : (b : Bool) → (session_of e == 0) ≡ b → pairs_at p seats ≡ cond b [] ((p, e) ∷ [])
+    step true is = no_pairs p seats (opening (eqb-true (session_of e) 0 is))
+    step false is = one_of_pairs boxes h p e seats at apart besides (kept (somebody (session_of e) is))
+      where
+        somebody : (k : ℕ) → (k == 0) ≡ false → 0 < k
+        somebody zero same = absurd (true≢false same)
+        somebody (suc k) same = omega arith
+
+merges : (n : ℕ) (boxes : List TableId) (h : List Entry) (seats : List SeatState) → AreApart seats → All (IsBeside boxes h) seats → n ≤ length h → AreKeptBelow n (length boxes) h seats → merged n seats ≡ pairs_of n h
+merges zero boxes h seats apart besides le kept = refl
+merges (suc n) boxes h seats apart besides le kept =
+    let one : (e : Entry) → slice_get h n ≡ Some e → pairs_at n seats ≡ pair_of n (slice_get h n) =
+    λ e at. merged_at boxes h n e seats apart besides at (λ some. kept n e (omega arith) at some) ∙ ap (pair_of n) (sym at) in
+    let here : (e : Entry) × (slice_get h n ≡ Some e) = some_at h n (omega (arith, le)) in
+    ap (λ (l : List (ℕ × Entry)). l ++ pairs_at n seats) (merges n boxes h seats apart besides (omega (arith, le)) (λ p e lt at some. kept p e (omega (arith, lt)) at some))
+    ∙ ap (λ (l : List (ℕ × Entry)). pairs_of n h ++ l) (one here.0 here.1)
 
 -- the place isn't the next one of any record
 not_made : (boxes : List TableId) (h : List Entry) (seats : List SeatState) (at : ℕ) (made : Option ℕ) → All (IsBeside boxes h) seats → IsUnkeptAt (length boxes) h seats at → IsFirstPlace at seats made → made ≢ Some at
@@ -192,34 +277,24 @@ not_made boxes h seats at made besides unkept first is =
 
 differ : (boxes : List TableId) (h : List Entry) (seats : List SeatState) (at : ℕ) (made : Option ℕ) (o : Option Entry) → All (IsBeside boxes h) seats → at ≤ length h → slice_get h at ≡ o
     → (at < length h → IsUnkeptAt (length boxes) h seats at) → (at ≡ length h → made ≢ None) → IsFirstPlace at seats made → Differ at o made
-differ boxes h seats at made None besides le is here end first =
-    end (step (cases_order (length h) at))
+differ boxes h seats at made None besides le is here end first = end (step (cases_order (length h) at))
   where
-    step : (length h ≡ at) ⊎ ((length h < at) ⊎ (at < length h)) → at ≡ length h
-    step (inr (inl lt)) = absurd (omega (arith, lt, le))
-    step (inl same) = sym same
-    step (inr (inr lt)) = absurd (none_some (slice_get_some h at lt))
-      where
-        slice_get_some : (l : List Entry) (i : ℕ) → i < length l → (e : Entry) × (slice_get l i ≡ Some e)
-        slice_get_some [] i lt = absurd (omega (arith, lt))
-        slice_get_some (e ∷ es) zero lt = (e, refl)
-        slice_get_some (e ∷ es) (suc i) lt = slice_get_some es i (omega (arith, lt))
+    never : (e : Entry) × (slice_get h at ≡ Some e) → ⊥
+    never found = none_some found.0 (sym is ∙ found.1)
 
-        none_some : (e : Entry) × (slice_get h at ≡ Some e) → ⊥
-        none_some found = absurd (never found.0 (sym is ∙ found.1))
-          where
-            never : (e : Entry) → None ≡ Some e → ⊥
-            never e same = absurd cc
+    step : (length h ≡ at) ⊎ ((length h < at) ⊎ (at < length h)) → at ≡ length h
+    step (inl same) = sym same
+    step (inr (inl lt)) = absurd (omega (arith, lt, le))
+    step (inr (inr lt)) = absurd (never (some_at h at lt))
 differ boxes h seats at made (Some e) besides le is here end first =
     let unkept = here (slice_get_within h at e is) in
     (subst (λ (x : Entry). 0 < session_of x) (some_same unkept.0 e (sym unkept.1 ∙ is)) unkept.2, not_made boxes h seats at made besides unkept first)
 
-pub is_stray : (boxes : List TableId) (h : List Entry) (seats : List SeatState) (s : StrayState) → All (IsBeside boxes h) seats → s.at ≤ length h → AreKeptBelow s.at (length boxes) h seats
+pub is_stray : (boxes : List TableId) (h : List Entry) (seats : List SeatState) (s : StrayState) → AreApart seats → All (IsBeside boxes h) seats → s.at ≤ length h → AreKeptBelow s.at (length boxes) h seats
     → (s.at < length h → IsUnkeptAt (length boxes) h seats s.at) → (s.at ≡ length h → s.made ≢ None) → IsFirstPlace s.at seats s.made → s.listed ≡ slice_get h s.at → s.change ≡ entry_at h s.made → IsStray h seats s
-is_stray boxes h seats s besides le kept here end first listed change = record {
+is_stray boxes h seats s apart besides le kept here end first listed change = record {
   within = le;
-  recorded = recorded s.at boxes h seats kept besides;
-  own = λ j d within i x lt low. (besides j d within).listed i x lt (omega (arith, low, le));
+  merge = merges s.at boxes h seats apart besides le kept;
   listed = listed;
   made = first;
   change = change;

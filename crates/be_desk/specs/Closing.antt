@@ -1,5 +1,5 @@
 -- What the records of all seats are against the list, when the server closes.
-use Rattle.std.specs.Prelude.{◌≡◌, ◌≢◌, ℕ, ◌<◌, ◌≤◌, ◌+◌, ⊤, List, [], ◌∷◌, length, All, AllPairs, Any, Contains, min, Option, Some, None, slice_get}
+use Rattle.std.specs.Prelude.{◌≡◌, ◌≢◌, ℕ, zero, suc, ◌<◌, ◌≤◌, ◌+◌, ◌==◌, ⊤, List, [], ◌∷◌, ◌++◌, filter, if◌then◌else◌, length, All, AllPairs, Any, Contains, min, Option, Some, None, slice_get}
 use Rattle.atomic_table.specs.Seated.{TableId}
 use Rattle.be_change.specs.History.{Entry, session_of, placed_of}
 use Rattle.be_mail.specs.Letters.{seat_of}
@@ -23,13 +23,25 @@ pub record AreKept (boxes : List TableId) (h : List Entry) (seats : List SeatSta
   pub records : All (KeepsRecord boxes h) seats
   pub entries : AreRecorded (length h) h seats
 
--- a pair that lies below n is the list's own
-abbrev pub IsListed : ℕ → List Entry → ℕ × Entry → Type 0
-IsListed n h p = p.0 < n → slice_get h p.0 ≡ Some p.1
+-- the pairs of these records at one place, seat by seat
+abbrev pub pairs_at : ℕ → List SeatState → List (ℕ × Entry)
+pairs_at n [] = []
+pairs_at n (s ∷ ss) = filter (λ (p : ℕ × Entry). p.0 == n) s.own ++ pairs_at n ss
 
--- and so for each pair of each record
-abbrev pub AreListed : ℕ → List Entry → List SeatState → Type 0
-AreListed n h seats = All (λ (s : SeatState). All (IsListed n h) s.own) seats
+-- the merge of the records, by place and then by seat, up to a place
+abbrev pub merged : ℕ → List SeatState → List (ℕ × Entry)
+merged zero seats = []
+merged (suc n) seats = merged n seats ++ pairs_at n seats
+
+-- the entry with its place, where it isn't one of the opening
+abbrev pub pair_of : ℕ → Option Entry → List (ℕ × Entry)
+pair_of n None = []
+pair_of n (Some e) = if session_of e == 0 then [] else (n, e) ∷ []
+
+-- the list's pairs of place and entry, those of the opening left out, up to a place
+abbrev pub pairs_of : ℕ → List Entry → List (ℕ × Entry)
+pairs_of zero h = []
+pairs_of (suc n) h = pairs_of n h ++ pair_of n (slice_get h n)
 
 -- the record has an entry at this place
 abbrev pub HasPlace : ℕ → List (ℕ × Entry) → Type 0
@@ -65,11 +77,10 @@ abbrev pub Differ : ℕ → Option Entry → Option ℕ → Type 0
 Differ at None made = made ≢ None
 Differ at (Some e) made = (0 < session_of e) × (made ≢ Some at)
 
--- below this place the records and the list agree, and here they differ
+-- up to this place the merge of the records is the list's pairs, and from here on it isn't
 pub record IsStray (h : List Entry) (seats : List SeatState) (s : StrayState) : Type 0 where
   pub within : s.at ≤ length h
-  pub recorded : AreRecorded s.at h seats
-  pub own : AreListed s.at h seats
+  pub merge : merged s.at seats ≡ pairs_of s.at h
   pub listed : s.listed ≡ slice_get h s.at
   pub made : IsFirstPlace s.at seats s.made
   pub change : s.change ≡ entry_at h s.made
@@ -82,6 +93,10 @@ abbrev pub least_of : Option ℕ → Option ℕ → Option ℕ
 least_of (Some a) (Some b) = Some (min a b)
 least_of (Some a) None = Some a
 least_of None b = b
+
+-- a pair that lies below n is the list's own
+abbrev pub IsListed : ℕ → List Entry → ℕ × Entry → Type 0
+IsListed n h p = p.0 < n → slice_get h p.0 ≡ Some p.1
 
 -- the places rise, from n on
 abbrev pub RisesFrom : ℕ → List (ℕ × Entry) → Type 0

@@ -1,6 +1,6 @@
 use Rattle.std.proofs.Common.{sym, subst, ◌+◌}
 use Rattle.be_desk.specs.Closing.{IsNextPlace}
-use Rattle.be_desk.proofs.Places.{IsFirstSo, first_more, first_all}
+use Rattle.be_desk.proofs.Places.{IsFirstSo, first_more}
 use Rattle.be_desk.proofs.checking.first_from.Goals as goal
 
 pub loop-seat-preserved : goal.loop-seat-preserved

@@ -14,5 +14,5 @@ returns-then-agree g c =
 pub returns : goal.returns
 returns g c =
     let end = c.len.ensures.len ∙ ap length (c.self.invariant.0 ∙ ap (λ d. d.list) c.self.view_is) in
-    is_stray g.J.BoxNames.boxes c.args.self.now.list c.args.seats.now _ c.meet_all.ensures c.first_unkept-at.ensures.within c.first_unkept-at.ensures.before c.first_unkept-at.ensures.here
+    is_stray g.J.BoxNames.boxes c.args.self.now.list c.args.seats.now _ c.requires.apart c.meet_all.ensures c.first_unkept-at.ensures.within c.first_unkept-at.ensures.before c.first_unkept-at.ensures.here
     (λ all. c.if-agree.ensures (all ∙ sym end)) c.first_from-made.ensures c.in_ok-listed.ensures c.in_ok-change.ensures

@@ -1,4 +1,4 @@
-use Rattle.std.proofs.Common.{inl, inr, sym, ap, subst, ◌∙◌, ◌≡◌, ◌++◌, length}
+use Rattle.std.proofs.Common.{inl, inr, sym, ap, subst, ◌∙◌, ◌++◌, length}
 use Rattle.std.specs.List.{All}
 use Rattle.be_base.specs.Lists.{BeginsWith}
 use Rattle.be_desk.specs.Seats.{list_in, IsOfSeat}
