@@ -1,0 +1,4 @@
+mod AtBoard
+mod Asking
+mod FilesServed
+mod Jobs

@@ -1,0 +1,16 @@
+use Rattle.std.proofs.Common.{rules, ◌≡◌, true, false, ℕ, ◌+◌, ◌-◌, ◌*◌, ◌<◌, ◌≤◌, length, ◌/◌, ◌%◌, Bool, nat_eq, nat_lt, List, [], ◌∷◌, ◌++◌, slice_index_or, slice_set, bit_and, bit_or, Fits, w8, w32, w64, Bor, MutBor}
+use Rattle.be_board.specs.Changes.{Asked}
+use Rattle.be_desk.specs.Asks.{request_of, ask_lies}
+use Rattle.be_desk.specs.Boards.{board_of}
+use Rattle.be_desk.specs.Seats.{is_over}
+use Rattle.be_hub.proofs.AtBoard.{ok_at, err_at}
+use Rattle.be_hub.proofs.board.DeskBoardBoard.tail.Goals as goal
+
+pub returns-clause-looks : goal.returns-clause-looks
+returns-clause-looks g c = c.tail.ensures.looks c.args.self.now.broom
+
+pub returns-clause-read : goal.returns-clause-read
+returns-clause-read g c = ok_at _ c.tail.result c.args.self.now.broom c.tail.ensures.read
+
+pub returns-clause-refused : goal.returns-clause-refused
+returns-clause-refused g c = err_at _ c.tail.result c.args.self.now.broom c.tail.ensures.refused

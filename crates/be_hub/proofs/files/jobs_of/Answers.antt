@@ -1,0 +1,12 @@
+use Rattle.std.proofs.Common.{rules, ◌≡◌, ℕ, ◌≤◌, [], length, map, slice_get, Some, All, IfOk, ◌+◌, ◌-◌, ◌*◌, ◌<◌, ◌/◌, ◌%◌, Bool, true, false, nat_eq, nat_lt, List, ◌∷◌, ◌++◌, slice_index_or, slice_set, bit_and, bit_or, Fits, w8, w32, w64, Bor, MutBor}
+use Rattle.be_base.specs.declared.limits.TheConstants.{FILE_BYTES, SEATS, ROUNDS}
+use Rattle.be_board.specs.Word.{own_in}
+use Rattle.be_desk.specs.Seats.{word_of}
+use Rattle.be_hub.specs.Files.{FileServed}
+use Rattle.be_hub.proofs.Jobs.{both_mapped}
+use Rattle.be_hub.proofs.files.jobs_of.Goals as goal
+
+pub returns-clause-may : goal.returns-clause-may
+returns-clause-may g c =
+    both_mapped (λ job. job.seat) (λ job. job.file) (λ seat. own_in (word_of seat) ≡ []) (λ file. length file.items ≤ FILE_BYTES) c.in_ok-jobs.jobs.items c.args.seats.items c.args.files.items
+    c.in_ok-jobs.ensures.seats c.in_ok-jobs.ensures.files c.requires.first c.requires.size

@@ -1,0 +1,24 @@
+use Rattle.std.proofs.Common.{refl, sym, ap, ◌∙◌, rules, ◌≡◌, ℕ, ◌≤◌, [], length, slice_get, Some, All, IfOk, ◌+◌, ◌-◌, ◌*◌, ◌<◌, ◌/◌, ◌%◌, Bool, true, false, nat_eq, nat_lt, List, ◌∷◌, ◌++◌, slice_index_or, slice_set, bit_and, bit_or, Fits, w8, w32, w64, Bor, MutBor}
+use Rattle.be_base.specs.declared.limits.TheConstants.{FILE_BYTES, SEATS, ROUNDS}
+use Rattle.be_board.specs.Word.{own_in}
+use Rattle.be_desk.specs.Seats.{word_of}
+use Rattle.be_hub.specs.Files.{FileServed}
+use Rattle.std.specs.Arc.{arc_value}
+use Rattle.be_board.specs.State.{BoardState}
+use Rattle.be_desk.specs.Boards.{board_of}
+use Rattle.be_hub.proofs.FilesServed.{file_served, board_same, told, link_is, few_taken}
+use Rattle.be_hub.proofs.files.serve_file.Goals as goal
+
+pub returns : goal.returns
+returns g c =
+    let e = c.serve_link-end.ensures in
+    let board : BoardState = board_of g.J.Naming.schema c.make-board.result.broom c.make-board.result.seat in
+    let was : board ≡ board_of g.J.Naming.schema 0 c.args.job.seat = board_same g.J.Naming.schema c.make-board.result.broom 0 c.make-board.result.seat c.args.job.seat (c.make-board.ensures.broom ∙ c.make.ensures) c.make-board.ensures.seat in
+    file_served _ g.J.Naming.schema c.deref.result.now c.args.job.file.items c.args.job.seat c.take-seat.result.0 c.take-seat.result.1 c.take.result.items c.serve_link-end.result
+    (told c.make-2.result c.make-3.result) (told c.serve_link-end.new.link.source c.serve_link-end.new.link.sink) board (board_of g.J.Naming.schema c.serve_link-end.new.board.broom c.serve_link-end.new.board.seat)
+    (c.deref.ensures ∙ c.hub.invariant.2) (link_is c.make-2.result c.make-3.result c.args.job.file.items c.make-2.ensures c.make-3.ensures.0 c.make-3.ensures.1) was
+    (sym (board_same g.J.Naming.schema c.take-seat.result.1 c.serve_link-end.new.board.broom c.take-seat.result.0 c.serve_link-end.new.board.seat c.take-seat.ensures.broom c.take-seat.ensures.seat))
+    (λ u. (c.take-seat.ensures.seat ∙ (ap (λ b. b.seat) u.1 ∙ c.make-board.ensures.seat), c.take.ensures ∙ (ap (λ l. l.sink.held) u.0 ∙ c.make-3.ensures.0)))
+    (ap (λ l. Some l) (sym c.take.ensures))
+    (record { reads = refl; writes = refl; taken = few_taken c.drop.inside.inner c.serve_link-end.new.link.source c.drop.invariant c.drop.view_is })
+    e.ends e.board

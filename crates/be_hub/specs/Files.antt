@@ -1,0 +1,33 @@
+-- What a worker leaves of a file that it served.
+use Rattle.std.specs.Prelude.{◌≡◌, ℕ, List, [], Some}
+use Rattle.be_io.specs.Outside.{LinkState}
+use Rattle.be_model.specs.Schemas.{Attributes}
+use Rattle.be_session.specs.declared.serve.SessionEnd.{SessionEnd}
+use Rattle.be_session.specs.declared.serve.SessionEnd.TheVariants.{Eof, Quit, ReadFault, WriteFault, Spent, Split, NoMemory}
+use Rattle.be_session.specs.Served.{SessionEnds, BoardLeft}
+use Rattle.be_desk.specs.Seats.{SeatState}
+use Rattle.be_desk.specs.Boards.{board_of}
+
+-- a file that nobody has read, beside an empty transcript
+abbrev pub file_link : List ℕ → LinkState
+file_link file = record {
+  source = record { left = Some file; faults = 0; taken = 0; whole = Some file };
+  sink = record { held = Some []; faults = 0; refusals = 0 };
+}
+
+-- no read and no write of a file fails, and none gives more than a source may
+abbrev pub IsFileEnd : SessionEnd → Type 0
+IsFileEnd Eof = Unit {0}
+IsFileEnd Quit = Unit {0}
+IsFileEnd (Split seen written) = Unit {0}
+IsFileEnd NoMemory = Unit {0}
+IsFileEnd end = ⊥
+
+-- the session of the seat was served over the file, and wrote the transcript
+pub record FileServed (s : Attributes) (file : List ℕ) (seat seat' : SeatState) (transcript : List ℕ) (end : SessionEnd) : Type 0 where
+  pub tends : ℕ
+  pub after : LinkState
+  pub session : SessionEnds ((seat' ≡ seat) × (transcript ≡ [])) s (file_link file) after (board_of s 0 seat) (board_of s tends seat') end
+  pub wrote : after.sink.held ≡ Some transcript
+  pub board : BoardLeft (board_of s 0 seat) (board_of s tends seat')
+  pub quiet : IsFileEnd end

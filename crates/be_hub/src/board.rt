@@ -1,0 +1,142 @@
+//! A seat with the shared desk and the mail, as the board of its session.
+
+ghost use Rattle.std.specs.Prelude.{◌≡◌, true, false};
+ghost use Rattle.be_board.specs.Changes.{Asked};
+ghost use Rattle.be_desk.specs.Asks.{request_of, ask_lies};
+ghost use Rattle.be_desk.specs.Boards.{board_of};
+ghost use Rattle.be_desk.specs.Seats.{is_over};
+
+use crate::hub::Hub;
+use be_base::{Name, NoRead};
+use be_board::{Answer, Board, Sent};
+use be_desk::{Ask, Broom, Seat};
+use be_mail::{BoxNames, Post};
+use be_model::{Change, Conj, Cost, Event, Found, Letter};
+use be_published::{Naming, Sheet};
+use std::alloc::Global;
+use std::sync::{Arc, MutexGuard, Wait};
+
+/// A seat at the shared desk. Its reads and its letters take no lock; its changes take that of the desk.
+#[derive(Drop)]
+pub struct DeskBoard<'a, T: Sheet<J>, J: Naming + BoxNames, S: Post, R: Wait> {
+    rt: &'a R,
+    hub: &'a Hub<T, J, S>,
+    seat: Seat<T, J>,
+    broom: Broom,
+    // Whether the rows are maintained when it is tended.
+    tends: bool,
+}
+
+impl<'a, T: Sheet<J>, J: Naming + BoxNames, S: Post, R: Wait> DeskBoard<'a, T, J, S, R> {
+    pub(crate) fn make(
+        rt: &'a R,
+        hub: &'a Hub<T, J, S>,
+        seat: Seat<T, J>,
+        broom: Broom,
+        tends: bool,
+    ) -> DeskBoard<'a, T, J, S, R>
+        ensures seat { result.seat ≡ seat }
+        ensures broom { result.broom ≡ broom }
+    {
+        DeskBoard {
+            rt,
+            hub,
+            seat,
+            broom,
+            tends,
+        }
+    }
+
+    pub(crate) fn take(self) -> (Seat<T, J>, Broom)
+        ensures seat { result.0 ≡ self.entry.seat }
+        ensures broom { result.1 ≡ self.entry.broom }
+    {
+        let DeskBoard {
+            rt: _,
+            hub: _,
+            seat,
+            broom,
+            tends: _,
+        } = self;
+        (seat, broom)
+    }
+
+    // Takes a change under the lock.
+    fn change(&mut self, alloc: Global, ask: Ask) -> Answer
+        requires present { is_over self.old.seat ≡ false }
+        requires lies { ask_lies J.schema ask ≡ true }
+        ensures { Asked (board_of J.schema self.old.broom self.old.seat) (board_of J.schema self.new.broom self.new.seat) (request_of ask) result }
+    {
+        // That the count isn't past its type's end comes to light here.
+        let _ = self.seat.splits();
+        let hub = self.hub;
+        let mut guard = hub.desk.lock(self.rt);
+        let answer = guard.change(self.rt, alloc, &mut self.seat, ask);
+        MutexGuard::unlock(guard);
+        answer
+    }
+}
+
+impl<'a, T: Sheet<J>, J: Naming + BoxNames, S: Post, R: Wait> Board for DeskBoard<'a, T, J, S, R> {
+    ghost use Rattle.be_desk.specs.Boards.{board_of};
+
+    ghost state = { λ b. board_of J.schema b.broom b.seat };
+
+    fn subscribe(&mut self, alloc: Global, name: Name, conj: Conj) -> Answer {
+        self.change(alloc, Ask::Subscribe { name, conj })
+    }
+
+    fn unsubscribe(&mut self, alloc: Global, name: &Name) -> Answer {
+        self.change(alloc, Ask::Unsubscribe { name: *name })
+    }
+
+    fn leave(&mut self, alloc: Global) -> Answer {
+        self.change(alloc, Ask::Leave)
+    }
+
+    fn left(&self) -> bool {
+        let _ = self.seat.session();
+        self.seat.left()
+    }
+
+    fn find(&mut self, event: &Event, found: &mut Found) -> Result<u64, NoRead> {
+        self.seat.find(event, found)
+    }
+
+    fn cost(&mut self, event: &Event) -> Result<(u64, Cost), NoRead> {
+        self.seat.cost(event)
+    }
+
+    fn mine(&mut self, found: &mut Found) -> Result<u64, NoRead> {
+        self.seat.mine(found)
+    }
+
+    fn all(&mut self, found: &mut Found) -> Result<u64, NoRead> {
+        self.seat.all(found)
+    }
+
+    fn tail(&mut self, from: u64, max: u64, changes: &mut Vec<Arc<Change>>) -> Result<u64, NoRead> {
+        self.seat.tail(from, max, changes)
+    }
+
+    fn send(&mut self, alloc: Global, event: &Event, found: &mut Found) -> Result<Sent, NoRead> {
+        let hub = self.hub;
+        self.seat.send(self.rt, alloc, &hub.mail, event, found)
+    }
+
+    fn fetch(&mut self) -> Option<Letter> {
+        let hub = self.hub;
+        self.seat.fetch(self.rt, &hub.mail)
+    }
+
+    fn tend(&mut self) {
+        if self.tends {
+            // That the count isn't past its type's end comes to light here.
+            let _ = self.broom.calls();
+            let hub = self.hub;
+            let mut guard = hub.desk.lock(self.rt);
+            guard.maintain(self.rt, &mut self.broom);
+            MutexGuard::unlock(guard);
+        }
+    }
+}

@@ -1,0 +1,55 @@
+//! The hub.
+
+ghost use Rattle.std.specs.Prelude.{◌≡◌};
+ghost use Rattle.std.specs.Arc.{arc_value};
+
+use be_desk::Desk;
+use be_mail::{BoxNames, Mail, Post};
+use be_model::Schema;
+use be_published::{Naming, Sheet};
+use std::marker::Model;
+use std::sync::{Arc, Mutex, Wait};
+
+/// The desk behind its lock, and the mail, which workers share. Contracts see the names of the mailboxes. It is not `Drop`: end it by `end`, or close it.
+pub struct Hub<T: Sheet<J>, J: Naming + BoxNames, S: Post> {
+    pub(crate) desk: Mutex<Desk<T, J>>,
+    pub(crate) mail: Mail<S>,
+    pub(crate) schema: Arc<Schema>,
+}
+
+impl<T: Sheet<J>, J: Naming + BoxNames, S: Post> Model for Hub<T, J, S> {
+    ghost use Rattle.std.specs.Prelude.{◌≡◌, List};
+    ghost use Rattle.std.specs.Arc.{arc_value};
+    ghost use Rattle.atomic_table.specs.Seated.{TableId};
+
+    ghost Value = { List TableId };
+
+    ghost view = { λ h. h.mail };
+
+    ghost invariant = { λ h. (h.mail ≡ J.boxes) × (S.schema ≡ J.schema) × (arc_value h.schema ≡ J.schema) };
+}
+
+impl<T: Sheet<J>, J: Naming + BoxNames, S: Post> Hub<T, J, S> {
+    /// A hub over a desk and the mail of its seats.
+    pub fn over(schema: Arc<Schema>, desk: Desk<T, J>, mail: Mail<S>) -> Hub<T, J, S>
+        requires boxes { mail ≡ J.boxes }
+        requires events { S.schema ≡ J.schema }
+        requires schema { arc_value schema ≡ J.schema }
+    {
+        Hub {
+            desk: Mutex::new(desk),
+            mail,
+            schema,
+        }
+    }
+
+    /// Gives it up, with what is held. It may wait for readers.
+    pub fn end<R: Wait>(self, rt: &R) {
+        let Hub {
+            desk,
+            mail: _,
+            schema: _,
+        } = self;
+        desk.into_inner().end(rt);
+    }
+}

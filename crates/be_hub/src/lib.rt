@@ -1,0 +1,16 @@
+//! Workers over one shared desk: a session a file, a maintainer beside them, and the close.
+//!
+//! A `Hub` has the desk behind its lock, and the mail. A `DeskBoard` is a seat with them, as the board of its session:
+//! reads need no lock, changes take it. `Hub::run_files` serves each file by a worker of its own; what each wrote is
+//! legal over every list that keeps the words of the seats that come back. It stands on be_desk, be_mail and be_session.
+//! Begin reading at specs/Files and src/board.rt.
+#![tactic(auto)]
+
+mod board;
+mod files;
+mod hub;
+mod quiet;
+
+pub use board::DeskBoard;
+pub use files::{FileEnd, FileRun};
+pub use hub::Hub;
