@@ -9,8 +9,10 @@
 mod board;
 mod files;
 mod hub;
+mod making;
 mod quiet;
 
 pub use board::DeskBoard;
 pub use files::{FileEnd, FileRun};
 pub use hub::Hub;
+pub use making::{make_hub, open_hub};
