@@ -7,10 +7,12 @@
 #![tactic(auto)]
 
 mod board;
+mod close;
 mod files;
 mod hub;
 mod quiet;
 
 pub use board::DeskBoard;
+pub use close::{CloseFault, Closed};
 pub use files::{FileEnd, FileRun};
 pub use hub::Hub;
