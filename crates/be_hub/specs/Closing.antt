@@ -8,7 +8,7 @@ use Rattle.be_board.specs.Word.{Keeps}
 use Rattle.be_desk.specs.Numbers.{Numbers, numbers}
 use Rattle.be_desk.specs.Rifts.{numbers_of}
 use Rattle.be_desk.specs.Seats.{SeatState, word_of, IsKeptSeat}
-use Rattle.be_desk.specs.Closing.{StrayState, IsStray}
+use Rattle.be_desk.specs.Closing.{IsStray}
 use Rattle.be_hub.specs.declared.close.CloseFault.{CloseFault}
 use Rattle.be_hub.specs.declared.close.CloseFault.TheVariants.{Split, Stray, NoMemory}
 

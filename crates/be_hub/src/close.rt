@@ -33,7 +33,8 @@ pub enum CloseFault {
 }
 
 impl<T: Sheet<J>, J: Naming + BoxNames, S: Post> Hub<T, J, S> {
-    /// Gives the list out, once it is compared with what all seats saw, made and took. The change that is held stands in it. It may wait for readers.
+    /// Gives the list out, with the change that is held, once it is compared with what all seats saw, made and took. It
+    /// may wait for readers.
     pub fn close<R: Wait>(
         self,
         rt: &R,
