@@ -131,6 +131,13 @@ impl<T: Sheet<J>, J: Naming + BoxNames> Seat<T, J> {
         self.glass.shade()
     }
 
+    /// Gives its passes up, and all else.
+    pub fn into_passes(self) -> MailPasses
+        ensures { result ≡ self.passes }
+    {
+        self.passes
+    }
+
     // Where the last accepted change ends.
     pub(crate) fn top(&self) -> u64
         ensures { result ≡ top self.now.own }

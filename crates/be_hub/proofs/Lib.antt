@@ -2,3 +2,4 @@ mod AtBoard
 mod Asking
 mod FilesServed
 mod Jobs
+mod Closing

@@ -1,0 +1,14 @@
+use Rattle.std.proofs.Common.{sym, subst}
+use Rattle.be_mail.specs.Settled.{TakenWerePut}
+use Rattle.be_desk.specs.Closing.{AreApart, AreKept, IsStray}
+use Rattle.be_hub.proofs.Closing.{are_apart, keeps_all, none_said}
+use Rattle.be_hub.proofs.close.compare.Goals as goal
+
+pub check_records-requires : goal.check_records-requires
+check_records-requires g c = record { apart = subst AreApart (sym c.deref.ensures.value) (are_apart g.J.BoxNames.boxes c.args.seats.items c.requires.all) }
+
+pub returns-in-None-clause-keeps : goal.returns-in-None-clause-keeps
+returns-in-None-clause-keeps g c =
+    let kept = none_said c.in-Ok.found (AreKept g.J.BoxNames.boxes c.args.desk.now.list c.deref.result.now) (λ stray. IsStray c.args.desk.now.list c.deref.result.now stray) c.in-None.is c.in-Ok.ensures in
+    keeps_all g.J.BoxNames.boxes c.args.desk.now.list c.args.desk.now.published c.args.seats.items c.len.ensures.sound.formed c.len.ensures.begins c.in_ok-passes.ensures.shown
+    (subst (AreKept g.J.BoxNames.boxes c.args.desk.now.list) c.deref.ensures.value kept) (subst TakenWerePut c.in_ok-passes.ensures.passes c.settle.ensures.taken)
