@@ -1,0 +1,100 @@
+//! A hub over two trees, whose workers serve files. Which history and which mailboxes it has is picked where these were made.
+
+ghost use Rattle.std.specs.Prelude.{◌≡◌, [], length, map, All};
+ghost use Rattle.std.specs.Arc.{arc_value};
+ghost use Rattle.std.specs.List.{range_with_len};
+ghost use Rattle.be_board.specs.Word.{own_in};
+ghost use Rattle.be_desk.specs.Seats.{word_of};
+ghost use Rattle.be_mail.specs.Mailbox.{ForEachState};
+ghost use Rattle.be_mail.specs.Passes.{new_passes};
+
+use crate::files::Script;
+use crate::shown::shown;
+use be_hub::{FileRun, Hub, make_hub};
+use be_desk::Seat;
+use be_io::NoGate;
+use be_mail::{BoxNames, Mail, MailPasses, Post, make_mail};
+use be_model::Schema;
+use be_published::{Naming, Opened, Page, Sheet};
+use be_tree::BeTree;
+use std::alloc::Global;
+use std::marker::Brand;
+use std::sync::{Arc, Wait};
+use std::thread::Threads;
+
+/// The transcripts of the files, parted by ` || `, and how often the maintainer was called.
+pub fn served<R: Threads + Wait + Sync>(
+    rt: &R,
+    alloc: Global,
+    schema: &Arc<Schema>,
+    script: Script,
+) -> Option<String> {
+    mailed::<Brand, R>(rt, alloc, schema, script)
+}
+
+// Makes the mail of the seats.
+fn mailed<S: Post + Send + Sync, R: Threads + Wait + Sync>(
+    rt: &R,
+    alloc: Global,
+    schema: &Arc<Schema>,
+    script: Script,
+) -> Option<String>
+    requires mail { (length script.files.items ≡ S.seats) × ForEachState S.found × (S.schema ≡ arc_value schema.now) }
+{
+    let (mail, passes) = make_mail::<S>(alloc, script.files.len() as u32).ok()?;
+    let opened = Opened::new();
+    begun::<S, Brand, R>(rt, alloc, opened, mail, schema, passes, script)
+}
+
+fn begun<S: Post + Send + Sync, J: Naming + BoxNames + Send + Sync, R: Threads + Wait + Sync>(
+    rt: &R,
+    alloc: Global,
+    opened: Opened,
+    mail: Mail<S>,
+    schema: &Arc<Schema>,
+    passes: Vec<MailPasses>,
+    script: Script,
+) -> Option<String>
+    requires named { (opened.seen.book ≡ J.book) × (mail ≡ J.boxes) × (arc_value schema.now ≡ J.schema) × (S.schema ≡ J.schema) }
+    requires seats { length mail ≡ length script.files.items }
+    requires passes { passes.items ≡ map (new_passes mail) (range_with_len 0 (length script.files.items)) }
+{
+    let a = BeTree::make(alloc, Arc::try_clone(schema).ok()?);
+    let b = BeTree::make(alloc, Arc::try_clone(schema).ok()?);
+    let kept = Arc::try_clone(schema).ok()?;
+    let seats = script.files.len() as u32;
+    let made = make_hub::<BeTree, J, S, R>(rt, alloc, kept, opened, a, b, seats, mail, passes);
+    let Ok((hub, seats)) = made else {
+        return None;
+    };
+    let run = served_by(rt, alloc, &hub, seats, script);
+    hub.end(rt);
+    run_text(alloc, &run?)
+}
+
+fn served_by<T: Sheet<J> + Send + Sync, J: Naming + BoxNames + Send + Sync, S: Post + Send + Sync, R: Threads + Wait + Sync>(
+    rt: &R,
+    alloc: Global,
+    hub: &Hub<T, J, S>,
+    seats: Vec<Seat<T, J>>,
+    script: Script,
+) -> Option<FileRun<T, J>>
+    requires count { length seats.items ≡ length script.files.items }
+    requires first { All (λ seat. own_in (word_of seat) ≡ []) seats.items }
+{
+    let Script { rounds, files } = script;
+    hub.run_files(rt, alloc, seats, files, rounds, &NoGate).ok()
+}
+
+fn run_text<T: Sheet<J>, J: Naming + BoxNames>(alloc: Global, run: &FileRun<T, J>) -> Option<String> {
+    let mut out = String::new(alloc);
+    let masked = run.ends.len() > 1;
+    for end in run.ends.iter() {
+        if !out.is_empty() {
+            out.push_str(" || ").ok()?;
+        }
+        out.push_str(shown(alloc, end.transcript.as_slice(), masked)?.as_str()).ok()?;
+    }
+    let calls = run.broom.calls();
+    format!(in alloc; "{out} | {calls}").ok()
+}
