@@ -1,7 +1,7 @@
 #!/usr/bin/env bash
-# Prints how long a search of a published copy takes beside the same search of one copy, at 10,000 random rows, the memory of
-# two published copies of 100,000 rows beside one, and how long a publish takes of 10,000, 20,000 and 100,000 that show one change
-# each. It builds, and so proves, a program of its own. No part of the gate.
+# Prints how long a search of a published copy takes beside the same search of one copy, at 10,000 random rows, and the memory of
+# two published copies of 100,000 rows beside one. What a publish takes it doesn't tell yet: the changes of its program are tested
+# by a scan of the whole list, which takes far longer. It builds, and so proves, a program of its own. No part of the gate.
 # shellcheck source=common.sh
 . "$(dirname "${BASH_SOURCE[0]}")/common.sh"
 mkdir -p "$room/crates/publishedbench/src"
@@ -28,16 +28,3 @@ awk -v none="$(peak /dev/null "$own" tree 0 0)" -v one="$(peak /dev/null "$own" 
     -v two="$(peak /dev/null "$own" glass 100000 0)" 'BEGIN {
     printf "memory with 100,000 rows: %.1f MB in one copy, %.1f MB in two, %.2f times as much\n", (one - none) / 1024, (two - none) / 1024, (two - none) / (one - none)
 }'
-
-# publish RUNS COUNT: how long one of so many publishes takes
-publish() {
-    local each at_once
-    each="$(measure "$1" write "$2" 0)" && at_once="$(measure "$1" append "$2" 0)" || exit 1
-    awk -v count="$2" -v each="$each" -v at_once="$at_once" 'BEGIN {
-        printf "a publish, of %d: %.2f µs\n", count, 1e6 * (each - at_once) / count
-    }'
-}
-
-publish 5 10000
-publish 5 20000
-publish 1 100000
