@@ -1,6 +1,6 @@
 //! A hub over two trees, whose workers serve files. Which history and which mailboxes it has is picked where these were made.
 
-ghost use Rattle.std.specs.Prelude.{◌≡◌, [], length, map, All};
+ghost use Rattle.std.specs.Prelude.{◌≡◌, ℕ, [], length, map, slice_get, Some, All, IfSome};
 ghost use Rattle.std.specs.Arc.{arc_value};
 ghost use Rattle.std.specs.List.{range_with_len};
 ghost use Rattle.be_board.specs.Word.{own_in};
@@ -8,10 +8,11 @@ ghost use Rattle.be_desk.specs.Seats.{word_of};
 ghost use Rattle.be_mail.specs.Mailbox.{ForEachState};
 ghost use Rattle.be_mail.specs.Passes.{new_passes};
 
+use crate::closing::changes_of;
 use crate::files::Script;
 use crate::shown::shown;
-use be_hub::{FileRun, Hub, make_hub};
 use be_desk::Seat;
+use be_hub::{FileRun, Hub, make_hub};
 use be_io::NoGate;
 use be_mail::{BoxNames, Mail, MailPasses, Post, make_mail};
 use be_model::Schema;
@@ -22,7 +23,7 @@ use std::marker::Brand;
 use std::sync::{Arc, Wait};
 use std::thread::Threads;
 
-/// The transcripts of the files, parted by ` || `, and how often the maintainer was called.
+/// The transcripts of the files, parted by ` || `, how often the maintainer was called, and how many changes the list has at its end.
 pub fn served<R: Threads + Wait + Sync>(
     rt: &R,
     alloc: Global,
@@ -67,12 +68,22 @@ fn begun<S: Post + Send + Sync, J: Naming + BoxNames + Send + Sync, R: Threads +
     let Ok((hub, seats)) = made else {
         return None;
     };
-    let run = served_by(rt, alloc, &hub, seats, script);
-    hub.end(rt);
-    run_text(alloc, &run?)
+    let Some(run) = served_by(rt, alloc, &hub, seats, script) else {
+        hub.end(rt);
+        return None;
+    };
+    let text = run_text(alloc, &run);
+    let changes = changes_of(rt, alloc, hub, run)?;
+    let text = text?;
+    format!(in alloc; "{text} | {changes}").ok()
 }
 
-fn served_by<T: Sheet<J> + Send + Sync, J: Naming + BoxNames + Send + Sync, S: Post + Send + Sync, R: Threads + Wait + Sync>(
+fn served_by<
+    T: Sheet<J> + Send + Sync,
+    J: Naming + BoxNames + Send + Sync,
+    S: Post + Send + Sync,
+    R: Threads + Wait + Sync,
+>(
     rt: &R,
     alloc: Global,
     hub: &Hub<T, J, S>,
@@ -81,19 +92,29 @@ fn served_by<T: Sheet<J> + Send + Sync, J: Naming + BoxNames + Send + Sync, S: P
 ) -> Option<FileRun<T, J>>
     requires count { length seats.items ≡ length script.files.items }
     requires first { All (λ seat. own_in (word_of seat) ≡ []) seats.items }
+    requires places { (i : ℕ) (seat : _) → slice_get seats.items i ≡ Some seat → seat.passes.seat ≡ i }
+    ensures count { IfSome result (λ run. length run.ends.items ≡ length script.files.items) }
+    ensures places { IfSome result (λ run. (i : ℕ) (end : _) → slice_get run.ends.items i ≡ Some end → end.seat.passes.seat ≡ i) }
 {
     let Script { rounds, files } = script;
-    hub.run_files(rt, alloc, seats, files, rounds, &NoGate).ok()
+    match hub.run_files(rt, alloc, seats, files, rounds, &NoGate) {
+        Ok(run) => Some(run),
+        Err(_) => None,
+    }
 }
 
-fn run_text<T: Sheet<J>, J: Naming + BoxNames>(alloc: Global, run: &FileRun<T, J>) -> Option<String> {
+fn run_text<T: Sheet<J>, J: Naming + BoxNames>(
+    alloc: Global,
+    run: &FileRun<T, J>,
+) -> Option<String> {
     let mut out = String::new(alloc);
     let masked = run.ends.len() > 1;
     for end in run.ends.iter() {
         if !out.is_empty() {
             out.push_str(" || ").ok()?;
         }
-        out.push_str(shown(alloc, end.transcript.as_slice(), masked)?.as_str()).ok()?;
+        out.push_str(shown(alloc, end.transcript.as_slice(), masked)?.as_str())
+            .ok()?;
     }
     let calls = run.broom.calls();
     format!(in alloc; "{out} | {calls}").ok()
