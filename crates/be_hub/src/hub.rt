@@ -30,11 +30,12 @@ impl<T: Sheet<J>, J: Naming + BoxNames, S: Post> Model for Hub<T, J, S> {
 }
 
 impl<T: Sheet<J>, J: Naming + BoxNames, S: Post> Hub<T, J, S> {
-    /// A hub over a desk and the mail of its seats.
-    pub fn over(schema: Arc<Schema>, desk: Desk<T, J>, mail: Mail<S>) -> Hub<T, J, S>
+    // A hub over a desk and the mail of its seats.
+    pub(crate) fn over(schema: Arc<Schema>, desk: Desk<T, J>, mail: Mail<S>) -> Hub<T, J, S>
         requires boxes { mail ≡ J.boxes }
         requires events { S.schema ≡ J.schema }
         requires schema { arc_value schema ≡ J.schema }
+        ensures { result ≡ mail }
     {
         Hub {
             desk: Mutex::new(desk),
