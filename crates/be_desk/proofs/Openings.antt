@@ -1,14 +1,15 @@
 -- A list that is put change by change.
-use Rattle.std.proofs.Common.{◌≡◌, ℕ, ◌+◌, map, List, [], ◌∷◌, ◌++◌, refl, sym, ap, ◌∙◌, subst, append_assoc, arith}
+use Rattle.std.proofs.Common.{◌≡◌, ℕ, zero, suc, ◌+◌, ◌<◌, ◌≤◌, ◌⊎◌, inl, inr, length, Some, slice_get, map, List, [], ◌∷◌, ◌++◌, refl, sym, ap, ◌∙◌, subst, append_assoc, arith}
 use Rattle.std.specs.List.{All}
 use Rattle.std.proofs.lemmas.List.Elements.{All-cons, All-head, All-nil, All-tail}
+use Rattle.std.proofs.lemmas.Option.{slice_get_within}
 use Rattle.atomic_table.specs.Seated.{TableId}
 use Rattle.be_mail.specs.Passes.{Passes, new_passes}
 use Rattle.be_desk.specs.Seats.{SeatState, seat_for, first_seat}
 use Rattle.be_base.proofs.Beginnings.{BeginsWith-same}
 use Rattle.be_published.specs.States.{PressState, settled}
-use Rattle.be_desk.specs.Desks.{IsHeld}
-use Rattle.be_change.specs.History.{Entry, IsWellFormed, MayFollow}
+use Rattle.be_desk.specs.Desks.{IsHeld, IsOpened}
+use Rattle.be_change.specs.History.{Entry, session_of, IsWellFormed, MayFollow}
 use Rattle.be_change.proofs.Forms.{formed_front, formed_last}
 
 -- a change may follow those before it
@@ -40,3 +41,31 @@ all_front P (x ∷ xs) ys all = All-cons P x xs (All-head P x (xs ++ ys) all) (a
 -- nothing is held at a press that is settled
 pub held_settled : (p : PressState) (h : List Entry) → p ≡ settled h → IsHeld p.published p.list
 held_settled p h is = subst (λ (x : PressState). IsHeld x.published x.list) (sym is) (record { begins = BeginsWith-same h; one = omega arith })
+
+-- a desk's list is opened by all of it
+pub opened_same : (h : List Entry) → IsOpened h h
+opened_same h = record {
+  begins = BeginsWith-same h;
+  behind = λ p e le at. absurd (omega (arith, le, slice_get_within h p e at));
+}
+
+some_same : {X : Type 0} (a b : X) → Some a ≡ Some b → a ≡ b
+some_same a b e = cc
+
+-- at a place of a list with one entry more stands what stood there, or the new one
+one_more : (h : List Entry) (e x : Entry) (p : ℕ) → slice_get (h ++ e ∷ []) p ≡ Some x → (slice_get h p ≡ Some x) ⊎ (e ≡ x)
+one_more [] e x zero at = inr (some_same e x at)
+one_more [] e x (suc p) at = absurd cc
+one_more (a ∷ h) e x zero at = inl at
+one_more (a ∷ h) e x (suc p) at = one_more h e x p at
+
+-- a change of a session comes behind the opening
+pub opened_more : (opening h : List Entry) (e : Entry) → 0 < session_of e → IsOpened opening h → IsOpened opening (h ++ e ∷ [])
+opened_more opening h e some opened = record {
+  begins = (opened.begins.0 ++ e ∷ [], ap (λ (l : List Entry). l ++ e ∷ []) opened.begins.1 ∙ append_assoc opening opened.begins.0 (e ∷ []));
+  behind = λ p x le at. go p x le (one_more h e x p at);
+}
+  where
+    go : (p : ℕ) (x : Entry) → length opening ≤ p → (slice_get h p ≡ Some x) ⊎ (e ≡ x) → 0 < session_of x
+    go p x le (inl at) = opened.behind p x le at
+    go p x le (inr is) = subst (λ (y : Entry). 0 < session_of y) is some

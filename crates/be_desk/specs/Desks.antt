@@ -1,7 +1,7 @@
 -- The desk as contracts see it.
-use Rattle.std.specs.Prelude.{◌≡◌, ℕ, ◌+◌, ◌≤◌, ◌<◌, List, length}
+use Rattle.std.specs.Prelude.{◌≡◌, ℕ, ◌+◌, ◌≤◌, ◌<◌, List, length, Some, slice_get}
 use Rattle.be_base.specs.Lists.{BeginsWith}
-use Rattle.be_change.specs.History.{Entry}
+use Rattle.be_change.specs.History.{Entry, session_of}
 use Rattle.be_published.specs.States.{GlassState, new_glass}
 
 pub record DeskState : Type 0 where
@@ -11,6 +11,11 @@ pub record DeskState : Type 0 where
   pub list : List Entry
   -- what the reader that plans knows and counted
   pub glass : GlassState
+
+-- the list begins with this opening, and each entry behind it is of a session
+pub record IsOpened (opening list : List Entry) : Type 0 where
+  pub begins : BeginsWith list opening
+  pub behind : (place : ℕ) (e : Entry) → length opening ≤ place → slice_get list place ≡ Some e → 0 < session_of e
 
 -- at most the last change is held
 pub record IsHeld (published list : List Entry) : Type 0 where

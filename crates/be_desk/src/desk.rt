@@ -5,7 +5,7 @@ ghost use Rattle.std.specs.Option.{is_some};
 ghost use Rattle.be_base.specs.Lists.{BeginsWith};
 ghost use Rattle.be_change.specs.Sound.{Sound};
 ghost use Rattle.be_published.specs.Reads.{Meets};
-ghost use Rattle.be_desk.specs.Desks.{freed, HasHeld};
+ghost use Rattle.be_desk.specs.Desks.{freed, HasHeld, IsOpened};
 ghost use Rattle.be_desk.specs.Numbers.{numbers};
 ghost use Rattle.be_desk.specs.Rifts.{numbers_of};
 ghost use Rattle.be_desk.specs.Seats.{SeatState, is_over};
@@ -33,13 +33,13 @@ pub struct Desk<T: Sheet<J>, J: Naming + BoxNames> {
 
 impl<T: Sheet<J>, J: Naming + BoxNames> Model for Desk<T, J> {
     ghost use Rattle.std.specs.Prelude.{◌≡◌, ◌<◌, length};
-    ghost use Rattle.be_desk.specs.Desks.{DeskState, IsHeld};
+    ghost use Rattle.be_desk.specs.Desks.{DeskState, IsHeld, IsOpened};
 
     ghost Value = { DeskState };
 
     ghost view = { λ d. record { published = d.press.published; list = d.press.list; glass = d.glass } };
 
-    ghost invariant = { λ d. (d.ledger ≡ d.press.list) × IsHeld d.press.published d.press.list × (d.seats ≡ length J.boxes) × (0 < d.seats) };
+    ghost invariant = { λ d. (d.ledger ≡ d.press.list) × IsHeld d.press.published d.press.list × (d.seats ≡ length J.boxes) × (0 < d.seats) × IsOpened J.opening d.press.list };
 }
 
 impl<T: Sheet<J>, J: Naming + BoxNames> Desk<T, J> {
@@ -49,6 +49,7 @@ impl<T: Sheet<J>, J: Naming + BoxNames> Desk<T, J> {
         ensures sound { Sound J.schema self.now.list }
         ensures begins { BeginsWith self.now.list self.now.published }
         ensures held { length self.now.list ≤ result + 1 }
+        ensures opened { IsOpened J.opening self.now.list }
     {
         self.press.len()
     }

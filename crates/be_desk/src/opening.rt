@@ -33,7 +33,7 @@ pub fn make_desk<I: Index, J: Naming + BoxNames, R: Wait>(
     seats: u32,
     passes: Vec<MailPasses>,
 ) -> Result<(Desk<Page<I, J>, J>, Vec<Seat<Page<I, J>, J>>), NoMemory>
-    requires named { opened.seen.book ≡ J.book }
+    requires named { (opened.seen.book ≡ J.book) × (J.opening ≡ []) }
     requires schema { (I.schema index_a ≡ J.schema) × (I.schema index_b ≡ J.schema) }
     requires bounded { (I.is_bounded index_a ≡ true) × (I.is_bounded index_b ≡ true) }
     requires empty { (I.rows index_a ≡ []) × (I.rows index_b ≡ []) }
@@ -65,7 +65,7 @@ pub fn open_desk<I: Index, J: Naming + BoxNames, R: Wait>(
     rows: Vec<Row>,
     passes: Vec<MailPasses>,
 ) -> Result<(Desk<Page<I, J>, J>, Vec<Seat<Page<I, J>, J>>), NoMemory>
-    requires named { opened.seen.book ≡ J.book }
+    requires named { (opened.seen.book ≡ J.book) × (J.opening ≡ opening_of rows.items) }
     requires schema { (I.schema index_a ≡ J.schema) × (I.schema index_b ≡ J.schema) }
     requires bounded { (I.is_bounded index_a ≡ true) × (I.is_bounded index_b ≡ true) }
     requires empty { (I.rows index_a ≡ []) × (I.rows index_b ≡ []) }

@@ -3,3 +3,6 @@ mod Asking
 mod FilesServed
 mod Jobs
 mod Closing
+mod Ends
+mod Transcripts
+mod Served

@@ -9,6 +9,7 @@ use Rattle.be_desk.specs.Numbers.{Numbers, numbers}
 use Rattle.be_desk.specs.Rifts.{numbers_of}
 use Rattle.be_desk.specs.Seats.{SeatState, word_of, IsKeptSeat}
 use Rattle.be_desk.specs.Closing.{IsStray}
+use Rattle.be_desk.specs.Desks.{IsOpened}
 use Rattle.be_hub.specs.declared.close.CloseFault.{CloseFault}
 use Rattle.be_hub.specs.declared.close.CloseFault.TheVariants.{Split, Stray, NoMemory}
 
@@ -41,10 +42,11 @@ IsFault boxes published h seats (Split rift) = Any (IsAhead published (numbers_o
 IsFault boxes published h seats (Stray stray) = All (IsShown boxes published) seats × IsStray h seats stray
 IsFault boxes published h seats NoMemory = Unit {0}
 
--- it is so of the desk's list and what of it is published
-pub record IsRefused (boxes : List TableId) (seats : List SeatState) (fault : CloseFault) : Type 0 where
+-- it is so of the desk's list, which begins with its opening, and what of it is published
+pub record IsRefused (opening : List Entry) (boxes : List TableId) (seats : List SeatState) (fault : CloseFault) : Type 0 where
   pub published : List Entry
   pub list : List Entry
   pub formed : IsWellFormed list
+  pub opened : IsOpened opening list
   pub begins : BeginsWith list published
   pub why : IsFault boxes published list seats fault

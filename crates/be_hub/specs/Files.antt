@@ -1,5 +1,5 @@
 -- What a worker leaves of a file that it served.
-use Rattle.std.specs.Prelude.{◌≡◌, ℕ, List, [], Some}
+use Rattle.std.specs.Prelude.{◌≡◌, ℕ, ◌<◌, Bool, true, false, List, [], Some}
 use Rattle.be_io.specs.Outside.{LinkState}
 use Rattle.be_model.specs.Schemas.{Attributes}
 use Rattle.be_session.specs.declared.serve.SessionEnd.{SessionEnd}
@@ -31,3 +31,22 @@ pub record FileServed (s : Attributes) (file : List ℕ) (seat seat' : SeatState
   pub wrote : after.sink.held ≡ Some transcript
   pub board : BoardLeft (board_of s 0 seat) (board_of s tends seat')
   pub quiet : IsFileEnd end
+
+-- the file was read to its end or to a QUIT
+abbrev pub IsRead : SessionEnd → Type 0
+IsRead Eof = Unit {0}
+IsRead Quit = Unit {0}
+IsRead end = ⊥
+
+abbrev pub lacks_memory : SessionEnd → Bool
+lacks_memory NoMemory = true
+lacks_memory end = false
+
+abbrev pub is_split_end : SessionEnd → Bool
+is_split_end (Split seen written) = true
+is_split_end end = false
+
+-- a file's session ends so at its seat, which counts each SPLIT
+pub record IsEndOf (seat : SeatState) (end : SessionEnd) : Type 0 where
+  pub quiet : IsFileEnd end
+  pub counted : is_split_end end ≡ true → 0 < seat.splits

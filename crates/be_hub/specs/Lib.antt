@@ -1,3 +1,4 @@
 pub mod Quiet
 pub mod Files
 pub mod Closing
+pub mod Transcripts

@@ -2,9 +2,10 @@
 
 ghost use Rattle.std.specs.Prelude.{◌≡◌, length, map, All, IfOk, IfErr};
 ghost use Rattle.be_base.specs.Lists.{BeginsWith};
-ghost use Rattle.be_change.specs.History.{IsWellFormed};
+ghost use Rattle.be_change.specs.Sound.{Sound};
 ghost use Rattle.be_mail.specs.Settled.{AreAll};
 ghost use Rattle.be_desk.specs.Closing.{AreRecorded};
+ghost use Rattle.be_desk.specs.Desks.{IsOpened};
 ghost use Rattle.be_desk.specs.Rifts.{numbers_of};
 ghost use Rattle.be_hub.specs.Closing.{KeepsAll, IsShown, IsAhead, IsLate, IsFault, IsRefused};
 
@@ -42,10 +43,11 @@ impl<T: Sheet<J>, J: Naming + BoxNames, S: Post> Hub<T, J, S> {
         seats: Vec<Seat<T, J>>,
     ) -> Result<Closed, CloseFault>
         requires all { AreAll J.boxes (map (λ s. s.passes) seats.items) }
-        ensures formed { IfOk result (λ closed. IsWellFormed closed.log.list) }
+        ensures sound { IfOk result (λ closed. Sound J.schema closed.log.list) }
+        ensures opened { IfOk result (λ closed. IsOpened J.opening closed.log.list) }
         ensures keeps { IfOk result (λ closed. All (KeepsAll J.boxes closed.log.list) seats.items) }
         ensures recorded { IfOk result (λ closed. AreRecorded (length closed.log.list) closed.log.list seats.items) }
-        ensures fault { IfErr result (λ fault. IsRefused J.boxes seats.items fault) }
+        ensures fault { IfErr result (λ fault. IsRefused J.opening J.boxes seats.items fault) }
     {
         let Hub {
             desk,
@@ -76,7 +78,8 @@ fn compare<T: Sheet<J>, J: Naming + BoxNames, S: Post, R: Wait>(
 ) -> Result<(), CloseFault>
     requires mail { mail.now ≡ J.boxes }
     requires all { AreAll J.boxes (map (λ s. s.passes) seats.items) }
-    ensures formed { IsWellFormed desk.now.list }
+    ensures sound { Sound J.schema desk.now.list }
+    ensures opened { IsOpened J.opening desk.now.list }
     ensures begins { BeginsWith desk.now.list desk.now.published }
     ensures keeps { IfOk result (λ _. All (KeepsAll J.boxes desk.now.list) seats.items) }
     ensures recorded { IfOk result (λ _. AreRecorded (length desk.now.list) desk.now.list seats.items) }

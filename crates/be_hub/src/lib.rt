@@ -9,6 +9,7 @@
 
 mod board;
 mod close;
+mod drill;
 mod files;
 mod hub;
 mod making;
@@ -16,6 +17,7 @@ mod quiet;
 
 pub use board::DeskBoard;
 pub use close::{CloseFault, Closed};
+pub use drill::Drilled;
 pub use files::{FileEnd, FileRun};
 pub use hub::Hub;
 pub use making::{make_hub, open_hub};

@@ -31,7 +31,7 @@ pub fn make_hub<I: Index, J: Naming + BoxNames, S: Post, R: Wait>(
     mail: Mail<S>,
     passes: Vec<MailPasses>,
 ) -> Result<(Hub<Page<I, J>, J, S>, Vec<Seat<Page<I, J>, J>>), NoMemory>
-    requires named { opened.seen.book ≡ J.book }
+    requires named { (opened.seen.book ≡ J.book) × (J.opening ≡ []) }
     requires schema { (arc_value schema ≡ J.schema) × (S.schema ≡ J.schema) }
     requires indexes { (I.schema index_a ≡ J.schema) × (I.schema index_b ≡ J.schema) }
     requires bounded { (I.is_bounded index_a ≡ true) × (I.is_bounded index_b ≡ true) }
@@ -68,7 +68,7 @@ pub fn open_hub<I: Index, J: Naming + BoxNames, S: Post, R: Wait>(
     mail: Mail<S>,
     passes: Vec<MailPasses>,
 ) -> Result<(Hub<Page<I, J>, J, S>, Vec<Seat<Page<I, J>, J>>), NoMemory>
-    requires named { opened.seen.book ≡ J.book }
+    requires named { (opened.seen.book ≡ J.book) × (J.opening ≡ opening_of rows.items) }
     requires schema { (arc_value schema ≡ J.schema) × (S.schema ≡ J.schema) }
     requires indexes { (I.schema index_a ≡ J.schema) × (I.schema index_b ≡ J.schema) }
     requires bounded { (I.is_bounded index_a ≡ true) × (I.is_bounded index_b ≡ true) }

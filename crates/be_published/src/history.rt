@@ -69,23 +69,30 @@ impl Plain<Change, Line, u64> for Add {
     ghost state = { λ change. None };
 }
 
-/// Which history it is, and the schema of its changes. It is for proofs alone, and says of a press, of glasses and of what
+/// Which history it is, the schema of its changes, and those with which it begins. It is for proofs alone, and says of a press, of glasses and of what
 /// was told that they belong together. It is chosen where a history is opened, before the two copies are made.
 pub trait Naming {
     ghost use Rattle.logbook.specs.Pages.{Book};
+    ghost use Rattle.std.specs.Prelude.{List};
     ghost use Rattle.be_model.specs.Schemas.{Attributes};
+    ghost use Rattle.be_change.specs.History.{Entry};
 
     ghost book: { Book };
 
     ghost schema: { Attributes };
+
+    ghost opening: { List Entry };
 }
 
 impl Naming for Brand {
+    ghost use Rattle.std.specs.Prelude.{[]};
     ghost use Rattle.be_published.specs.Histories.{no_book, no_attributes};
 
     ghost book = { no_book };
 
     ghost schema = { no_attributes };
+
+    ghost opening = { [] };
 }
 
 /// An empty history that has no name yet.

@@ -1,5 +1,5 @@
 -- What the files hold decides the status.
-use Rattle.std.proofs.Common.{◌≡◌, ◌⊎◌, inl, inr, ℕ, ◌<◌, ◌≤◌, List, length, Option, Some, None, Result, Ok, Err, refl, sym, subst, ◌∙◌, arith}
+use Rattle.std.proofs.Common.{◌≡◌, ◌⊎◌, inl, inr, ℕ, ◌<◌, ◌≤◌, List, [], ◌∷◌, length, map, Option, Some, None, Result, Ok, Err, refl, sym, subst, ◌∙◌, arith}
 use Rattle.be_base.specs.Text.{Text}
 use Rattle.be_base.specs.declared.limits.TheConstants.{FILE_BYTES}
 use Rattle.be_event.specs.declared.schema_texts.SchemaFault.{SchemaFault}
@@ -14,12 +14,13 @@ use Rattle.be_model.specs.Schemas.{Attributes}
 use Rattle.be_table.specs.declared.faults.TableFault.TheVariants as table
 use Rattle.be_table.specs.declared.faults.TableKind.{TableKind}
 use Rattle.be_table.specs.Tables.{table_of}
-use Rattle.be_words.specs.Words.{Request, run, gen, cover}
+use Rattle.be_words.specs.Words.{Request, run, gen, cover, drill}
 use Rattle.be_server.specs.declared.status.Status.{Status}
 use Rattle.be_server.specs.declared.status.Status.TheVariants.{Done, Words, SchemaBad, LoadBad, NoMemory, ReadFault, LongFile, WriteFault, Spent, Split, Stray, Shut}
-use Rattle.be_server.specs.Exact.{IsFaultless, FileIsRefused, ToldAs, ToldLong, LoadIsGood, SchemaDecides, LoadDecides, IsExact, EndsExactly}
+use Rattle.be_server.specs.Exact.{IsFaultless, FileIsRefused, ToldAs, ToldLong, LoadIsGood, SchemaDecides, LoadDecides, AllIsDone, EndsDrill, ScriptDecides, ScriptsDecide, IsExact, EndsExactly}
 use Rattle.be_server.specs.Files.{ToldFile, RunFiles, run_files, FileReads, FileIsLong, IsSchemaOf, IfLoads, TableReads, AreRowsOf, SchemaIsBad, LoadIsBad, OneIsLong}
 use Rattle.be_server.specs.Covers.{CoverEnds}
+use Rattle.be_server.specs.Drills.{ToldFiles, AreScripts, FirstIsLong, SomeIsLong, RanDrill, drill_files, DrillEnds}
 use Rattle.be_server.specs.Generated.{GenEnds}
 use Rattle.be_server.specs.Promise.{CommandState, RunEnds, Ends}
 
@@ -83,35 +84,33 @@ good_named s None P is good = absurd is
 good_named s (Some file) P is good = (file, is, good.0, good.1)
 
 -- a session was served with the files, so they are as they should be, and where no call failed all is done
-exact_served : (files : RunFiles) (before after : CommandState) (status : Status) (s : Attributes) (rows : List Row) → IsSchemaOf files.schema s → AreRowsOf s files.load rows
-    → (IsFaultless before after → (status ≡ Done) ⊎ (status ≡ NoMemory)) → IsExact files before after status
-exact_served files before after status s rows is_schema are ends = record {
+exact_served : {Due : Type 0} (files : RunFiles) (before after : CommandState) (status : Status) (s : Attributes) (rows : List Row) → IsSchemaOf files.schema s → AreRowsOf s files.load rows → Due → IsExact files before after status Due
+exact_served files before after status s rows is_schema are due = record {
   schema = schema_good files.schema s before after status is_schema.1;
   load = λ t file good named.
       let same = same_schema files.schema s t is_schema.1 good in
       subst (λ (x : Attributes). LoadDecides x file before after status) same (load_good s file rows before after status (rows_named s files.load file rows are named));
-  complete = λ t good loads. ends;
+  good = λ t good loads. due;
 }
 
 -- memory was wanting, or the shelf failed
-exact_refused : (files : RunFiles) (before after : CommandState) (status : Status) → FileIsRefused before after status
-    → (IsFaultless before after → (status ≡ Done) ⊎ (status ≡ NoMemory)) → IsExact files before after status
-exact_refused files before after status refused ends = record {
+exact_refused : {Due : Type 0} (files : RunFiles) (before after : CommandState) (status : Status) → FileIsRefused before after status → Due → IsExact files before after status Due
+exact_refused files before after status refused due = record {
   schema = record { bad = λ line kind t. inr refused; long = λ t. inr refused; missing = λ none. refused };
   load = λ s file good named. record { bad = λ line kind t. inr refused; long = λ t. inr refused; missing = λ none. refused };
-  complete = λ s good loads. ends;
+  good = λ s good loads. due;
 }
 
 -- the schema is faulty
-exact_schema : (files : RunFiles) (before after : CommandState) (status : Status) (read : Result Attributes SchemaFault) → FileReads schema_of files.schema read
-    → ((s : Attributes) → read ≡ Ok s → ⊥) → SchemaDecides files.schema before after status → IsExact files before after status
+exact_schema : {Due : Type 0} (files : RunFiles) (before after : CommandState) (status : Status) (read : Result Attributes SchemaFault) → FileReads schema_of files.schema read
+    → ((s : Attributes) → read ≡ Ok s → ⊥) → SchemaDecides files.schema before after status → IsExact files before after status Due
 exact_schema files before after status read f none decides = record {
   schema = decides;
   load = λ s file good named. absurd (none s (one_reading schema_of files.schema read (Ok s) f good));
-  complete = λ s good loads quiet. absurd (none s (one_reading schema_of files.schema read (Ok s) f good));
+  good = λ s good loads. absurd (none s (one_reading schema_of files.schema read (Ok s) f good));
 }
 
-exact_schema_bad : (files : RunFiles) (before after : CommandState) (l : ℕ) (k : SchemaKind) → SchemaIsBad files l k → IsExact files before after (SchemaBad l k)
+exact_schema_bad : {Due : Type 0} (files : RunFiles) (before after : CommandState) (l : ℕ) (k : SchemaKind) → SchemaIsBad files l k → IsExact files before after (SchemaBad l k) Due
 exact_schema_bad files before after l k f = exact_schema files before after (SchemaBad l k) (Err (schema.Line l k)) f (λ s e. absurd cc) (record {
   bad = λ line kind t. let same : Err (schema.Line l k) ≡ Err (schema.Line line kind) = one_reading schema_of files.schema (Err (schema.Line l k)) (Err (schema.Line line kind)) f t in inl cc;
   long = λ t. absurd (not_long schema_of files.schema (Err (schema.Line l k)) f t);
@@ -119,7 +118,7 @@ exact_schema_bad files before after l k f = exact_schema files before after (Sch
 })
 
 -- the load file is faulty
-exact_load_bad : (files : RunFiles) (before after : CommandState) (l : ℕ) (k : TableKind) → LoadIsBad files l k → IsExact files before after (LoadBad l k)
+exact_load_bad : {Due : Type 0} (files : RunFiles) (before after : CommandState) (l : ℕ) (k : TableKind) → LoadIsBad files l k → IsExact files before after (LoadBad l k) Due
 exact_load_bad files before after l k f =
     let s = f.0 in
     let P = λ (file : ToldFile). FileReads (table_of s) file (Err (table.Line l k)) in
@@ -132,14 +131,14 @@ exact_load_bad files before after l k f =
             long = λ told_long. absurd (not_long (table_of s) file (Err (table.Line l k)) here told_long);
             missing = λ none. absurd (not_gone (table_of s) file (Err (table.Line l k)) here none);
           });
-      complete = λ t good loads quiet.
+      good = λ t good loads.
           let loads_s = subst (λ (x : Attributes). LoadIsGood x files.load) (sym (same_schema files.schema s t f.1.1 good)) loads in
           let named = good_named s files.load P f.2 loads_s in
           let clash : Err (table.Line l k) ≡ Ok named.2 = one_reading (table_of s) named.0 (Err (table.Line l k)) (Ok named.2) named.1 named.3 in absurd cc;
     }
 
 -- a file is over the limit
-exact_long : (files : RunFiles) (before after : CommandState) → OneIsLong files → IsExact files before after LongFile
+exact_long : {Due : Type 0} (files : RunFiles) (before after : CommandState) → OneIsLong files → IsExact files before after LongFile Due
 exact_long files before after (inl f) = record {
   schema = record {
     bad = λ line kind t. absurd (not_short schema_of files.schema (Err (schema.Line line kind)) f t);
@@ -147,7 +146,7 @@ exact_long files before after (inl f) = record {
     missing = λ none. absurd (long_stays files.schema f none);
   };
   load = λ s file good named. absurd (not_short schema_of files.schema (Ok s) f good);
-  complete = λ s good loads quiet. absurd (not_short schema_of files.schema (Ok s) f good);
+  good = λ s good loads. absurd (not_short schema_of files.schema (Ok s) f good);
 }
 exact_long files before after (inr f) =
     let s = f.0 in
@@ -160,12 +159,12 @@ exact_long files before after (inr f) =
             long = λ told_long. inl refl;
             missing = λ none. absurd (long_stays file here none);
           };
-      complete = λ t good loads quiet.
+      good = λ t good loads.
           let named = good_named t files.load FileIsLong f.2 loads in
           absurd (not_short (table_of t) named.0 (Ok named.2) named.1 named.3);
     }
 
-exact_run : (Untouched : Type 0) (files : RunFiles) (before after : CommandState) (status : Status) → RunEnds Untouched files before after status → IsExact files before after status
+exact_run : (Untouched : Type 0) (files : RunFiles) (before after : CommandState) (status : Status) → RunEnds Untouched files before after status → IsExact files before after status (AllIsDone before after status)
 exact_run U files before after Done (_, inl r) = exact_served files before after Done r.schema r.rows r.is_schema r.are_rows (λ quiet. inl refl)
 exact_run U files before after Done (_, inr r) = exact_served files before after Done r.schema r.rows r.is_schema r.are_rows (λ quiet. inl refl)
 exact_run U files before after Words r = absurd r
@@ -188,7 +187,7 @@ exact_gen K number subs events before after WriteFault e quiet = absurd (quiet e
 exact_gen K number subs events before after NoMemory e quiet = inr refl
 exact_gen K number subs events before after _ e quiet = absurd e
 
-exact_cover : (Kept : Type 0) (files : RunFiles) (name : Text) (before after : CommandState) (status : Status) → CoverEnds Kept files name before.shelf after.shelf before.link.sink after.link.sink status → IsExact files before after status
+exact_cover : (Kept : Type 0) (files : RunFiles) (name : Text) (before after : CommandState) (status : Status) → CoverEnds Kept files name before.shelf after.shelf before.link.sink after.link.sink status → IsExact files before after status (AllIsDone before after status)
 exact_cover K files name before after Done r = exact_served files before after Done r.1.schema r.1.rows r.1.is_schema r.1.are_rows (λ quiet. inl refl)
 exact_cover K files name before after (SchemaBad l k) r = exact_schema_bad files before after l k r.2
 exact_cover K files name before after (LoadBad l k) r = exact_load_bad files before after l k r.2
@@ -198,9 +197,64 @@ exact_cover K files name before after LongFile r = exact_long files before after
 exact_cover K files name before after WriteFault r = exact_served files before after WriteFault r.1.schema r.1.rows r.1.is_schema r.1.are_rows (λ quiet. absurd (quiet.sink r.1.written.1))
 exact_cover K files name before after _ r = absurd r
 
+-- a session's file is read as what it holds
+abbrev itself : List ℕ → List ℕ
+itself text = text
+
+script_good : (file : ToldFile) (script : List ℕ) (before after : CommandState) (status : Status) → FileReads itself file script → ScriptDecides file before after status
+script_good file script before after status f = record {
+  long = λ t. absurd (not_long itself file script f t);
+  missing = λ none. absurd (not_gone itself file script f none);
+}
+
+scripts_good : (files : List ToldFile) (scripts : List (List ℕ)) (before after : CommandState) (status : Status) → AreScripts files scripts → (IsFaultless before after → EndsDrill status) → ScriptsDecide files before after status
+scripts_good [] [] before after status are ends = ends
+scripts_good [] (script ∷ scripts) before after status are ends = absurd are
+scripts_good (file ∷ files) [] before after status are ends = absurd are
+scripts_good (file ∷ files) (script ∷ scripts) before after status are ends =
+    (script_good file script before after status are.0, λ text told_as. scripts_good files scripts before after status are.1 ends)
+
+scripts_refused : (files : List ToldFile) (before after : CommandState) (status : Status) → FileIsRefused before after status → (IsFaultless before after → EndsDrill status) → ScriptsDecide files before after status
+scripts_refused [] before after status refused ends = ends
+scripts_refused (file ∷ files) before after status refused ends =
+    (record { long = λ t. inr refused; missing = λ none. refused }, λ text told_as. scripts_refused files before after status refused ends)
+
+scripts_long : (files : List ToldFile) (before after : CommandState) → FirstIsLong files → ScriptsDecide files before after LongFile
+scripts_long [] before after long = absurd long
+scripts_long (file ∷ files) before after (inl f) =
+    (record { long = λ t. inl refl; missing = λ none. absurd (long_stays file f none) }, λ text told_as. absurd (not_short itself file text f told_as))
+scripts_long (file ∷ files) before after (inr f) =
+    (script_good file f.0 before after LongFile f.1, λ text told_as. scripts_long files before after f.2)
+
+-- where the files are good
+exact_ran : (Kept : Type 0) (files : ToldFiles) (before after : CommandState) (status : Status) → RanDrill Kept files before.link.sink after.link.sink status → (IsFaultless before after → EndsDrill status)
+    → IsExact files.run before after status (ScriptsDecide files.scripts before after status)
+exact_ran K files before after status r ends =
+    exact_served files.run before after status r.schema r.rows r.good.is_schema r.good.are_rows (scripts_good files.scripts r.scripts before after status r.good.are_scripts ends)
+
+exact_drill_long : (files : ToldFiles) (before after : CommandState) → SomeIsLong files → IsExact files.run before after LongFile (ScriptsDecide files.scripts before after LongFile)
+exact_drill_long files before after (inl long) = exact_long files.run before after long
+exact_drill_long files before after (inr (s, rows, is_schema, are_rows, long)) = exact_served files.run before after LongFile s rows is_schema are_rows (scripts_long files.scripts before after long)
+
+exact_drill : (Kept : Type 0) (files : ToldFiles) (before after : CommandState) (status : Status) → DrillEnds Kept files before.shelf after.shelf before.link.sink after.link.sink status
+    → IsExact files.run before after status (ScriptsDecide files.scripts before after status)
+exact_drill K files before after Done r = exact_ran K files before after Done r.1 (λ quiet. tt)
+exact_drill K files before after Words r = absurd r.1.runs
+exact_drill K files before after (SchemaBad l k) r = exact_schema_bad files.run before after l k r.2
+exact_drill K files before after (LoadBad l k) r = exact_load_bad files.run before after l k r.2
+exact_drill K files before after NoMemory r = exact_refused files.run before after NoMemory (inr (refl, r.0)) (scripts_refused files.scripts before after NoMemory (inr (refl, r.0)) (λ quiet. tt))
+exact_drill K files before after ReadFault r = exact_refused files.run before after ReadFault (inl (refl, r.0)) (scripts_refused files.scripts before after ReadFault (inl (refl, r.0)) (λ quiet. absurd (quiet.shelf r.0)))
+exact_drill K files before after LongFile r = exact_drill_long files before after r.2
+exact_drill K files before after WriteFault r = exact_ran K files before after WriteFault r.1 (λ quiet. absurd (quiet.sink r.1.runs.1.written.1))
+exact_drill K files before after Spent r = absurd r.1.runs
+exact_drill K files before after (Split rift) r = exact_ran K files before after (Split rift) r.1 (λ quiet. tt)
+exact_drill K files before after (Stray stray) r = exact_ran K files before after (Stray stray) r.1 (λ quiet. tt)
+exact_drill K files before after (Shut shade) r = exact_ran K files before after (Shut shade) r.1 (λ quiet. tt)
+
 pub exact_ends : (c : Option Request) (InputKept OutKept : Type 0) (content : Text → ToldFile) (before after : CommandState) (status : Status)
     → Ends c InputKept OutKept content before after status → EndsExactly c content before after status
 exact_ends None I O content before after status e = tt
 exact_ends (Some (run schema load)) I O content before after status e = exact_run (I × O) (run_files content schema load) before after status e
 exact_ends (Some (gen number subs events)) I O content before after status e = exact_gen O number subs events before.link.sink after.link.sink status e.2
 exact_ends (Some (cover schema file name)) I O content before after status e = exact_cover O (run_files content schema (Some file)) name before after status e.1
+exact_ends (Some (drill schema load rounds files)) I O content before after status e = exact_drill O (drill_files content schema load files) before after status e.1

@@ -1,5 +1,4 @@
 pub mod Exactness
-pub mod Quits
 pub mod Runs
 pub mod Loading
 pub mod Ended
@@ -8,3 +7,4 @@ pub mod Tallies
 pub mod ScriptSteps
 pub mod CountedReplies
 pub mod CoverEnded
+pub mod DrillEnded

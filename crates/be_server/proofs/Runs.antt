@@ -22,7 +22,7 @@ use Rattle.be_session.specs.Ends.{end_after, is_on}
 use Rattle.be_session.specs.Served as served
 use Rattle.be_session.specs.Served.{BeginsAlone, RanOver}
 use Rattle.be_server.specs.Promise.{QuitsAtEnd, Replied, CutShort, SessionRuns}
-use Rattle.be_server.proofs.Quits.{Last, quits, stays, last_of, last_comes, never_splits, has_no_quit, quits_at, ends_with_quit, still_no_quit}
+use Rattle.be_session.proofs.Quits.{Last, quits, stays, last_of, last_comes, never_splits, has_no_quit, quits_at, ends_with_quit, still_no_quit}
 
 -- an opening is entries of session 0
 subs_open : (n : ℕ) (rows : List Row) → list_all is_opening (subs_of 0 n rows) ≡ true

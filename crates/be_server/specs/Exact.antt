@@ -1,6 +1,6 @@
 -- Which status is due: the first fault of the files, or a file over the limit, is named, unless reading a file failed or memory was
 -- wanting, and where nothing is wrong all is done, or memory was wanting.
-use Rattle.std.specs.Prelude.{◌≡◌, ℕ, ◌<◌, ◌≤◌, ◌⊎◌, List, length, Option, Some, None, Ok, Err}
+use Rattle.std.specs.Prelude.{◌≡◌, ℕ, ◌<◌, ◌≤◌, ◌⊎◌, List, [], ◌∷◌, length, map, Option, Some, None, Ok, Err}
 use Rattle.be_base.specs.Text.{Text}
 use Rattle.be_base.specs.declared.limits.TheConstants.{SOURCE_BYTES, FILE_BYTES}
 use Rattle.be_event.specs.declared.schema_texts.SchemaFault.TheVariants as schema
@@ -12,9 +12,9 @@ use Rattle.be_model.specs.Schemas.{Attributes}
 use Rattle.be_table.specs.declared.faults.TableFault.TheVariants as table
 use Rattle.be_table.specs.declared.faults.TableKind.{TableKind}
 use Rattle.be_table.specs.Tables.{table_of}
-use Rattle.be_words.specs.Words.{Request, run, gen, cover}
+use Rattle.be_words.specs.Words.{Request, run, gen, cover, drill}
 use Rattle.be_server.specs.declared.status.Status.{Status}
-use Rattle.be_server.specs.declared.status.Status.TheVariants.{Done, SchemaBad, LoadBad, NoMemory, ReadFault, LongFile}
+use Rattle.be_server.specs.declared.status.Status.TheVariants.{Done, SchemaBad, LoadBad, NoMemory, ReadFault, LongFile, Split, Stray, Shut}
 use Rattle.be_server.specs.Files.{ToldFile, RunFiles, run_files}
 use Rattle.be_server.specs.Promise.{CommandState}
 
@@ -57,17 +57,42 @@ pub record LoadDecides (s : Attributes) (file : ToldFile) (before after : Comman
   pub long : ToldLong file → (status ≡ LongFile) ⊎ FileIsRefused before after status
   pub missing : file ≡ Some None → FileIsRefused before after status
 
--- what the files hold decides the status
-pub record IsExact (files : RunFiles) (before after : CommandState) (status : Status) : Type 0 where
+-- what the files of a run hold decides the status, and this is so where they are good
+pub record IsExact (files : RunFiles) (before after : CommandState) (status : Status) (Due : Type 0) : Type 0 where
   pub schema : SchemaDecides files.schema before after status
   pub load : (s : Attributes) (file : ToldFile) → ToldAs schema_of files.schema (Ok s) → files.load ≡ Some file → LoadDecides s file before after status
-  -- where nothing is wrong all is done, want of memory aside
-  pub complete : (s : Attributes) → ToldAs schema_of files.schema (Ok s) → LoadIsGood s files.load → IsFaultless before after → (status ≡ Done) ⊎ (status ≡ NoMemory)
+  pub good : (s : Attributes) → ToldAs schema_of files.schema (Ok s) → LoadIsGood s files.load → Due
 
--- for `run` and `cover` what the files hold decides. Where no write failed, all of `gen` is done, want of memory aside
+-- where nothing is wrong all is done, want of memory aside
+abbrev pub AllIsDone : CommandState → CommandState → Status → Type 0
+AllIsDone before after status = IsFaultless before after → (status ≡ Done) ⊎ (status ≡ NoMemory)
+
+-- how a drill may end where nothing is wrong
+abbrev pub EndsDrill : Status → Type 0
+EndsDrill Done = Unit {0}
+EndsDrill NoMemory = Unit {0}
+EndsDrill (Split rift) = Unit {0}
+EndsDrill (Stray stray) = Unit {0}
+EndsDrill (Shut shade) = Unit {0}
+EndsDrill _ = ⊥
+
+-- a session's file that is over the limit or missing is named or refused
+pub record ScriptDecides (file : ToldFile) (before after : CommandState) (status : Status) : Type 0 where
+  pub long : ToldLong file → (status ≡ LongFile) ⊎ FileIsRefused before after status
+  pub missing : file ≡ Some None → FileIsRefused before after status
+
+-- each of the sessions' files in turn decides, where those before it are good, and where all are nothing is wrong
+abbrev pub ScriptsDecide : List ToldFile → CommandState → CommandState → Status → Type 0
+ScriptsDecide [] before after status = IsFaultless before after → EndsDrill status
+ScriptsDecide (file ∷ files) before after status =
+    ScriptDecides file before after status × ((script : List ℕ) → ToldAs (λ text. text) file script → ScriptsDecide files before after status)
+
+-- for `run`, `cover` and `drill` what the files hold decides. Where no write failed, all of `gen` is done, want of memory aside
 abbrev pub EndsExactly : Option Request → (Text → ToldFile) → CommandState → CommandState → Status → Type 0
 EndsExactly None content before after status = Unit {0}
-EndsExactly (Some (run schema load)) content before after status = IsExact (run_files content schema load) before after status
+EndsExactly (Some (run schema load)) content before after status = IsExact (run_files content schema load) before after status (AllIsDone before after status)
 EndsExactly (Some (gen number subs events)) content before after status =
     (HasRisen before.link.sink.faults after.link.sink.faults → ⊥) → (status ≡ Done) ⊎ (status ≡ NoMemory)
-EndsExactly (Some (cover schema file name)) content before after status = IsExact (run_files content schema (Some file)) before after status
+EndsExactly (Some (cover schema file name)) content before after status = IsExact (run_files content schema (Some file)) before after status (AllIsDone before after status)
+EndsExactly (Some (drill schema load rounds files)) content before after status =
+    IsExact (run_files content schema load) before after status (ScriptsDecide (map content files) before after status)

@@ -6,3 +6,4 @@ pub mod Exact
 pub mod Sums
 pub mod Generated
 pub mod Covers
+pub mod Drills

@@ -4,7 +4,10 @@ use Rattle.be_event.specs.declared.schema_texts.SchemaFault.{SchemaFault}
 use Rattle.be_event.specs.declared.schema_texts.SchemaFault.TheVariants as schema
 use Rattle.be_io.specs.declared.faults.ShelfFault.{ShelfFault}
 use Rattle.be_io.specs.declared.faults.ShelfFault.TheVariants as shelf
+use Rattle.be_desk.specs.Rifts.{numbers_of}
 use Rattle.be_event.specs.Declarations.{kind_name}
+use Rattle.be_hub.specs.declared.close.CloseFault.{CloseFault}
+use Rattle.be_hub.specs.declared.close.CloseFault.TheVariants as close
 use Rattle.be_session.specs.declared.serve.SessionEnd.{SessionEnd}
 use Rattle.be_session.specs.declared.serve.SessionEnd.TheVariants as ends
 use Rattle.be_table.specs.Faults as tables
@@ -38,7 +41,7 @@ status_text ReadFault = codes "read fault"
 status_text LongFile = codes "file over 67108864 bytes"
 status_text WriteFault = codes "write fault"
 status_text Spent = codes "input over 1099511627776 bytes"
-status_text (Split rift) = codes "split " ++ decimal rift.read ++ 32 ∷ decimal rift.written
+status_text (Split rift) = codes "split " ++ decimal (numbers_of rift).seen ++ 32 ∷ decimal (numbers_of rift).written
 status_text (Stray stray) = codes "stray " ++ decimal stray.at
 status_text (Shut shade) = codes "reader refused"
 
@@ -65,3 +68,9 @@ status_of_schema schema.NoMemory = NoMemory
 abbrev pub status_of_table : TableFault → Status
 status_of_table (table.Line line kind) = LoadBad line kind
 status_of_table table.NoMemory = NoMemory
+
+-- the status where a hub gave no list
+abbrev pub status_of_close : CloseFault → Status
+status_of_close (close.Split rift) = Split rift
+status_of_close (close.Stray stray) = Stray stray
+status_of_close close.NoMemory = NoMemory

@@ -1,14 +1,19 @@
 -- The files that the words name.
-use Rattle.std.specs.Prelude.{List, [], ◌∷◌, Option, Some, None}
+use Rattle.std.specs.Prelude.{List, [], ◌∷◌, ◌++◌, Option, Some, None}
 use Rattle.be_base.specs.Text.{Text}
-use Rattle.be_words.specs.Words.{Request, run, gen, cover, reading}
+use Rattle.be_words.specs.Words.{Request, run, gen, cover, drill, reading}
+
+-- a schema, and the load file where there is one
+abbrev pub run_names : Text → Option Text → List Text
+run_names schema None = schema ∷ []
+run_names schema (Some load) = schema ∷ load ∷ []
 
 abbrev pub files_of : Option Request → List Text
 files_of None = []
-files_of (Some (run schema None)) = schema ∷ []
-files_of (Some (run schema (Some load))) = schema ∷ load ∷ []
+files_of (Some (run schema load)) = run_names schema load
 files_of (Some (gen number subs events)) = []
 files_of (Some (cover schema file name)) = schema ∷ file ∷ []
+files_of (Some (drill schema load rounds files)) = run_names schema load ++ files
 
 -- the names of the files that the words name, in order
 abbrev pub files : List Text → List Text

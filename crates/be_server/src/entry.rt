@@ -11,6 +11,7 @@ ghost use Rattle.be_session.specs.Served.{TakesWithin};
 ghost use Rattle.be_words.specs.Words.{reading, words_of};
 
 use crate::covering::cover;
+use crate::drilling::drill;
 use crate::generated::generate;
 use crate::run::run;
 use crate::status::Status;
@@ -23,18 +24,19 @@ use std::thread::Threads;
 /// Reads the words after the program's name, and does what they ask.
 ///
 /// `run SCHEMA` serves one session over `input` and `out`, with `--load FILE` over the rows of that file,
-/// `gen NUMBER SUBS EVENTS` writes the sums over a generated script to `out`, and `cover SCHEMA FILE NAME` writes which rows
-/// of a load file are covered by the one of this name. The door and the gate aren't used yet.
+/// `gen NUMBER SUBS EVENTS` writes the sums over a generated script to `out`, `cover SCHEMA FILE NAME` writes which rows of a
+/// load file are covered by the one of this name, and `drill SCHEMA ROUNDS FILE..`, with `--load FILE` too, serves each file as a
+/// session, on workers of their own, and writes what each was answered and the list. It may wait. The door isn't used yet.
 #[tactic(auto, using(crate::proofs::Exactness::exact_ends))]
 pub fn be_main<R, F, S, K, L, D, G>(
-    _rt: &R,
+    rt: &R,
     alloc: Global,
     words: &[String],
     shelf: &mut F,
     input: &mut S,
     out: &mut K,
     door: &mut D,
-    _gate: &G,
+    gate: &G,
 ) -> Status
 where
     R: Threads + Wait + Sync,
@@ -83,6 +85,16 @@ where
             },
         ) => generate(alloc, number, subs, events, out),
         Ok(Request::Cover { schema, file, name }) => cover(alloc, schema, file, name, shelf, out),
+        Ok(
+            Request::Drill {
+                schema,
+                load,
+                rounds,
+                files,
+            },
+        ) => drill(
+            rt, alloc, schema, load, rounds, files.as_slice(), shelf, out, gate,
+        ),
         Err(WordsFault::Refused) => Status::Words,
         Err(WordsFault::NoMemory) => Status::NoMemory,
     }

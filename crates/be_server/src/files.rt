@@ -7,7 +7,7 @@ ghost use Rattle.be_change.specs.Opening.{IsTable};
 ghost use Rattle.be_model.specs.Lies.{row_lies};
 ghost use Rattle.be_words.specs.Words.{run};
 ghost use Rattle.be_server.specs.Files.{LoadsSchema, LoadsTable, LoadsRun, run_files, AsksFor};
-ghost use Rattle.be_server.specs.Words.{files_of};
+ghost use Rattle.be_server.specs.Words.{files_of, run_names};
 
 use crate::status::Status;
 use be_event::{SchemaFault, read_schema};
@@ -33,6 +33,8 @@ pub fn load_files<F: Shelf>(
     ensures loads { LoadsRun (run_files (F.content shelf.old) schema.now (option_map now_of load.entry)) (F.read_faults shelf.old) (F.read_faults shelf.new) result }
     ensures lies { IfOk result (λ l. list_all (row_lies l.schema) l.rows.items ≡ true) }
     ensures asked { AsksFor (files_of (Some (run schema.now (option_map now_of load.entry)))) (F.asked shelf.old) (F.asked shelf.new) }
+    ensures read { OnOk result (F.asked shelf.new ≡ F.asked shelf.old ++ run_names schema.now (option_map now_of load.entry)) }
+    ensures content { (file : List ℕ) → F.content shelf.new file ≡ F.content shelf.old file }
 {
     let schema = load_schema(alloc, shelf, schema)?;
     let rows = match load {
@@ -66,6 +68,8 @@ fn load_table<F: Shelf>(
     ensures loads { LoadsTable schema.now (F.content shelf.old name.now) (F.read_faults shelf.old) (F.read_faults shelf.new) result }
     ensures lies { IfOk result (λ rows. list_all (row_lies schema.now) rows.items ≡ true) }
     ensures asked { AsksFor (name.now ∷ []) (F.asked shelf.old) (F.asked shelf.new) }
+    ensures read { OnOk result (F.asked shelf.new ≡ F.asked shelf.old ++ name.now ∷ []) }
+    ensures content { (file : List ℕ) → F.content shelf.new file ≡ F.content shelf.old file }
 {
     let text = shelf.read_file(alloc, name)?;
     let rows = read_table(alloc, schema, text.as_slice())?;

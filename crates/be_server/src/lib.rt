@@ -8,12 +8,15 @@
 mod counted;
 mod counting;
 mod covering;
+mod drilling;
 mod entry;
 mod files;
 mod generated;
+mod printing;
 mod run;
+mod scripts;
 mod status;
 mod sums;
 
 pub use entry::be_main;
-pub use status::{Rift, Shade, Status, Stray};
+pub use status::Status;

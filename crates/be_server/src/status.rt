@@ -1,35 +1,18 @@
 //! How the program ends.
 
 ghost use Rattle.std.specs.Prelude.{◌≡◌, Some};
-ghost use Rattle.be_server.specs.Status.{code_of, status_text, status_of_shelf, status_of_schema, status_of_table};
+ghost use Rattle.be_server.specs.Status.{code_of, status_text, status_of_shelf, status_of_schema, status_of_table, status_of_close};
 
+use be_desk::{Rift, Stray};
 use be_event::{SchemaFault, SchemaKind};
+use be_hub::CloseFault;
 use be_io::ShelfFault;
+use be_published::Shade;
 use be_table::{TableFault, TableKind};
 use std::fmt;
 
-/// Two numbers of a desk that should agree and don't. No part of the program makes one yet.
-#[derive(Clone, Copy, Debug, PartialEq, Eq)]
-pub struct Rift {
-    read: u64,
-    written: u64,
-}
-
-/// The first place at which a closing list differs from the sessions' records. No part of the program
-/// makes one yet.
-#[derive(Clone, Copy, Debug, PartialEq, Eq)]
-pub struct Stray {
-    at: u64,
-}
-
-/// A reader was refused. No part of the program makes one yet.
-#[derive(Clone, Copy, Debug, PartialEq, Eq)]
-pub struct Shade {
-    count: u64,
-}
-
 /// How the program ended.
-#[derive(Clone, Copy, Debug, PartialEq, Eq)]
+#[derive(Drop)]
 pub enum Status {
     /// Each input was read, to its end or to a QUIT.
     Done,
@@ -46,8 +29,11 @@ pub enum Status {
     WriteFault,
     /// The input gave 1099511627776 bytes.
     Spent,
+    /// Two numbers of a seat and the desk differ which should agree.
     Split(Rift),
+    /// The sessions' records and the closing list differ.
     Stray(Stray),
+    /// A reader was refused an entry.
     Shut(Shade),
 }
 
@@ -85,10 +71,22 @@ impl From<TableFault> for Status {
     }
 }
 
+impl From<CloseFault> for Status {
+    ghost from_gives = { λ fault status. status ≡ status_of_close fault };
+
+    fn from(fault: CloseFault) -> Status {
+        match fault {
+            CloseFault::Split(rift) => Status::Split(rift),
+            CloseFault::Stray(stray) => Status::Stray(stray),
+            CloseFault::NoMemory => Status::NoMemory,
+        }
+    }
+}
+
 impl Status {
     /// The exit code of the process.
-    pub fn code(self) -> u8
-        ensures { result ≡ code_of self }
+    pub fn code(&self) -> u8
+        ensures { result ≡ code_of self.now }
     {
         match self {
             Status::Done => 0,
@@ -119,8 +117,8 @@ impl fmt::Display for Status {
             Status::LongFile => write!(f, "file over 67108864 bytes"),
             Status::WriteFault => write!(f, "write fault"),
             Status::Spent => write!(f, "input over 1099511627776 bytes"),
-            Status::Split(Rift { read, written }) => write!(f, "split {read} {written}"),
-            Status::Stray(Stray { at }) => write!(f, "stray {at}"),
+            Status::Split(rift) => write!(f, "split {} {}", rift.read(), rift.written()),
+            Status::Stray(stray) => write!(f, "stray {}", stray.at()),
             Status::Shut(_) => write!(f, "reader refused"),
         }
     }

@@ -20,3 +20,4 @@ pub mod Serving
 pub mod Tending
 pub mod BorneOut
 pub mod Ending
+pub mod Quits

@@ -1,15 +1,17 @@
 //! What the words after the program's name ask for.
 
-ghost use Rattle.std.specs.Prelude.{◌≡◌, map, option_map};
+ghost use Rattle.std.specs.Prelude.{◌≡◌, map, option_map, IfOk};
 ghost use Rattle.be_base.specs.Readers.{now_of};
-ghost use Rattle.be_words.specs.Words.{IsAnswerTo, words_of, plain_request, request_of, run_of, gen_of, cover_of, count_within};
+ghost use Rattle.be_words.specs.Words.{IsAnswerTo, words_of, plain_request, request_of, run_of, gen_of, cover_of, drill_of, count_within};
 
 use crate::arguments::{LOAD, WORD, read_arguments, values_of};
-use be_base::{GENERATED_EVENTS, GENERATED_SUBSCRIPTIONS, Name, NoMemory, read_count};
+use be_base::{
+    GENERATED_EVENTS, GENERATED_SUBSCRIPTIONS, Name, NoMemory, ROUNDS, SEATS, read_count,
+};
 use std::alloc::Global;
 
 /// What the words ask for.
-#[derive(Clone, Copy, Debug, PartialEq, Eq)]
+#[derive(Debug, PartialEq, Eq)]
 pub enum Request<'a> {
     /// One session over the input and the output, with the files of the schema and of the opening table.
     Run {
@@ -27,6 +29,13 @@ pub enum Request<'a> {
         schema: &'a str,
         file: &'a str,
         name: &'a str,
+    },
+    /// A session for each file, each on a worker of its own, beside a maintainer that calls so often.
+    Drill {
+        schema: &'a str,
+        load: Option<&'a str>,
+        rounds: u64,
+        files: Vec<&'a str>,
     },
 }
 
@@ -89,6 +98,38 @@ fn cover_of<'a>(words: &[&'a str], loads: &[&'a str]) -> Option<Request<'a>>
     }
 }
 
+// `drill SCHEMA ROUNDS FILE..`, with one `--load FILE` or none.
+fn drill_of<'a>(
+    alloc: Global,
+    words: &[&'a str],
+    loads: &[&'a str],
+) -> Result<Option<Request<'a>>, NoMemory>
+    ensures { IfOk result (λ request. option_map plain_request request ≡ drill_of (map now_of words.now) (map now_of loads.now)) }
+{
+    let [schema, rounds, files @ ..] = words else {
+        return Ok(None);
+    };
+    let Some(rounds) = count_within(ROUNDS, rounds) else {
+        return Ok(None);
+    };
+    if files.is_empty() || files.len() > SEATS as usize {
+        return Ok(None);
+    }
+    let load = match loads {
+        [] => None,
+        [load] => Some(*load),
+        _ => return Ok(None),
+    };
+    let mut own = Vec::new(alloc);
+    own.extend_from_slice(files)?;
+    Ok(Some(Request::Drill {
+        schema,
+        load,
+        rounds,
+        files: own,
+    }))
+}
+
 // A count of this number at most.
 fn count_within(most: u64, word: &str) -> Option<u64>
     ensures { result ≡ count_within most word.now }
@@ -107,20 +148,26 @@ pub fn read_words(alloc: Global, words: &[String]) -> Result<Request<'_>, WordsF
     let matches = read_arguments(alloc, words)?;
     let words = values_of(&matches, WORD);
     let loads = values_of(&matches, LOAD);
-    match request_of(command.as_str(), words, loads) {
+    match request_of(alloc, command.as_str(), words, loads)? {
         Some(request) => Ok(request),
         None => Err(WordsFault::Refused),
     }
 }
 
 // What the command makes of the words behind it.
-fn request_of<'a>(command: &str, words: &[&'a str], loads: &[&'a str]) -> Option<Request<'a>>
-    ensures { option_map plain_request result ≡ request_of command.now (record { words = map now_of words.now; loads = map now_of loads.now }) }
+fn request_of<'a>(
+    alloc: Global,
+    command: &str,
+    words: &[&'a str],
+    loads: &[&'a str],
+) -> Result<Option<Request<'a>>, NoMemory>
+    ensures { IfOk result (λ request. option_map plain_request request ≡ request_of command.now (record { words = map now_of words.now; loads = map now_of loads.now })) }
 {
     match command {
-        "run" => run_of(words, loads),
-        "gen" => gen_of(words, loads),
-        "cover" => cover_of(words, loads),
-        _ => None,
+        "run" => Ok(run_of(words, loads)),
+        "gen" => Ok(gen_of(words, loads)),
+        "cover" => Ok(cover_of(words, loads)),
+        "drill" => drill_of(alloc, words, loads),
+        _ => Ok(None),
     }
 }

@@ -47,8 +47,8 @@ fn main(rt: HostRuntime) -> ExitCode {
         Err(fault) if fault.kind() == io::ErrorKind::OutOfMemory => Status::NoMemory,
         Err(_) => Status::Words,
     };
-    if status != Status::Done {
-        let _ = rt.eprintln(status);
+    if status.code() != 0 {
+        let _ = rt.eprintln(&status);
     }
     ExitCode::from(status.code())
 }

@@ -13,13 +13,13 @@ use Rattle.be_session.specs.declared.serve.SessionEnd.TheVariants.{Quit, Split}
 use Rattle.be_session.specs.Ends.{end_after, is_on, goes_on}
 
 -- how a reply ends the session
-data Ended (r : Request) (t : Reply) : Type 0 where
+pub data Ended (r : Request) (t : Reply) : Type 0 where
   by_split : (i j : ℕ) → t ≡ split i j → end_after r t ≡ Some (Split i j) → Ended r t
   by_quit : r ≡ quit → end_after r t ≡ Some Quit → Ended r t
   by_none : is_quit r ≡ false → end_after r t ≡ None → Ended r t
 
 -- no other reply than a SPLIT ends the session where it answers no QUIT
-ended_of : (r : Request) (t : Reply) → Ended r t
+pub ended_of : (r : Request) (t : Reply) → Ended r t
 ended_of r (split i j) = by_split i j refl refl
 ended_of quit (refusal u) = by_quit refl refl
 ended_of quit (ok u) = by_quit refl refl

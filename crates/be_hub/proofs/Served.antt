@@ -1,0 +1,109 @@
+-- All files, served and closed.
+use Rattle.std.proofs.Common.{◌≡◌, ℕ, ◌+◌, ◌<◌, ◌≤◌, Bool, true, false, List, [], length, map, Option, Some, None, slice_get, get_or, refl, sym, ap, ◌∙◌, subst, arith}
+use Rattle.std.specs.Prelude.{find, if◌then◌else◌, ◌||◌}
+use Rattle.std.specs.List.{All, Contains, list_any, range_with_len}
+use Rattle.std.proofs.lemmas.List.{length-map}
+use Rattle.std.proofs.lemmas.List.Elements.{All-cons, All-head, All-nil, All-tail}
+use Rattle.std.proofs.lemmas.List.FromFn.{length-range_with_len}
+use Rattle.std.proofs.lemmas.Option.{slice_get-get_or, slice_get_within, get_or_from_slice_get}
+use Rattle.atomic_table.specs.Seated.{TableId}
+use Rattle.be_model.specs.Schemas.{Attributes}
+use Rattle.be_change.specs.History.{Entry, session_of, IsWellFormed}
+use Rattle.be_mail.specs.Passes.{new_passes}
+use Rattle.be_desk.specs.Closing.{AreRecorded}
+use Rattle.be_desk.specs.Desks.{IsOpened}
+use Rattle.be_desk.specs.Seats.{SeatState, first_seat, IsKeptSeat}
+use Rattle.be_session.specs.declared.serve.SessionEnd.{SessionEnd}
+use Rattle.be_session.specs.declared.serve.SessionEnd.TheVariants.{Eof, Quit, ReadFault, WriteFault, Spent, Split, NoMemory}
+use Rattle.be_hub.specs.Closing.{KeepsAll}
+use Rattle.be_hub.specs.Files.{FileServed, IsFileEnd, IsRead, lacks_memory, is_split_end, IsEndOf}
+use Rattle.be_hub.specs.Transcripts.{IsTranscript, AreServed}
+use Rattle.be_hub.proofs.Ends.{there, at_its_place}
+use Rattle.be_hub.proofs.Jobs.{get_map, one_at}
+use Rattle.be_hub.proofs.Transcripts.{transcript_of, own_session}
+
+read_else : (end : SessionEnd) → lacks_memory end ≡ false → is_split_end end ≡ false → IsFileEnd end → IsRead end
+read_else Eof m s q = tt
+read_else Quit m s q = tt
+read_else (Split i j) m s q = absurd cc
+read_else NoMemory m s q = absurd cc
+read_else ReadFault m s q = absurd q
+read_else WriteFault m s q = absurd q
+read_else Spent m s q = absurd q
+
+module _ {E : Type 0} (seat_in : E → SeatState) (end_in : E → SessionEnd) where
+  -- where no session lacked memory and none was split, each file was read
+  pub all_read : (ends : List E) → list_any (λ e. lacks_memory (end_in e)) ends ≡ false → find (λ e. is_split_end (end_in e)) ends ≡ None → All (λ e. IsEndOf (seat_in e) (end_in e)) ends → All (λ e. IsRead (end_in e)) ends
+  all_read [] none first all = All-nil (λ e. IsRead (end_in e))
+  all_read (e ∷ es) none first all = go (lacks_memory (end_in e)) refl (is_split_end (end_in e)) refl none first
+    where
+      go : (m : Bool) → lacks_memory (end_in e) ≡ m → (s : Bool) → is_split_end (end_in e) ≡ s → (m || list_any (λ x. lacks_memory (end_in x)) es) ≡ false
+          → (if s then Some e else find (λ x. is_split_end (end_in x)) es) ≡ None → All (λ x. IsRead (end_in x)) (e ∷ es)
+      go true m s is none first = absurd cc
+      go false m true is none first = absurd cc
+      go false m false is none first =
+          All-cons (λ x. IsRead (end_in x)) e es (read_else (end_in e) m is (All-head (λ x. IsEndOf (seat_in x) (end_in x)) e es all).quiet)
+          (all_read es none first (All-tail (λ x. IsEndOf (seat_in x) (end_in x)) e es all))
+
+-- what holds of all holds of what stands at a place
+at_all : {X : Type 0} (P : X → Type 0) (xs : List X) (i : ℕ) (x : X) → All P xs → slice_get xs i ≡ Some x → P x
+at_all P xs i x all at = subst P (get_or_from_slice_get xs i x x at) (all i x (slice_get_within xs i x at))
+
+-- the seats at the beginning, one for each file
+seat_at : (opening : List Entry) (boxes : List TableId) (n i : ℕ) (seats : List SeatState) → seats ≡ map (first_seat opening boxes) (range_with_len 0 n) → i < n → slice_get seats i ≡ Some (first_seat opening boxes i)
+seat_at opening boxes n i seats is lt =
+    let f = first_seat opening boxes in
+    let there_is = there seats i (omega (arith, lt, ap (λ (l : List SeatState). length l) is, length-map (range_with_len 0 n) f, length-range_with_len 0 n)) in
+    let k = get_map f (range_with_len 0 n) i there_is.0 (subst (λ (l : List SeatState). slice_get l i ≡ Some there_is.0) is there_is.1) in
+    there_is.1 ∙ ap (λ (s : SeatState). Some s) (sym k.2 ∙ ap f (at_its_place n i k.0 k.1))
+
+module _ {E F : Type 0} (seat_in : E → SeatState) (text_in : E → List ℕ) (end_in : E → SessionEnd) (bytes_in : F → List ℕ) (s : Attributes) (boxes : List TableId) (opening h : List Entry) (files : List F) (ends : List E) (seats back : List SeatState)
+    (first : seats ≡ map (first_seat opening boxes) (range_with_len 0 (length files))) (count : length ends ≡ length files)
+    (served : (i : ℕ) (seat : SeatState) (file : F) (end : E) → slice_get seats i ≡ Some seat → slice_get files i ≡ Some file → slice_get ends i ≡ Some end → FileServed s (bytes_in file) seat (seat_in end) (text_in end) (end_in end))
+    where
+  -- what was left at a place is of the file there
+  served_at : (i : ℕ) (end : E) → slice_get ends i ≡ Some end → (file : F) × (slice_get files i ≡ Some file) × FileServed s (bytes_in file) (first_seat opening boxes i) (seat_in end) (text_in end) (end_in end)
+  served_at i end at =
+      let lt : i < length files = omega (arith, slice_get_within ends i end at, count) in
+      let file = there files i lt in
+      (file.0, file.1, served i (first_seat opening boxes i) file.0 end (seat_at opening boxes (length files) i seats first lt) file.1 at)
+
+  -- each seat comes back at its place
+  pub places : (i : ℕ) (end : E) → slice_get ends i ≡ Some end → (seat_in end).passes.seat ≡ i
+  places i end at = (served_at i end at).2.board.goes.seat
+
+  pub are_served : (shuts : Bool) (texts : List (List ℕ)) → All (λ e. IsRead (end_in e)) ends → All (IsKeptSeat boxes) back → back ≡ map seat_in ends → texts ≡ map text_in ends
+      → (shuts ≡ false → All (λ e. (seat_in e).glass.shuts ≡ 0) ends) → IsWellFormed h → All (KeepsAll boxes h) back → AreRecorded (length h) h back → IsOpened opening h
+      → AreServed s opening h shuts (map bytes_in files) texts
+  are_served shuts texts read kept is texts_are quiet formed keeps recorded opened = record {
+    formed = formed;
+    begins = opened.begins;
+    sessions = λ p e le at.
+        let some = opened.behind p e le at in
+        let found = recorded p e (slice_get_within h p e at) at some in
+        let stands : slice_get back found.0 ≡ Some found.1 = slice_get-get_or back found.0 found.1 found.2 ∙ ap (λ (x : SeatState). Some x) found.3 in
+        let end = get_map seat_in ends found.0 found.1 (subst (λ (l : List SeatState). slice_get l found.0 ≡ Some found.1) is stands) in
+        let one = served_at found.0 end.0 end.1 in
+        let session = own_session s (bytes_in one.0) (text_in end.0) (first_seat opening boxes found.0) (seat_in end.0) (end_in end.0) p e one.2 refl (subst (λ (x : SeatState). Contains x.own (p, e)) (sym end.2) found.4) in
+        (some, omega (arith, session, slice_get_within files found.0 one.0 one.1, length-map files bytes_in));
+    count = ap (λ (l : List (List ℕ)). length l) texts_are ∙ (length-map ends text_in ∙ (count ∙ sym (length-map files bytes_in)));
+    each = λ i file text at_file at_text.
+        let end = get_map text_in ends i text (subst (λ (l : List (List ℕ)). slice_get l i ≡ Some text) texts_are at_text) in
+        let mine = get_map bytes_in files i file at_file in
+        let one = served_at i end.0 end.1 in
+        let same : one.0 ≡ mine.0 = one_at files i one.0 mine.0 one.1 mine.1 in
+        let seat = seat_in end.0 in
+        let at_back : slice_get back i ≡ Some seat = there_mapped i end.0 end.1 in
+        let kept_seat : IsKeptSeat boxes seat = at_all (IsKeptSeat boxes) back i seat kept at_back in
+        let keeps_seat = at_all (KeepsAll boxes h) back i seat keeps at_back in
+        subst (λ (x : List ℕ). IsTranscript s (i + 1) (length opening) h shuts x text) (ap bytes_in same ∙ mine.2)
+        (subst (λ (x : List ℕ). IsTranscript s (i + 1) (length opening) h shuts (bytes_in one.0) x) end.2
+        (transcript_of s (length opening) h shuts (bytes_in one.0) (text_in end.0) (first_seat opening boxes i) seat (end_in end.0) one.2 (at_all (λ e. IsRead (end_in e)) ends i end.0 read end.1)
+        (keeps_seat seat.session kept_seat.somebody kept_seat.seat_is) (omega arith) (λ e. at_all (λ x. (seat_in x).glass.shuts ≡ 0) ends i end.0 (quiet e) end.1)));
+  }
+    where
+      there_mapped : (i : ℕ) (end : E) → slice_get ends i ≡ Some end → slice_get back i ≡ Some (seat_in end)
+      there_mapped i end at =
+          let there_is = there back i (omega (arith, slice_get_within ends i end at, ap (λ (l : List SeatState). length l) is, length-map ends seat_in)) in
+          let k = get_map seat_in ends i there_is.0 (subst (λ (l : List SeatState). slice_get l i ≡ Some there_is.0) is there_is.1) in
+          there_is.1 ∙ ap (λ (x : SeatState). Some x) (sym k.2 ∙ ap seat_in (one_at ends i k.0 end k.1 at))

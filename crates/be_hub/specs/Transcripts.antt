@@ -1,0 +1,43 @@
+-- What all files together were given, over one list of changes.
+use Rattle.std.specs.Prelude.{◌≡◌, ℕ, ◌+◌, ◌<◌, ◌≤◌, ◌⊎◌, Bool, true, false, not, List, length, Some, slice_get}
+use Rattle.std.specs.List.{list_all}
+use Rattle.be_base.specs.Lists.{BeginsWith}
+use Rattle.be_base.specs.declared.limits.TheConstants.{LINE_BYTES}
+use Rattle.be_io.specs.Lines.{TextLine, lines}
+use Rattle.be_model.specs.Schemas.{Attributes}
+use Rattle.be_change.specs.History.{Entry, session_of, IsWellFormed}
+use Rattle.be_change.specs.Requests.{Exchange}
+use Rattle.be_transcript.specs.Runs.{HasNoQuit, EndsWithQuit}
+use Rattle.be_transcript.specs.Transcript.{AreExchanges, texts}
+use Rattle.be_session.specs.Tied.{is_shut, is_split}
+
+-- these are all lines of the file, none of which is a QUIT, or those up to the first QUIT
+abbrev pub AreServedLines : Attributes → List ℕ → List TextLine → Type 0
+AreServedLines s file served =
+    ((served ≡ lines LINE_BYTES true file) × HasNoQuit s served) ⊎ (BeginsWith (lines LINE_BYTES true file) served × EndsWithQuit s served)
+
+-- readers may have been refused, or no reply says that one was
+abbrev pub ShutsOnly : Bool → List Exchange → Type 0
+ShutsOnly true ps = Unit {0}
+ShutsOnly false ps = list_all (λ (p : Exchange). not (is_shut p)) ps ≡ true
+
+-- the transcript of session k's file, legal over the list, of which the session was told z entries before: one reply a line, in
+-- order, and no other byte
+pub record IsTranscript (s : Attributes) (k z : ℕ) (h : List Entry) (shuts : Bool) (file transcript : List ℕ) : Type 0 where
+  pub served : List TextLine
+  pub read : AreServedLines s file served
+  pub exchanges : List Exchange
+  pub legal : AreExchanges s k z h served exchanges
+  pub text : transcript ≡ texts s exchanges
+  pub whole : list_all (λ (p : Exchange). not (is_split p)) exchanges ≡ true
+  pub refused : ShutsOnly shuts exchanges
+
+-- file i, from 1, was served as session i, over one well formed list that begins with the opening and has changes of these
+-- sessions alone behind it
+pub record AreServed (s : Attributes) (opening h : List Entry) (shuts : Bool) (files transcripts : List (List ℕ)) : Type 0 where
+  pub formed : IsWellFormed h
+  pub begins : BeginsWith h opening
+  pub sessions : (place : ℕ) (e : Entry) → length opening ≤ place → slice_get h place ≡ Some e → (0 < session_of e) × (session_of e ≤ length files)
+  pub count : length transcripts ≡ length files
+  pub each : (i : ℕ) (file transcript : List ℕ) → slice_get files i ≡ Some file → slice_get transcripts i ≡ Some transcript
+    → IsTranscript s (i + 1) (length opening) h shuts file transcript

@@ -1,0 +1,124 @@
+-- The promise of `drill`: what it prints, how it may end, and what was then written.
+use Rattle.std.specs.Prelude.{◌≡◌, ℕ, ◌+◌, ◌++◌, ◌⊎◌, Bool, true, false, List, [], ◌∷◌, length, map, Option, Result, Ok, Err, codes}
+use Rattle.std.specs.List.{flat_map}
+use Rattle.std.specs.declared.alloc.Global.{Global}
+use Rattle.std.specs.declared.vec.Vec.{Vec}
+use Rattle.be_base.specs.Text.{Text}
+use Rattle.be_change.specs.History.{Entry}
+use Rattle.be_change.specs.Opening.{opening_of}
+use Rattle.be_expr.specs.Changes.{change_text}
+use Rattle.be_hub.specs.Transcripts.{AreServed}
+use Rattle.be_io.specs.Counts.{HasRisen}
+use Rattle.be_io.specs.Sink.{SinkState, Wrote}
+use Rattle.be_io.specs.declared.faults.SinkFault.{SinkFault}
+use Rattle.be_io.specs.declared.faults.SinkFault.TheVariants as sink
+use Rattle.be_model.specs.declared.changes.Row.{Row}
+use Rattle.be_model.specs.Schemas.{Attributes}
+use Rattle.be_transcript.specs.Replies.{number, with_lf}
+use Rattle.be_server.specs.declared.scripts.DrillFiles.{DrillFiles}
+use Rattle.be_server.specs.declared.status.Status.{Status}
+use Rattle.be_server.specs.declared.status.Status.TheVariants.{Done, SchemaBad, LoadBad, NoMemory, ReadFault, LongFile, WriteFault, Split, Stray, Shut}
+use Rattle.be_server.specs.Files.{ToldFile, RunFiles, run_files, FileReads, FileIsLong, IsSchemaOf, AreRowsOf, SchemaIsBad, LoadIsBad, OneIsLong}
+
+-- the files of a drill: those of a run, and the sessions'
+pub record ToldFiles : Type 0 where
+  pub run : RunFiles
+  pub scripts : List ToldFile
+
+abbrev pub drill_files : (Text → ToldFile) → Text → Option Text → List Text → ToldFiles
+drill_files content schema load files = record { run = run_files content schema load; scripts = map content files }
+
+-- the sessions' files are there, are within the limit and hold these bytes, where the shelf tells of them
+abbrev pub AreScripts : List ToldFile → List Text → Type 0
+AreScripts [] [] = Unit {0}
+AreScripts (file ∷ files) (script ∷ scripts) = FileReads (λ text. text) file script × AreScripts files scripts
+AreScripts _ _ = ⊥
+
+-- what the files of a drill are
+pub record Holds (files : ToldFiles) (schema : Attributes) (rows : List Row) (scripts : List Text) : Type 0 where
+  pub is_schema : IsSchemaOf files.run.schema schema
+  pub are_rows : AreRowsOf schema files.run.load rows
+  pub are_scripts : AreScripts files.scripts scripts
+
+-- the first of these files that isn't as it should be is over the limit
+abbrev pub FirstIsLong : List ToldFile → Type 0
+FirstIsLong [] = ⊥
+FirstIsLong (file ∷ files) = FileIsLong file ⊎ ((script : Text) × FileReads (λ text. text) file script × FirstIsLong files)
+
+-- a file that was read is over the limit: one of the run's, or, where these are good, a session's
+abbrev pub SomeIsLong : ToldFiles → Type 0
+SomeIsLong files =
+    OneIsLong files.run
+    ⊎ ((schema : Attributes) × (rows : List Row) × IsSchemaOf files.run.schema schema × AreRowsOf schema files.run.load rows × FirstIsLong files.scripts)
+
+-- the sessions' files, or why there are none. The shelf's count of faults rose only where the shelf failed
+abbrev pub LoadsScripts : List ToldFile → ℕ → ℕ → Result (Vec (Vec ℕ Global) Global) Status → Type 0
+LoadsScripts files faults faults' (Ok scripts) = (faults' ≡ faults) × AreScripts files (map (λ (script : Vec ℕ Global). script.items) scripts.items)
+LoadsScripts files faults faults' (Err ReadFault) = HasRisen faults faults'
+LoadsScripts files faults faults' (Err LongFile) = (faults' ≡ faults) × FirstIsLong files
+LoadsScripts files faults faults' (Err NoMemory) = faults' ≡ faults
+LoadsScripts files faults faults' (Err _) = ⊥
+
+-- the files of a drill, each of which is read and judged before the next one, or why there are none
+abbrev pub LoadsDrill : ToldFiles → ℕ → ℕ → Result DrillFiles Status → Type 0
+LoadsDrill files faults faults' (Ok l) = (faults' ≡ faults) × Holds files l.schema l.rows.items (map (λ (script : Vec ℕ Global). script.items) l.scripts.items)
+LoadsDrill files faults faults' (Err ReadFault) = HasRisen faults faults'
+LoadsDrill files faults faults' (Err LongFile) = (faults' ≡ faults) × SomeIsLong files
+LoadsDrill files faults faults' (Err NoMemory) = faults' ≡ faults
+LoadsDrill files faults faults' (Err (SchemaBad line kind)) = (faults' ≡ faults) × SchemaIsBad files.run line kind
+LoadsDrill files faults faults' (Err (LoadBad line kind)) = (faults' ≡ faults) × LoadIsBad files.run line kind
+LoadsDrill files faults faults' (Err _) = ⊥
+
+-- a transcript under the number of its file
+abbrev pub under : ℕ → Text → Text
+under n transcript = with_lf (codes "==" ++ number n) ++ transcript
+
+-- the transcripts, the first of which is of the file with this number
+abbrev pub headed : ℕ → List Text → Text
+headed n [] = []
+headed n (transcript ∷ transcripts) = under n transcript ++ headed (n + 1) transcripts
+
+-- the list, a change a line, under its length
+abbrev pub log_text : Attributes → List Entry → Text
+log_text s h = with_lf (codes "== LOG" ++ number (length h)) ++ flat_map (λ (e : Entry). with_lf (change_text s e)) h
+
+abbrev pub drill_text : Attributes → List Text → List Entry → Text
+drill_text s transcripts h = headed 1 transcripts ++ log_text s h
+
+-- the sessions of the files were served over one list, which was printed behind their transcripts: whole, or a beginning of it
+-- all. Each transcript is legal over the list, which is well formed, begins with the rows, and has the sessions' changes alone
+-- behind them. Where no reader may have been refused, no reply is SHUT
+pub record Printed (s : Attributes) (rows : List Row) (scripts : List Text) (shuts : Bool) (before after : SinkState) (result : Result (Unit {0}) SinkFault) : Type 0 where
+  pub list : List Entry
+  pub transcripts : List Text
+  pub served : AreServed s (opening_of rows) list shuts scripts transcripts
+  pub written : Wrote before after (drill_text s transcripts list) result
+
+-- how the sessions may end. Kept says that the output is as it was
+abbrev pub RunsDrill : Type 0 → Attributes → List Row → List Text → SinkState → SinkState → Status → Type 0
+RunsDrill Kept s rows scripts before after Done = Printed s rows scripts false before after (Ok tt)
+RunsDrill Kept s rows scripts before after (Shut shade) = Printed s rows scripts true before after (Ok tt)
+RunsDrill Kept s rows scripts before after WriteFault = (shuts : Bool) × Printed s rows scripts shuts before after (Err sink.Failed)
+-- before anything was written, or in the output
+RunsDrill Kept s rows scripts before after NoMemory = Kept ⊎ ((shuts : Bool) × Printed s rows scripts shuts before after (Err sink.NoMemory))
+-- no list keeps the words of all sessions, and none is printed
+RunsDrill Kept s rows scripts before after (Split rift) = Kept
+RunsDrill Kept s rows scripts before after (Stray stray) = Kept
+RunsDrill Kept s rows scripts before after _ = ⊥
+
+-- the files are as they should be, and the sessions ended so
+pub record RanDrill (Kept : Type 0) (files : ToldFiles) (before after : SinkState) (status : Status) : Type 0 where
+  pub schema : Attributes
+  pub rows : List Row
+  pub scripts : List Text
+  pub good : Holds files schema rows scripts
+  pub runs : RunsDrill Kept schema rows scripts before after status
+
+-- how it may end, by the shelf's count of faults and by the output
+abbrev pub DrillEnds : Type 0 → ToldFiles → ℕ → ℕ → SinkState → SinkState → Status → Type 0
+DrillEnds Kept files shelf shelf' before after (SchemaBad line kind) = (shelf' ≡ shelf) × Kept × SchemaIsBad files.run line kind
+DrillEnds Kept files shelf shelf' before after (LoadBad line kind) = (shelf' ≡ shelf) × Kept × LoadIsBad files.run line kind
+DrillEnds Kept files shelf shelf' before after LongFile = (shelf' ≡ shelf) × Kept × SomeIsLong files
+DrillEnds Kept files shelf shelf' before after ReadFault = HasRisen shelf shelf' × Kept
+DrillEnds Kept files shelf shelf' before after NoMemory = (shelf' ≡ shelf) × (Kept ⊎ RanDrill Kept files before after NoMemory)
+DrillEnds Kept files shelf shelf' before after status = (shelf' ≡ shelf) × RanDrill Kept files before after status

@@ -1,0 +1,83 @@
+//! The output of `drill`: the transcripts, and the list.
+
+ghost use Rattle.std.specs.Prelude.{◌≡◌, ◌≤◌, ◌++◌, true, length, map, IfOk, OnOk};
+ghost use Rattle.std.specs.Option.{is_some};
+ghost use Rattle.be_change.specs.Opening.{opening_of};
+ghost use Rattle.be_change.specs.Sound.{Sound, all_lie};
+ghost use Rattle.be_hub.specs.Transcripts.{AreServed};
+ghost use Rattle.be_io.specs.Outside.{sink_state};
+ghost use Rattle.be_io.specs.Sink.{Wrote};
+ghost use Rattle.be_model.specs.declared.changes.Row.{Row};
+ghost use Rattle.be_server.specs.Drills.{RunsDrill, under, headed, log_text};
+
+use crate::generated::status_of;
+use crate::status::Status;
+use be_base::NoMemory;
+use be_change::ChangeLog;
+use be_expr::append_change;
+use be_hub::Drilled;
+use be_io::{Sink, SinkFault, write_all};
+use be_model::Schema;
+use itoa::Buffer;
+use std::alloc::Global;
+
+/// Writes what the sessions were answered, and then the list.
+pub fn write_drill<K: Sink>(
+    alloc: Global,
+    schema: &Schema,
+    drilled: Drilled,
+    out: &mut K,
+) -> Status
+    requires { Sound schema.now drilled.log.list }
+    ensures { (rows : _) (scripts : _) → AreServed schema.now (opening_of rows) drilled.log.list (is_some drilled.shade) scripts (map (λ t. t.items) drilled.transcripts.items)
+        → RunsDrill (out.new ≡ out.old) schema.now rows scripts (sink_state K.Sink out.old) (sink_state K.Sink out.new) result }
+{
+    let Ok(text) = text_of_log(alloc, schema, &drilled.log) else {
+        return Status::NoMemory;
+    };
+    match write_all_of(out, drilled.transcripts.as_slice(), text.as_slice()) {
+        Ok(()) => match drilled.shade {
+            None => Status::Done,
+            Some(shade) => Status::Shut(shade),
+        },
+        Err(fault) => status_of(Err(fault)),
+    }
+}
+
+// The list, a change a line, under its length.
+fn text_of_log(alloc: Global, schema: &Schema, log: &ChangeLog) -> Result<Vec<u8>, NoMemory>
+    requires { all_lie schema.now log.now.list ≡ true }
+    ensures { IfOk result (λ text. text.items ≡ log_text schema.now log.now.list) }
+{
+    let mut text = Vec::new(alloc);
+    text.extend_from_slice(b"== LOG ")?;
+    text.extend_from_slice(Buffer::new().format(log.len()).as_bytes())?;
+    text.extend_from_slice(b"\n")?;
+    for place in 0..log.len() {
+        append_change(schema, log.at(place), &mut text)?;
+        text.extend_from_slice(b"\n")?;
+    }
+    Ok(text)
+}
+
+// Writes the transcripts, each under the number of its file, and then the list.
+fn write_all_of<K: Sink>(out: &mut K, transcripts: &[Vec<u8>], log: &[u8]) -> Result<(), SinkFault>
+    ensures { Wrote (sink_state K.Sink out.old) (sink_state K.Sink out.new) (headed 1 (map (λ t. t.items) transcripts.now) ++ log.now) result }
+{
+    let mut number: u64 = 0;
+    for transcript in transcripts {
+        number += 1;
+        write_under(out, number, transcript.as_slice())?;
+    }
+    write_all(out, log)
+}
+
+// Writes a transcript under the number of its file.
+fn write_under<K: Sink>(out: &mut K, number: u64, transcript: &[u8]) -> Result<(), SinkFault>
+    ensures { Wrote (sink_state K.Sink out.old) (sink_state K.Sink out.new) (under number transcript.now) result }
+{
+    write_all(out, b"== ")?;
+    write_all(out, Buffer::new().format(number).as_bytes())?;
+    write_all(out, b"\n")?;
+    write_all(out, transcript)
+}
