@@ -5,7 +5,7 @@ ghost use Rattle.std.specs.Arc.{arc_value};
 ghost use Rattle.std.specs.List.{list_all, range_with_len};
 ghost use Rattle.be_base.specs.declared.limits.TheConstants.{SEATS};
 ghost use Rattle.be_model.specs.Lies.{row_lies};
-ghost use Rattle.be_change.specs.Opening.{IsTable};
+ghost use Rattle.be_change.specs.Opening.{IsTable, opening_of};
 ghost use Rattle.be_index.specs.Rows.{plain_index};
 ghost use Rattle.be_mail.specs.Mailbox.{ForEachState};
 ghost use Rattle.be_mail.specs.Passes.{new_passes};
@@ -141,7 +141,7 @@ fn with_desk<I: Index, S: Post, J: Naming + BoxNames, R: Wait>(
     passes: Vec<MailPasses>,
     script: &Script,
 ) -> Option<String>
-    requires named { (opened.seen.book ≡ J.book) × (mail.now ≡ J.boxes) × (arc_value schema.now ≡ J.schema) }
+    requires named { (opened.seen.book ≡ J.book) × (mail.now ≡ J.boxes) × (arc_value schema.now ≡ J.schema) × (J.opening ≡ opening_of rows.items) }
     requires schema { (I.schema index_a ≡ J.schema) × (I.schema index_b ≡ J.schema) }
     requires bounded { (I.is_bounded index_a ≡ true) × (I.is_bounded index_b ≡ true) }
     requires empty { (I.rows index_a ≡ []) × (I.rows index_b ≡ []) }
@@ -171,7 +171,7 @@ fn begun<I: Index, J: Naming + BoxNames, R: Wait>(
     rows: Vec<Row>,
     passes: Vec<MailPasses>,
 ) -> Result<(Desk<Page<I, J>, J>, Vec<Seat<Page<I, J>, J>>), NoMemory>
-    requires named { opened.seen.book ≡ J.book }
+    requires named { (opened.seen.book ≡ J.book) × (J.opening ≡ opening_of rows.items) }
     requires schema { (I.schema index_a ≡ J.schema) × (I.schema index_b ≡ J.schema) }
     requires bounded { (I.is_bounded index_a ≡ true) × (I.is_bounded index_b ≡ true) }
     requires empty { (I.rows index_a ≡ []) × (I.rows index_b ≡ []) }

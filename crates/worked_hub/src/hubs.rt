@@ -56,7 +56,7 @@ fn begun<S: Post + Send + Sync, J: Naming + BoxNames + Send + Sync, R: Threads +
     passes: Vec<MailPasses>,
     script: Script,
 ) -> Option<String>
-    requires named { (opened.seen.book ≡ J.book) × (mail ≡ J.boxes) × (arc_value schema.now ≡ J.schema) × (S.schema ≡ J.schema) }
+    requires named { (opened.seen.book ≡ J.book) × (mail ≡ J.boxes) × (arc_value schema.now ≡ J.schema) × (S.schema ≡ J.schema) × (J.opening ≡ []) }
     requires seats { length mail ≡ length script.files.items }
     requires passes { passes.items ≡ map (new_passes mail) (range_with_len 0 (length script.files.items)) }
 {

@@ -2,7 +2,7 @@
 
 ghost use Rattle.std.specs.Prelude.{◌<◌};
 
-use crate::setting::{RUN, Ran, SCHEMA, Setting, run};
+use crate::setting::{RUN, Ran, SCHEMA, Setting, is, run};
 use be_server::Status;
 use std::alloc::Global;
 use std::sync::Wait;
@@ -162,7 +162,7 @@ fn over(text: &[u8], piece: usize, failing_read: usize, failing_write: usize) ->
 }
 
 fn is_as_wanted(ran: &Ran, want: &Wanted) -> bool {
-    ran.status == want.status
+    is(&ran.status, &want.status)
         && ran.out.as_slice() == want.out.as_str().as_bytes()
         && ran.left == want.left as u64
 }

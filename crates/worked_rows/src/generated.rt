@@ -1,7 +1,7 @@
 //! Generated scripts: the sums that are printed, and how the command ends.
 
 use crate::full::Full;
-use crate::setting::{SCHEMA, Setting, call, run};
+use crate::setting::{SCHEMA, Setting, call, is, run};
 use be_server::Status;
 use std::alloc::Global;
 use std::sync::Wait;
@@ -52,7 +52,7 @@ pub fn ends<R: Threads + Wait + Sync>(
     let (status, out) = wanted;
     match run(rt, alloc, setting) {
         Some(ran) => {
-            ran.status == status
+            is(&ran.status, &status)
                 && ran.out.as_slice() == out.as_bytes()
                 && ran.left == 6
                 && ran.is_next_ask_refused
@@ -86,5 +86,9 @@ fn the_output_has_no_memory(rt: HostRuntime) {
     let mut out = Full::make();
     let words = ["gen", "7", "3", "2"];
     let status = call(&rt, rt.alloc(), &generated(&words, 0), &mut out);
-    assert!(rt; status == Some(Status::NoMemory) && out.refusals == 1);
+    let is_refused = match status {
+        Some(status) => is(&status, &Status::NoMemory),
+        None => false,
+    };
+    assert!(rt; is_refused && out.refusals == 1);
 }

@@ -1,6 +1,6 @@
 //! Sessions over an opening table, and load files that are refused.
 
-use crate::setting::{Setting, loading, run};
+use crate::setting::{Setting, is, loading, run};
 use be_server::Status;
 use std::alloc::Global;
 use std::sync::Wait;
@@ -54,7 +54,7 @@ fn sessions_over_a_table(rt: HostRuntime) {
     for (load, script, want) in LOADED {
         let setting = loading(load.as_bytes(), script.as_bytes());
         let is_right = match run(&rt, alloc, &setting) {
-            Some(ran) => ran.status == Status::Done
+            Some(ran) => is(&ran.status, &Status::Done)
                 && ran.out.as_slice() == want.as_bytes()
                 && ran.left == 0
                 && ran.is_next_ask_refused,

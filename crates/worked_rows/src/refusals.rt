@@ -1,6 +1,6 @@
 //! What is refused before the first line, and the codes and texts of statuses.
 
-use crate::setting::{RUN, Ran, SCHEMA, Setting, answers, run};
+use crate::setting::{RUN, Ran, SCHEMA, Setting, answers, is, run};
 use be_event::SchemaKind;
 use be_server::Status;
 use be_table::TableKind;
@@ -79,7 +79,7 @@ fn ends<R: Threads + Wait + Sync>(
     status: Status,
 ) -> Option<bool> {
     let ran = run(rt, alloc, setting)?;
-    if ran.status != status || !is_untouched(&ran) {
+    if !is(&ran.status, &status) || !is_untouched(&ran) {
         return None;
     }
     Some(ran.is_next_ask_refused)
@@ -264,7 +264,7 @@ const STATUSES: &[(Status, u8, &str)] = &[
     (Status::Spent, 8, "input over 1099511627776 bytes"),
 ];
 
-fn has(alloc: Global, status: Status, code: u8, text: &str) -> Option<bool> {
+fn has(alloc: Global, status: &Status, code: u8, text: &str) -> Option<bool> {
     let shown = format!(in alloc; "{status}").ok()?;
     Some(status.code() == code && shown.as_str() == text)
 }
@@ -273,6 +273,6 @@ fn has(alloc: Global, status: Status, code: u8, text: &str) -> Option<bool> {
 fn codes_and_texts(rt: HostRuntime) {
     let alloc = rt.alloc();
     for (status, code, text) in STATUSES {
-        assert!(rt; has(alloc, *status, *code, text) == Some(true), "{text}");
+        assert!(rt; has(alloc, status, *code, text) == Some(true), "{text}");
     }
 }

@@ -2,7 +2,7 @@
 
 ghost use Rattle.std.specs.Prelude.{◌<◌};
 
-use crate::setting::{answers, plain, run};
+use crate::setting::{answers, is, plain, run};
 use be_server::Status;
 use std::alloc::Global;
 use std::sync::Wait;
@@ -277,7 +277,7 @@ pub(crate) fn is_session<R: Threads + Wait + Sync>(
         return false;
     };
     let is_read = script.contains("QUIT") || ran.left == 0;
-    ran.status == Status::Done
+    is(&ran.status, &Status::Done)
         && ran.out.as_slice() == want.as_bytes()
         && is_read
         && ran.is_next_ask_refused
@@ -341,7 +341,7 @@ fn a_trading_day(rt: HostRuntime) {
         let mut setting = plain(TRADES_SCRIPT.as_bytes(), piece);
         setting.schema = TRADES;
         let is_right = match run(&rt, alloc, &setting) {
-            Some(ran) => ran.status == Status::Done
+            Some(ran) => is(&ran.status, &Status::Done)
                 && ran.out.as_slice() == TRADES_REPLIES.as_bytes(),
             None => false,
         };
@@ -369,7 +369,7 @@ fn wrong_cut<R: Threads + Wait + Sync>(rt: &R, alloc: Global) -> Option<Option<u
     let want = format!(in alloc; "BAD\n{MIXED_REPLIES}").ok()?;
     for piece in MIXED.len() + 1..script.len() + 1 {
         let ran = run(rt, alloc, &plain(&script, piece))?;
-        if ran.status != Status::Done || ran.out.as_slice() != want.as_bytes() {
+        if !is(&ran.status, &Status::Done) || ran.out.as_slice() != want.as_bytes() {
             return Some(Some(piece));
         }
     }

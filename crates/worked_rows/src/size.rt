@@ -1,6 +1,6 @@
 //! Sessions, lines, replies and files of great size, with memory enough.
 
-use crate::setting::{RUN, Setting, answers, plain, run};
+use crate::setting::{RUN, Setting, answers, is, plain, run};
 use be_server::Status;
 use std::alloc::Global;
 use std::sync::Wait;
@@ -209,7 +209,7 @@ fn ends<R: Threads + Wait + Sync>(
     };
     let (status, out, left) = wanted;
     match run(rt, alloc, &setting) {
-        Some(ran) => ran.status == status && ran.out.as_slice() == out && ran.left == left,
+        Some(ran) => is(&ran.status, &status) && ran.out.as_slice() == out && ran.left == left,
         None => false,
     }
 }
