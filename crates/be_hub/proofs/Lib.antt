@@ -1,8 +1,8 @@
 mod AtBoard
 mod Asking
 mod FilesServed
-mod Jobs
-mod Closing
-mod Ends
+pub mod Jobs
+pub mod Closing
+pub mod Ends
 mod Transcripts
 mod Served

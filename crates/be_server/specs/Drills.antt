@@ -1,5 +1,5 @@
 -- The promise of `drill`: what it prints, how it may end, and what was then written.
-use Rattle.std.specs.Prelude.{◌≡◌, ℕ, ◌+◌, ◌++◌, ◌⊎◌, Bool, true, false, List, [], ◌∷◌, length, map, Option, Result, Ok, Err, codes}
+use Rattle.std.specs.Prelude.{◌≡◌, ℕ, ◌+◌, ◌++◌, ◌⊎◌, Bool, true, false, List, [], ◌∷◌, length, map, Option, Result, Ok, Err, codes, decimal}
 use Rattle.std.specs.List.{flat_map}
 use Rattle.std.specs.declared.alloc.Global.{Global}
 use Rattle.std.specs.declared.vec.Vec.{Vec}
@@ -14,7 +14,6 @@ use Rattle.be_io.specs.declared.faults.SinkFault.{SinkFault}
 use Rattle.be_io.specs.declared.faults.SinkFault.TheVariants as sink
 use Rattle.be_model.specs.declared.changes.Row.{Row}
 use Rattle.be_model.specs.Schemas.{Attributes}
-use Rattle.be_transcript.specs.Replies.{number, with_lf}
 use Rattle.be_server.specs.declared.scripts.DrillFiles.{DrillFiles}
 use Rattle.be_server.specs.declared.status.Status.{Status}
 use Rattle.be_server.specs.declared.status.Status.TheVariants.{Done, SchemaBad, LoadBad, NoMemory, ReadFault, LongFile, WriteFault, Split, Stray, Shut}
@@ -71,16 +70,19 @@ LoadsDrill files faults faults' (Err _) = ⊥
 
 -- a transcript under the number of its file
 abbrev pub under : ℕ → Text → Text
-under n transcript = with_lf (codes "==" ++ number n) ++ transcript
+under n transcript = codes "== " ++ (decimal n ++ (10 ∷ transcript))
 
 -- the transcripts, the first of which is of the file with this number
 abbrev pub headed : ℕ → List Text → Text
 headed n [] = []
 headed n (transcript ∷ transcripts) = under n transcript ++ headed (n + 1) transcripts
 
+abbrev pub log_lines : Attributes → List Entry → Text
+log_lines s h = flat_map (λ (e : Entry). change_text s e ++ 10 ∷ []) h
+
 -- the list, a change a line, under its length
 abbrev pub log_text : Attributes → List Entry → Text
-log_text s h = with_lf (codes "== LOG" ++ number (length h)) ++ flat_map (λ (e : Entry). with_lf (change_text s e)) h
+log_text s h = codes "== LOG " ++ (decimal (length h) ++ (10 ∷ log_lines s h))
 
 abbrev pub drill_text : Attributes → List Text → List Entry → Text
 drill_text s transcripts h = headed 1 transcripts ++ log_text s h

@@ -1,7 +1,9 @@
 //! The output of `drill`: the transcripts, and the list.
 
 ghost use Rattle.std.specs.Prelude.{◌≡◌, ◌≤◌, ◌++◌, true, length, map, IfOk, OnOk};
+ghost use Rattle.std.specs.List.{flat_map};
 ghost use Rattle.std.specs.Option.{is_some};
+ghost use Rattle.be_base.specs.Readers.{now_of};
 ghost use Rattle.be_change.specs.Opening.{opening_of};
 ghost use Rattle.be_change.specs.Sound.{Sound, all_lie};
 ghost use Rattle.be_hub.specs.Transcripts.{AreServed};
@@ -76,8 +78,17 @@ fn write_all_of<K: Sink>(out: &mut K, transcripts: &[Vec<u8>], log: &[u8]) -> Re
 fn write_under<K: Sink>(out: &mut K, number: u64, transcript: &[u8]) -> Result<(), SinkFault>
     ensures { Wrote (sink_state K.Sink out.old) (sink_state K.Sink out.new) (under number transcript.now) result }
 {
-    write_all(out, b"== ")?;
-    write_all(out, Buffer::new().format(number).as_bytes())?;
-    write_all(out, b"\n")?;
-    write_all(out, transcript)
+    let mut buffer = Buffer::new();
+    let digits = buffer.format(number);
+    write_each(out, &[b"== ", digits.as_bytes(), b"\n", transcript])
+}
+
+// Writes all of these, one behind the other.
+fn write_each<K: Sink>(out: &mut K, pieces: &[&[u8]]) -> Result<(), SinkFault>
+    ensures { Wrote (sink_state K.Sink out.old) (sink_state K.Sink out.new) (flat_map now_of pieces.now) result }
+{
+    for piece in pieces {
+        write_all(out, piece)?;
+    }
+    Ok(())
 }

@@ -1,4 +1,4 @@
-use Rattle.worked_hub.proofs.Ends.{all_back}
+use Rattle.be_hub.proofs.Ends.{all_back}
 use Rattle.worked_hub.proofs.closing.changes_of.Goals as goal
 
 pub close-requires : goal.close-requires

@@ -2,7 +2,8 @@ use Rattle.std.proofs.Common.{◌≡◌, ◌++◌, [], ◌∷◌, sym, ap, subst
 use Rattle.std.specs.List.{All}
 use Rattle.std.proofs.lemmas.List.Elements.{All-push}
 use Rattle.be_desk.specs.Seats.{IsKeptSeat}
-use Rattle.worked_hub.proofs.Ends.{map_push, was_pushed}
+use Rattle.be_hub.proofs.Closing.{was_pushed}
+use Rattle.be_hub.proofs.Ends.{map_push}
 use Rattle.worked_hub.proofs.closing.seats_of.Goals as goal
 
 pub loop-end-preserved : goal.loop-end-preserved

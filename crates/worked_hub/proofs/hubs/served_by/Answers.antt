@@ -1,6 +1,6 @@
 use Rattle.std.proofs.Common.{◌≡◌, ◌∙◌, arith, length}
 use Rattle.std.proofs.lemmas.Option.{slice_get_within}
-use Rattle.worked_hub.proofs.Ends.{there}
+use Rattle.be_hub.proofs.Ends.{there}
 use Rattle.worked_hub.proofs.hubs.served_by.Goals as goal
 
 pub returns-in-Ok-clause-places : goal.returns-in-Ok-clause-places

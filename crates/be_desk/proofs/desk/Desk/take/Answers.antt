@@ -9,14 +9,28 @@ use Rattle.be_model.specs.Lies.{conj_lies}
 use Rattle.be_board.specs.Changes.{Answers}
 use Rattle.be_desk.specs.Asks.{request_of, ask_lies}
 use Rattle.be_desk.specs.Changes.{Agrees, IsRift, IsRefusal, Changed, Took, Counts, Continues, serial_in}
-use Rattle.be_desk.specs.Desks.{DeskState, HasHeld}
+use Rattle.be_desk.specs.Desks.{DeskState, HasHeld, IsHeld, IsOpened}
 use Rattle.be_desk.specs.Seats.{SeatState, word_of, is_over, list_in, placed_at}
 use Rattle.be_base.specs.Lists.{BeginsWith}
 use Rattle.be_base.proofs.Beginnings.{BeginsWith-length}
 use Rattle.be_desk.proofs.Seats.{took_seat, seat_knowing}
 use Rattle.be_desk.proofs.Desks.{told_all}
 use Rattle.be_desk.proofs.Records.{serial_few}
+use Rattle.be_desk.proofs.Openings.{opened_more}
 use Rattle.be_desk.proofs.desk.Desk.take.Goals as goal
+
+pub invariant_of-self-2 : goal.invariant_of-self-2
+invariant_of-self-2 g c =
+    let i = c.self.invariant in
+    let e : Entry = entry_of (arc_value c.args.change) in
+    let grown : c.append.new.press.list ≡ c.self.inside.press.list ++ e ∷ [] = c.append.ensures.press.0 ∙ (c.in-Ok.ensures.list ∙ ap (λ h. h ++ e ∷ []) i.0) in
+    let own : session_of e ≡ c.seat.inside.session.0 = c.requires.own ∙ sym (ap (λ x. x.session) c.seat.view_is) in
+    let some : 0 < session_of e = omega (arith, own, c.seat.invariant.1.kept.somebody) in
+    let settled : c.self.inside.press.list ≡ c.append.new.press.published =
+    ap (λ x. x.list) c.self.view_is ∙ (sym c.requires.agrees.published ∙ (sym (ap (λ x. x.published) c.self.view_is) ∙ sym c.append.ensures.press.1)) in
+    let more : c.append.new.press.list ≡ c.append.new.press.published ++ e ∷ [] = grown ∙ ap (λ h. h ++ e ∷ []) settled in
+    let held : IsHeld c.append.new.press.published c.append.new.press.list = record { begins = (e ∷ [], more); one = omega (arith, ap (λ h. length h) more, length-append c.append.new.press.published (e ∷ [])) } in
+    (sym c.append.ensures.press.0, held, i.2, i.3, subst (IsOpened g.J.Naming.opening) (sym grown) (opened_more _ _ e some i.4))
 
 pub overflow_add-seat : goal.overflow_add-seat
 overflow_add-seat g c =
