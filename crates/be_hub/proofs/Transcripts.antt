@@ -4,8 +4,7 @@ use Rattle.std.specs.Prelude.{if◌then◌else◌}
 use Rattle.std.specs.List.{All, Any, Contains, list_all, range_with_len, filter}
 use Rattle.std.proofs.lemmas.Bool.{and_parts, and_from, eqb-true}
 use Rattle.std.proofs.lemmas.List.{length-map}
-use Rattle.std.proofs.lemmas.List.Elements.{All-contains}
-use Rattle.std.proofs.lemmas.List.Filters.{filter_passes}
+use Rattle.std.proofs.lemmas.List.Elements.{All-contains, filter_passes}
 use Rattle.std.proofs.lemmas.List.FromFn.{length-range_with_len, get_or-range_with_len}
 use Rattle.std.proofs.lemmas.Option.{slice_get-get_or, slice_get_within, get_or_from_slice_get}
 use Rattle.atomic_table.specs.Seated.{TableId}
@@ -38,23 +37,23 @@ use Rattle.be_hub.specs.Transcripts.{AreServedLines, ShutsOnly, IsTranscript}
 
 -- a reply that doesn't end its session by two numbers isn't a SPLIT
 not_split : (r : Request) (t : Reply) → ((i j : ℕ) → end_after r t ≡ Some (Split i j) → ⊥) → not (is_split (r, t)) ≡ true
-not_split r (split i j) no = absurd (no i j refl)
-not_split r (refusal u) no = refl
-not_split r (ok u) no = refl
-not_split r (held u) no = refl
-not_split r (bye u) no = refl
-not_split r (dup u v) no = refl
-not_split r (none u) no = refl
-not_split r (other u v) no = refl
-not_split r (hit u v) no = refl
-not_split r (cost u v) no = refl
-not_split r (listed u v) no = refl
-not_split r (sent u v w) no = refl
-not_split r (notes u) no = refl
-not_split r (dumped u v) no = refl
-not_split r (tailed u v w) no = refl
-not_split r no_memory no = refl
-not_split r shut no = refl
+not_split r (split i j) never = absurd (never i j refl)
+not_split r (refusal u) never = refl
+not_split r (ok u) never = refl
+not_split r (held u) never = refl
+not_split r (bye u) never = refl
+not_split r (dup u v) never = refl
+not_split r (none u) never = refl
+not_split r (other u v) never = refl
+not_split r (hit u v) never = refl
+not_split r (cost u v) never = refl
+not_split r (listed u v) never = refl
+not_split r (sent u v w) never = refl
+not_split r (notes u) never = refl
+not_split r (dumped u v) never = refl
+not_split r (tailed u v w) never = refl
+not_split r no_memory never = refl
+not_split r shut never = refl
 
 on_by_none : (end : Option SessionEnd) (i j : ℕ) → is_on end ≡ true → end ≡ Some (Split i j) → ⊥
 on_by_none None i j on is = absurd cc
@@ -85,11 +84,12 @@ all_plain_last (q ∷ ps) p on by =
 -- what isn't counted isn't there
 none_counted : (ps : List Exchange) → length (filter is_shut ps) ≡ 0 → list_all (λ (p : Exchange). not (is_shut p)) ps ≡ true
 none_counted [] few = refl
-none_counted (p ∷ ps) few = go (is_shut p) few
+none_counted (p ∷ ps) few = go (is_shut p) few (none_counted ps)
   where
-    go : (b : Bool) → length (if b then p ∷ filter is_shut ps else filter is_shut ps) ≡ 0 → (not b && list_all (λ (q : Exchange). not (is_shut q)) ps) ≡ true
-    go true h = absurd (omega (arith, h))
-    go false h = none_counted ps h
+    go : (b : Bool) → length (if b then p ∷ filter is_shut ps else filter is_shut ps) ≡ 0
+        → (length (filter is_shut ps) ≡ 0 → list_all (λ (q : Exchange). not (is_shut q)) ps ≡ true) → (not b && list_all (λ (q : Exchange). not (is_shut q)) ps) ≡ true
+    go true h rest = absurd (omega (arith, h))
+    go false h rest = rest h
 
 no_rise : (n before after : ℕ) → HasRisenBy n before after → after ≡ 0 → n ≡ 0
 no_rise n before after rise is = omega (arith, rise, is)
@@ -104,12 +104,12 @@ out_is out text e = cc
 transcript_from : (s : Attributes) (z : ℕ) (h : List Entry) (shuts : Bool) (file out : List ℕ) (served : List TextLine) (end : Option SessionEnd) (before after : SinkState) (b b' : BoardState)
     → AreServedLines s file served → (r : Replied s served end before after b b') → list_all plain r.exchanges ≡ true → before.held ≡ Some [] → after.held ≡ Some out
     → Keeps h b'.word → z ≤ length b.word.known → (shuts ≡ false → b'.counts.shuts ≡ 0) → IsTranscript s b.word.session z h shuts file out
-transcript_from s z h shuts file out served end before after b b' read r whole none wrote keeps within quiet = record {
+transcript_from s z h shuts file out served end before after b b' read r whole empty wrote keeps within quiet = record {
   served = served;
   read = read;
   exchanges = r.exchanges;
   legal = (r.borne h z keeps within).0;
-  text = out_is out (texts s r.exchanges) (sym wrote ∙ subst (λ (o : Option (List ℕ)). after.held ≡ option_map (λ (held : List ℕ). held ++ texts s r.exchanges) o) none r.written);
+  text = out_is out (texts s r.exchanges) (sym wrote ∙ subst (λ (o : Option (List ℕ)). after.held ≡ option_map (λ (held : List ℕ). held ++ texts s r.exchanges) o) empty r.written);
   whole = whole;
   refused = shuts_only shuts r.exchanges b.counts.shuts b'.counts.shuts r.tied.shuts quiet;
 }
@@ -146,9 +146,9 @@ transcript_of s z h shuts file out seat seat' end f read keeps within quiet = by
 
 -- a seat that had no accepted change has those of its session alone
 pub own_session : (s : Attributes) (file out : List ℕ) (seat seat' : SeatState) (end : SessionEnd) (p : ℕ) (e : Entry) → FileServed s file seat seat' out end → seat.own ≡ [] → Contains seat'.own (p, e) → session_of e ≡ seat.session
-own_session s file out seat seat' end p e f none there =
+own_session s file out seat seat' end p e f empty there =
     let new = f.board.own.0 in
-    let is : seat'.own ≡ new = f.board.own.1 ∙ ap (λ (l : List (ℕ × Entry)). l ++ new) none in
+    let is : seat'.own ≡ new = f.board.own.1 ∙ ap (λ (l : List (ℕ × Entry)). l ++ new) empty in
     let pass = subst (λ (l : List (ℕ × Entry)). All (λ (q : ℕ × Entry). (session_of q.1 == seat.session) ≡ true) l) f.board.own.2 (filter_passes (λ (q : ℕ × Entry). session_of q.1 == seat.session) new) in
     eqb-true (session_of e) seat.session
     (All-contains (λ (q : ℕ × Entry). (session_of q.1 == seat.session) ≡ true) new (p, e) pass (subst (λ (l : List (ℕ × Entry)). Contains l (p, e)) is there))
