@@ -58,3 +58,8 @@ pub record IsHeatOf (table : TableId) (words : ℕ) (size : Size) : Type 0 where
   pub some_words : 0 < words
   pub some_seats : 0 < size.seats
   pub few_seats : size.seats ≤ SEATS
+
+-- what the type of a seat keeps: its view has one share, and the counts that the seat has itself
+pub record IsSeatOf (table : TableId) (me : Me (Unit {0}) HandState) (own : List ℕ) : Type 0 where
+  pub knows : me ≡ (hand 1 own, [])
+  pub long : length own ≡ table.words

@@ -15,15 +15,14 @@ pub struct HeatSeat {
 }
 
 impl Model for HeatSeat {
-    ghost use Rattle.std.specs.Prelude.{◌≡◌, [], length};
     ghost use Rattle.be_heat.specs.Seats.{SeatState};
-    ghost use Rattle.be_heat.specs.Counted.{hand};
+    ghost use Rattle.be_heat.specs.Counted.{IsSeatOf};
 
     ghost Value = { SeatState };
 
     ghost view = { λ s. record { of = s.seat.table_id; own = s.own.items } };
 
-    ghost invariant = { λ s. (s.seat.me ≡ (hand 1 s.own.items, [])) × (length s.own.items ≡ s.seat.table_id.words) };
+    ghost invariant = { λ s. IsSeatOf s.seat.table_id s.seat.me s.own.items };
 }
 
 impl HeatSeat {

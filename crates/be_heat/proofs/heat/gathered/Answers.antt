@@ -1,7 +1,8 @@
-use Rattle.std.proofs.Common.{rules, ℕ, ◌≡◌, ◌+◌, ◌∙◌, ◌++◌, [], sym, ap, arith, All, Some}
+use Rattle.std.proofs.Common.{rules, ℕ, ◌≡◌, ◌+◌, ◌∙◌, sym, ap, arith, Some}
 use Rattle.std.proofs.lemmas.List.Elements.{All-pop, All-head, All-tail, All-same}
-use Rattle.be_heat.specs.Seats.{SeatState, at_word, total_of}
-use Rattle.be_heat.proofs.Keeps.{join, last_taken, taken_in, total_none}
+use Rattle.be_heat.specs.Seats.{at_word, total_of}
+use Rattle.be_heat.proofs.Keeps.{join}
+use Rattle.be_heat.proofs.Totals.{last_taken, taken_in, total_none}
 use Rattle.be_heat.proofs.heat.gathered.Goals as goal
 
 pub loop-seat-init : goal.loop-seat-init
@@ -9,7 +10,7 @@ loop-seat-init c =
     let of = c.args.table.now.shared.table_id in
     let items = c.in-Some.ensures.items in
     let parted = All-pop (λ s. s.of ≡ of) _ _ (Some c.in-Some.first) items c.requires.of in
-    let counts = ap (λ m. m.0.counts) c.first.invariant.0 ∙ ap (λ s. s.own) c.first.view_is in
+    let counts = ap (λ m. m.0.counts) c.first.invariant.knows ∙ ap (λ s. s.own) c.first.view_is in
     let gives = c.into_iter-seat-iterator.ensures.into_iter_gives.0 in
     let rest : (word : ℕ) → at_word c.first.inside.seat.me.0.counts word + total_of c.into_iter-seat-iterator.result.rest.items word ≡ total_of c.args.seats.items word =
     λ word. ap (λ l. at_word c.first.inside.seat.me.0.counts word + total_of l word) gives ∙ last_taken c.first.inside.seat.me.0 c.in-Some.first _ _ items counts word in
@@ -31,7 +32,7 @@ loop-seat-preserved c =
     let now = c.loop-seat.invariant in
     let steps = c.in-Some-seat.ensures.steps.0 in
     let all = All-same (λ s. s.of ≡ c.args.table.now.shared.table_id) _ _ (sym steps) now.6 in
-    let counts = ap (λ m. m.0.counts) c.seat.invariant.0 ∙ ap (λ s. s.own) c.seat.view_is in
+    let counts = ap (λ m. m.0.counts) c.seat.invariant.knows ∙ ap (λ s. s.own) c.seat.view_is in
     let moved = taken_in c.loop-seat.home.me.0 c.seat.inside.seat.me.0 c.in-Some-seat.seat _ _ c.args.seats.items steps counts now.5 in (
       search rules,
       search rules,

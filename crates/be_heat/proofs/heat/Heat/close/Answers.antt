@@ -1,5 +1,6 @@
-use Rattle.std.proofs.Common.{rules, ◌≡◌, ◌∙◌, ap, sym, arith}
-use Rattle.be_heat.proofs.Keeps.{closed, read_next, are_totals}
+use Rattle.std.proofs.Common.{rules, ◌∙◌, ap, sym, arith}
+use Rattle.be_heat.proofs.Keeps.{closed}
+use Rattle.be_heat.proofs.Totals.{read_next, are_totals}
 use Rattle.be_heat.proofs.heat.Heat.close.Goals as goal
 
 pub loop-word-preserved : goal.loop-word-preserved
