@@ -103,8 +103,8 @@ impl Heat {
 
     /// Takes all seats back. Where there is no memory for the totals, the heat and its seats are gone.
     pub fn close(self, seats: Vec<HeatSeat>) -> Result<Vec<u64>, NoMemory>
-        requires { AreAllSeats self seats.items }
-        ensures { IfOk result (λ all. all.items ≡ totals self.words seats.items) }
+        requires seats { AreAllSeats self seats.items }
+        ensures totals { IfOk result (λ all. all.items ≡ totals self.words seats.items) }
     {
         let Heat {
             alloc,

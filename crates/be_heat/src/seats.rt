@@ -28,8 +28,8 @@ impl Model for HeatSeat {
 impl HeatSeat {
     /// What this seat has added to a word.
     pub fn own(&self, word: u32) -> u64
-        requires { word < length self.now.own }
-        ensures { result ≡ at_word self.now.own word }
+        requires word { word < length self.now.own }
+        ensures exact { result ≡ at_word self.now.own word }
     {
         self.own[word as usize]
     }

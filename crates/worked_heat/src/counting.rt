@@ -19,18 +19,13 @@ pub fn counts<R: Threads + Sync>(rt: &R, alloc: Global, script: Script) -> Optio
     let Ok((heat, mut seats)) = Heat::make(alloc, words, scripts.len() as u32) else {
         return None;
     };
-    thread::for_each_mut(
+    count_all(
         rt,
+        &heat,
+        words,
+        times,
+        scripts.as_slice(),
         seats.as_mut_slice(),
-        scripts.len(),
-        &|place: usize, seat: &mut HeatSeat|
-            requires { IsOf heat.now seat.old × (heat.now.words ≡ words) × (length seat.old.own ≡ words) }
-            ensures { IsOf heat.now seat.new × (length seat.new.own ≡ words) }
-        {
-            if let Some(script) = scripts.get(place) {
-                add_all(&heat, words, times, script.as_slice(), seat);
-            }
-        },
     );
     let mut out = String::new(alloc);
     push_owns(alloc, &mut out, words, seats.as_slice())?;
@@ -39,6 +34,36 @@ pub fn counts<R: Threads + Sync>(rt: &R, alloc: Global, script: Script) -> Optio
     };
     push_counts(&mut out, totals.as_slice())?;
     Some(out)
+}
+
+// Each seat adds in a thread of its own.
+fn count_all<R: Threads + Sync>(
+    rt: &R,
+    heat: &Heat,
+    words: u32,
+    times: u32,
+    scripts: &[Vec<u32>],
+    seats: &mut [HeatSeat],
+)
+    requires words { heat.now.words ≡ words }
+    requires scripts { 0 < length scripts.now }
+    requires seats { All (λ seat. IsOf heat.now seat × (length seat.own ≡ words)) seats.old }
+    ensures count { length seats.new ≡ length seats.old }
+    ensures seats { All (λ seat. IsOf heat.now seat × (length seat.own ≡ words)) seats.new }
+{
+    thread::for_each_mut(
+        rt,
+        seats,
+        scripts.len(),
+        &|place: usize, seat: &mut HeatSeat|
+            requires { IsOf heat.now seat.old × (heat.now.words ≡ words) × (length seat.old.own ≡ words) }
+            ensures { (seat.new.of ≡ seat.old.of) × (length seat.new.own ≡ length seat.old.own) }
+        {
+            if let Some(script) = scripts.get(place) {
+                add_all(heat, words, times, script.as_slice(), seat);
+            }
+        },
+    );
 }
 
 // Goes through the words as often as is said.

@@ -9,7 +9,9 @@ loop-word-preserved c = (search rules, read_next c.loop-word.totals.items _ c.lo
 pub returns : goal.returns
 returns c =
     let words = ap (λ h. h.words) c.self.view_is in
-    let share = c.gathered-home.ensures.share ∙ c.requires.as_many ∙ sym (ap (λ h. h.seats) c.self.view_is) in
+    let share = c.gathered-home.ensures.share ∙ c.requires.seats.as_many ∙ sym (ap (λ h. h.seats) c.self.view_is) in
     let final = closed c.self.inside.table.shared.key c.gathered-home.result.id c.gathered-home.result.me.0 _ _ c.close_with-closed.ensures.values.2 share in
-    are_totals c.args.seats.items c.args.self.words c.loop-word.totals.items (c.loop-word.invariant.0 ∙ words)
-    (λ word less. c.loop-word.invariant.1 word (omega (arith, less, words, c.loop-word-test.false)) ∙ final word ∙ c.gathered-home.ensures.counts word)
+    record {
+      totals = are_totals c.args.seats.items c.args.self.words c.loop-word.totals.items (c.loop-word.invariant.0 ∙ words)
+          (λ word less. c.loop-word.invariant.1 word (omega (arith, less, words, c.loop-word-test.false)) ∙ final word ∙ c.gathered-home.ensures.counts word);
+    }
