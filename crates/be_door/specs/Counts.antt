@@ -7,6 +7,7 @@ use Rattle.be_base.specs.declared.limits.TheConstants.{LINKS}
 use Rattle.be_base.specs.declared.names.SessionNo.{SessionNo}
 use Rattle.be_io.specs.Outside.{LinkState}
 use Rattle.be_door.specs.Kept.{put_last}
+use Rattle.be_door.specs.declared.meter.Meter.{Meter}
 use Rattle.be_door.specs.declared.sums.Sums.{Sums}
 
 pub record CountState (L : Type 0) : Type 0 where
@@ -70,15 +71,20 @@ module _ {L : Type 0} where
   abbrev pub after_end : CountState L → CountState L
   after_end count = record count { ended = true }
 
-  -- after a link came back from its session
-  abbrev pub after_back : CountState L → SessionNo → L → LinkState → CountState L
-  after_back count session link told = record count {
+  -- after a link came back from its session with these numbers
+  abbrev pub after_link : CountState L → SessionNo → L → Meter → CountState L
+  after_link count session link meter = record count {
     back = count.back + 1;
-    read_faults = raised told.source.faults count.read_faults;
-    write_faults = raised told.sink.faults count.write_faults;
-    most = max count.most told.source.taken;
+    read_faults = raised meter.read_faults count.read_faults;
+    write_faults = raised meter.write_faults count.write_faults;
+    most = max count.most meter.taken;
     kept = put_last count.keeps count.kept session link;
   }
+
+  -- and with what it tells then
+  abbrev pub after_back : CountState L → SessionNo → L → LinkState → CountState L
+  after_back count session link told =
+      after_link count session link (record { taken = told.source.taken; read_faults = told.source.faults; write_faults = told.sink.faults })
 
   -- the numbers of a count
   abbrev pub sums_of : CountState L → Sums

@@ -5,6 +5,7 @@ use Rattle.be_base.specs.Counts.{raised}
 use Rattle.be_base.specs.declared.names.SessionNo.{SessionNo}
 use Rattle.be_door.specs.Counts.{CountState, new_count, all_kept}
 use Rattle.be_door.specs.Numbers.{NumbersState}
+use Rattle.be_door.specs.declared.sums.Sums.{Sums}
 
 pub record DoorState (L : Type 0) : Type 0 where
   pub tries : ℕ
@@ -79,6 +80,18 @@ module _ {L : Type 0} where
     kept = door.kept ++ all_kept counts;
     read_faults = raised (sum_by (λ c. c.read_faults) counts) door.read_faults;
     write_faults = raised (sum_by (λ c. c.write_faults) counts) door.write_faults;
+  }
+
+  -- the numbers of a door
+  abbrev pub door_sums : DoorState L → Sums
+  door_sums door = record {
+    given = door.given;
+    back = door.back;
+    failed = door.failed;
+    refused = door.refused;
+    read_faults = door.read_faults;
+    write_faults = door.write_faults;
+    most = door.most;
   }
 
   -- a door that has not listened yet

@@ -1,9 +1,9 @@
 -- What a door has of its links, or one worker's count: how many, and what came of them.
 use Rattle.std.specs.Prelude.{ℕ, ◌+◌, max, Result, Ok, Err}
 use Rattle.be_base.specs.Counts.{raised}
-use Rattle.be_io.specs.Outside.{LinkState}
 use Rattle.be_io.specs.declared.faults.AcceptFault.{AcceptFault}
 use Rattle.be_io.specs.declared.faults.AcceptFault.TheVariants.{Failed, NoMemory}
+use Rattle.be_door.specs.declared.meter.Meter.{Meter}
 use Rattle.be_door.specs.declared.sums.Sums.{Sums}
 
 abbrev pub no_sums : Sums
@@ -31,11 +31,11 @@ after_accept sums (Err NoMemory) = record sums { refused = sums.refused + 1 }
 abbrev pub accepts : Sums → ℕ
 accepts sums = sums.given + sums.failed + sums.refused
 
--- what a link told when it came back
-abbrev pub after_link : Sums → LinkState → Sums
-after_link sums told = record sums {
+-- after a link came back with these numbers
+abbrev pub after_meter : Sums → Meter → Sums
+after_meter sums meter = record sums {
   back = sums.back + 1;
-  read_faults = raised told.source.faults sums.read_faults;
-  write_faults = raised told.sink.faults sums.write_faults;
-  most = max sums.most told.source.taken;
+  read_faults = raised meter.read_faults sums.read_faults;
+  write_faults = raised meter.write_faults sums.write_faults;
+  most = max sums.most meter.taken;
 }

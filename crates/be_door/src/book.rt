@@ -3,7 +3,7 @@
 ghost use Rattle.std.specs.Prelude.{◌≡◌, ◌+◌, ◌<◌, ◌≤◌, false, true, All, None, Some, IfOk, OnOk, OnErr, IfSome, IfNone, length};
 ghost use Rattle.be_base.specs.declared.limits.TheConstants.{LINKS, SEATS};
 ghost use Rattle.be_base.specs.Counts.{raised};
-ghost use Rattle.be_door.specs.Door.{DoorState, IsNew, AreAllCounts, new_door, after_try, after_open, after_settle};
+ghost use Rattle.be_door.specs.Door.{DoorState, IsNew, AreAllCounts, new_door, door_sums, after_try, after_open, after_settle};
 
 use crate::count::{DoorCount, count_kept, deal, gather};
 use crate::kept::Kept;
@@ -27,7 +27,8 @@ pub struct Book<L> {
 }
 
 impl<L> Model for Book<L> {
-    ghost use Rattle.std.specs.Prelude.{◌≡◌, ◌<◌, IfSome};
+    ghost use Rattle.std.specs.Prelude.{◌≡◌, ◌<◌, ◌≤◌, IfSome};
+    ghost use Rattle.be_base.specs.declared.limits.TheConstants.{SEATS};
     ghost use Rattle.be_door.specs.Door.{DoorState, table_of};
 
     ghost Value = { DoorState L };
@@ -50,7 +51,7 @@ impl<L> Model for Book<L> {
       write_faults = b.sums.write_faults;
     } };
 
-    ghost invariant = { λ b. IfSome b.numbers (λ n. (n ≡ record { of = n.of; links = b.links; workers = b.workers })
+    ghost invariant = { λ b. (b.workers ≤ SEATS) × IfSome b.numbers (λ n. (n ≡ record { of = n.of; links = b.links; workers = b.workers })
         × (0 < b.workers) × (b.sums.given ≡ 0) × (b.sums.back ≡ 0) × (b.sums.failed ≡ 0) × (b.sums.refused ≡ 0)) };
 }
 
@@ -70,10 +71,23 @@ impl<L: Drop> Book<L> {
         }
     }
 
+    pub fn sums(&self) -> Sums
+        ensures { result ≡ door_sums self.now }
+    {
+        self.sums
+    }
+
     pub fn kept(&self) -> &[(SessionNo, L)]
         ensures { result.now ≡ self.now.kept }
     {
         self.kept.links()
+    }
+
+    /// How many calls to listen were noted.
+    pub fn tries(&self) -> u64
+        ensures { result ≡ self.now.tries }
+    {
+        self.tries
     }
 
     /// Notes a call to listen.
@@ -143,7 +157,7 @@ impl<L: Drop> Book<L> {
         ensures links { OnOk result (self.new.given + self.new.failed + self.new.refused ≡ self.new.links) }
         ensures refused { OnErr result (self.new ≡ self.old) }
     {
-        self.kept.make_room(count_kept(&counts))?;
+        self.kept.reserve(count_kept(&counts))?;
         let Some(numbers) = self.numbers.take() else {
             unreachable!()
         };

@@ -1,12 +1,14 @@
 //! What the workers of a door count.
 
-ghost use Rattle.std.specs.Prelude.{◌≡◌, ◌+◌, ◌<◌, ◌≤◌, ◌++◌, true, false, length, All, IfOk};
+ghost use Rattle.std.specs.Prelude.{◌≡◌, ◌+◌, ◌<◌, ◌≤◌, ◌++◌, true, false, length, sum_by, All, IfOk};
 ghost use Rattle.be_base.specs.declared.limits.TheConstants.{LINKS, SEATS};
-ghost use Rattle.be_door.specs.Counts.{CountState, IsSound, new_count, with_counts, all_kept};
+ghost use Rattle.be_door.specs.Counts.{CountState, IsSound, new_count, after_link, sums_of, with_counts, all_kept};
 
 use crate::kept::Kept;
+use crate::meter::Meter;
 use crate::numbers::{Home, Numbers, Turn};
 use crate::sums::Sums;
+use be_base::SessionNo;
 use std::alloc::{AllocError, Global};
 use std::marker::Model;
 
@@ -48,12 +50,12 @@ impl<L> Model for DoorCount<L> {
 }
 
 impl<L> DoorCount<L> {
-    pub fn given(&self) -> u64
-        ensures given { result ≡ self.now.given }
+    pub fn sums(&self) -> Sums
+        ensures sums { result ≡ sums_of self.now }
         // What its type keeps.
         ensures sound { IsSound self.now }
     {
-        self.sums.given
+        self.sums
     }
 
     pub fn has_ended(&self) -> bool
@@ -73,6 +75,16 @@ impl<L: Drop> DoorCount<L> {
             sums: Sums::none(),
             kept: Kept::make(alloc, keeps),
         }
+    }
+
+    /// Counts a link that came back from this session, and keeps it where links are kept.
+    pub(crate) fn take_back(&mut self, session: SessionNo, link: L, meter: Meter)
+        requires { self.old.back < self.old.given }
+        ensures back { self.new ≡ after_link self.old session link meter }
+        ensures sound { IsSound self.new }
+    {
+        self.sums.add_back(meter);
+        self.kept.put(session, link);
     }
 }
 
@@ -99,7 +111,7 @@ pub(crate) fn deal<L: Drop>(
 /// How many links they kept.
 pub(crate) fn count_kept<L: Drop>(counts: &[DoorCount<L>]) -> usize
     requires { length counts.now ≤ SEATS }
-    ensures { result ≡ length (all_kept counts.now) }
+    ensures { result ≡ sum_by (λ c. length c.kept) counts.now }
 {
     let mut links = 0;
     for count in counts.iter() {

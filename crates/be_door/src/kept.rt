@@ -48,6 +48,16 @@ impl<L: Drop> Kept<L> {
         self.keeps
     }
 
+    /// Makes room for so many more.
+    pub fn reserve(&mut self, more: usize) -> Result<(), NoMemory>
+        ensures same { (self.new.keeps ≡ self.old.keeps) × (self.new.links ≡ self.old.links) }
+        ensures room { OnOk result (more ≤ self.new.spare) }
+        ensures refused { OnErr result (self.new ≡ self.old) }
+    {
+        self.links.reserve(more)?;
+        Ok(())
+    }
+
     /// Makes room for so many more, where they are kept.
     pub fn make_room(&mut self, more: usize) -> Result<(), NoMemory>
         ensures same { (self.new.keeps ≡ self.old.keeps) × (self.new.links ≡ self.old.links) }
@@ -55,7 +65,7 @@ impl<L: Drop> Kept<L> {
         ensures refused { OnErr result (self.new ≡ self.old) }
     {
         if self.keeps {
-            self.links.reserve(more)?;
+            self.reserve(more)?;
         }
         Ok(())
     }

@@ -1,13 +1,14 @@
 //! How many links there were, and what came of them.
 
-ghost use Rattle.std.specs.Prelude.{◌≡◌, ◌+◌, ◌*◌, ◌<◌, ◌≤◌, IfOk, IfSome, Ok, Err, None};
+ghost use Rattle.std.specs.Prelude.{◌≡◌, ◌+◌, ◌-◌, ◌*◌, ◌<◌, ◌≤◌, IfOk, IfSome, Ok, Err, None};
 ghost use Rattle.be_base.specs.declared.limits.TheConstants.{LINKS, SEATS};
-ghost use Rattle.be_door.specs.Sums.{no_sums, plus, after_accept, accepts};
+ghost use Rattle.be_door.specs.Sums.{no_sums, plus, after_meter, after_accept, accepts};
 
+use crate::meter::Meter;
 use be_io::AcceptFault;
 
 /// What a door has of its links, or one worker's count.
-#[derive(Drop)]
+#[derive(Clone, Copy, Debug, PartialEq, Eq)]
 pub struct Sums {
     pub given: u64,
     pub back: u64,
@@ -33,6 +34,14 @@ impl Sums {
         }
     }
 
+    /// How many links are out.
+    pub(crate) fn out(&self) -> usize
+        requires { (self.now.back ≤ self.now.given) × (self.now.given ≤ LINKS) }
+        ensures { result ≡ self.now.given - self.now.back }
+    {
+        (self.given - self.back) as usize
+    }
+
     /// Adds what a worker counted.
     pub fn add(&mut self, other: &Sums)
         requires few { accepts self.old + accepts other.now ≤ SEATS * LINKS }
@@ -48,8 +57,19 @@ impl Sums {
         self.most = self.most.max(other.most);
     }
 
+    /// Counts a link that came back.
+    pub(crate) fn add_back(&mut self, meter: Meter)
+        requires { self.old.back < LINKS }
+        ensures { self.new ≡ after_meter self.old meter }
+    {
+        self.back += 1;
+        self.read_faults = self.read_faults.saturating_add(meter.read_faults);
+        self.write_faults = self.write_faults.saturating_add(meter.write_faults);
+        self.most = self.most.max(meter.taken);
+    }
+
     /// Counts what came of an accept.
-    pub fn count<L>(&mut self, link: Result<L, AcceptFault>) -> Result<Option<L>, AcceptFault>
+    pub(crate) fn count<L>(&mut self, link: Result<L, AcceptFault>) -> Result<Option<L>, AcceptFault>
         requires { accepts self.old < LINKS }
         ensures counted { self.new ≡ after_accept self.old link }
         ensures given { IfOk result (λ drawn. IfSome drawn (λ link'. link ≡ Ok link')) }
