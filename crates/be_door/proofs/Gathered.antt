@@ -26,12 +26,21 @@ module _ (L : Type 0) where
       let writes = raised_on sums.write_faults count.write_faults _ _ (sum_by-cons (λ (c : CountState L). c.write_faults) count counts) in
       cc
 
-  -- no count is left
-  pub with_none : (sums : Sums) → sums.read_faults ≤ last_count → sums.write_faults ≤ last_count → with_counts {L} sums [] ≡ sums
-  with_none sums r w =
-      let reads : raised 0 sums.read_faults ≡ sums.read_faults = omega arith in
-      let writes : raised 0 sums.write_faults ≡ sums.write_faults = omega arith in
+  none_more : (given back failed refused reads writes most : ℕ) → reads ≤ last_count → writes ≤ last_count
+      → with_counts {L = L} (record { given = given; back = back; failed = failed; refused = refused; read_faults = reads; write_faults = writes; most = most }) []
+      ≡ record { given = given; back = back; failed = failed; refused = refused; read_faults = reads; write_faults = writes; most = most }
+  none_more given back failed refused reads writes most few_reads few_writes =
+      let g : given + 0 ≡ given = omega arith in
+      let b : back + 0 ≡ back = omega arith in
+      let f : failed + 0 ≡ failed = omega arith in
+      let r : refused + 0 ≡ refused = omega arith in
+      let x : raised 0 reads ≡ reads = omega arith in
+      let y : raised 0 writes ≡ writes = omega arith in
       cc
+
+  -- no count is left
+  pub with_none : (sums : Sums) → sums.read_faults ≤ last_count → sums.write_faults ≤ last_count → with_counts {L = L} sums [] ≡ sums
+  with_none sums = none_more sums.given sums.back sums.failed sums.refused sums.read_faults sums.write_faults sums.most
 
   module _ (all rest : List (CountState L)) (count : CountState L) (is : all ≡ count ∷ rest) where
     pub sums_on : (sums own : Sums) → own ≡ sums_of count → with_counts (plus sums own) rest ≡ with_counts sums all

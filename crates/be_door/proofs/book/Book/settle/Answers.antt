@@ -1,5 +1,5 @@
 -- A door whose counts are settled has numbers, and the room was made.
-use Rattle.std.proofs.Common.{◌≡◌, ◌∙◌, zero, false, [], sym, ap, arith}
+use Rattle.std.proofs.Common.{◌≡◌, ◌≤◌, ◌∙◌, zero, false, [], length, sum_by, sym, ap, subst, arith}
 use Rattle.std.specs.Prelude.{None}
 use Rattle.std.proofs.lemmas.List.Concat.{length-flat_map}
 use Rattle.be_door.specs.Counts.{new_count}
@@ -15,4 +15,5 @@ unreachable-requires g c =
 
 pub gather-requires-clause-room : goal.gather-requires-clause-room
 gather-requires-clause-room g c =
-    omega (arith, c.in_ok-reserve.ensures.room, c.count_kept.ensures, length-flat_map (λ c. c.kept) c.args.counts.items)
+    let counted = c.count_kept.ensures ∙ ap (λ cs. sum_by (λ c. length c.kept) cs) c.deref.ensures.value ∙ sym (length-flat_map (λ c. c.kept) c.args.counts.items) in
+    subst (λ n. n ≤ c.reserve.new.self.spare) counted c.in_ok-reserve.ensures.room
