@@ -1,5 +1,5 @@
 -- A door, and the counts of its workers.
-use Rattle.std.specs.Prelude.{◌≡◌, ℕ, ◌+◌, ◌<◌, ◌++◌, Bool, true, false, List, [], length, max, fold, sum_by, All, Option, None, Some}
+use Rattle.std.specs.Prelude.{◌≡◌, ℕ, ◌+◌, ◌<◌, ◌++◌, Bool, true, List, [], length, max, fold, sum_by, All, Option, None, Some}
 use Rattle.atomic_table.specs.Seated.{TableId}
 use Rattle.be_base.specs.Counts.{raised}
 use Rattle.be_base.specs.declared.names.SessionNo.{SessionNo}

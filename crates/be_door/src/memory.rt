@@ -126,12 +126,7 @@ impl<L: Link + Drop, R: Wait> Door<Metered<L>> for MemDoor<L, R> {
         count.sums.count(link)
     }
 
-    fn give_back(
-        &self,
-        count: &mut DoorCount<Metered<L>>,
-        session: SessionNo,
-        link: Metered<L>,
-    ) {
+    fn give_back(&self, count: &mut DoorCount<Metered<L>>, session: SessionNo, link: Metered<L>) {
         let meter = link.meter;
         count.take_back(session, link, meter);
     }

@@ -69,7 +69,10 @@ impl Sums {
     }
 
     /// Counts what came of an accept.
-    pub(crate) fn count<L>(&mut self, link: Result<L, AcceptFault>) -> Result<Option<L>, AcceptFault>
+    pub(crate) fn count<L>(
+        &mut self,
+        link: Result<L, AcceptFault>,
+    ) -> Result<Option<L>, AcceptFault>
         requires { accepts self.old < LINKS }
         ensures counted { self.new ≡ after_accept self.old link }
         ensures given { IfOk result (λ drawn. IfSome drawn (λ link'. link ≡ Ok link')) }

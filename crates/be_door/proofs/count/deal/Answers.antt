@@ -10,10 +10,10 @@ loop-worker-preserved g c =
     let links : numbers.links ≡ c.args.links = ap (λ n. n.links) c.in_ok-numbers.ensures.numbers in
     let of : c.in_ok-numbers.home.of ≡ numbers.of = ap (λ h. h.of) c.in_ok-numbers.ensures.home in
     let made : c.make.result ≡ new_count c.in_ok-numbers.home.of c.args.links c.args.keeps =
-        c.make.ensures
-        ∙ ap (λ t. new_count t.of t.links c.args.keeps) c.split.ensures.turn
-        ∙ ap (λ n. new_count numbers.of n c.args.keeps) links
-        ∙ ap (λ o. new_count o c.args.links c.args.keeps) (sym of) in
+    c.make.ensures
+    ∙ ap (λ t. new_count t.of t.links c.args.keeps) c.split.ensures.turn
+    ∙ ap (λ n. new_count numbers.of n c.args.keeps) links
+    ∙ ap (λ o. new_count o c.args.links c.args.keeps) (sym of) in
     let IsNew : CountState g.row.L.Denot → Type 0 = λ count. count ≡ new_count c.in_ok-numbers.home.of c.args.links c.args.keeps in (
       search rules,
       search rules,

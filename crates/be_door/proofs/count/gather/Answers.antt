@@ -11,7 +11,7 @@ loop-count-init g c =
     let rest = c.into_iter-count-iterator.result.rest.items in
     let first = c.in-Some.first in
     let is : c.args.counts.items ≡ first ∷ rest =
-        sym c.into_iter-counts.ensures.rest ∙ c.in-Some.ensures.items ∙ ap (λ it. first ∷ it.rest.items) (sym c.into_iter-count-iterator.ensures.into_iter_gives) in
+    sym c.into_iter-counts.ensures.rest ∙ c.in-Some.ensures.items ∙ ap (λ it. first ∷ it.rest.items) (sym c.into_iter-count-iterator.ensures.into_iter_gives) in
     let own = ap sums_of c.first.view_is in
     let kept = ap (λ c. c.kept) c.first.view_is in
     let numbers = c.args.numbers in
