@@ -1,0 +1,113 @@
+//! A door on the loopback address.
+
+ghost use Rattle.std.specs.Prelude.{◌≡◌, ◌+◌, IfErr, IfOk, OnOk, false};
+ghost use Rattle.be_door.specs.Door.{AreAllCounts, new_door, door_sums, after_settle};
+ghost use Rattle.be_door.specs.Links.{no_numbers};
+
+use crate::book::Book;
+use crate::count::DoorCount;
+use crate::door::Door;
+use crate::sums::Sums;
+use crate::tcp_link::TcpLink;
+use be_base::{NoMemory, SessionNo};
+use be_io::{AcceptFault, ListenFault};
+use std::alloc::Global;
+use std::net::{Ipv4Addr, Net, OpenListener, TcpListener};
+
+/// A door that gives out the connections to a port of 127.0.0.1, and drops those that come back.
+#[derive(Drop)]
+pub struct TcpDoor<R: Net> {
+    rt: R,
+    alloc: Global,
+    listener: Option<R::Listener>,
+    book: Book<TcpLink<R>>,
+}
+
+impl<R: Net> TcpDoor<R> {
+    /// A door that doesn't listen yet. It takes no memory.
+    pub fn make(rt: R, alloc: Global) -> TcpDoor<R>
+        ensures { result.book ≡ new_door false }
+    {
+        TcpDoor {
+            rt,
+            alloc,
+            listener: None,
+            book: Book::make(alloc, false),
+        }
+    }
+
+    /// What the last listen came to, once it is settled.
+    pub fn sums(&self) -> Sums
+        ensures { result ≡ door_sums self.now.book }
+    {
+        self.book.sums()
+    }
+
+    /// The port at which it listens. After a listen at port 0 it is the one that the system chose.
+    pub fn local_port(&self) -> Option<u16> {
+        let address = self.listener.as_ref()?.local_addr().ok()?;
+        Some(address.port())
+    }
+
+    // The next connection. It waits until there is one.
+    fn next_link(&self) -> Result<TcpLink<R>, AcceptFault>
+        ensures { IfOk result (λ link. link ≡ record { stream = link.stream; meter = no_numbers }) }
+    {
+        let Some(listener) = &self.listener else {
+            return Err(AcceptFault::Failed);
+        };
+        match listener.accept() {
+            Ok((stream, _peer)) => Ok(TcpLink::of(stream)),
+            Err(_) => Err(AcceptFault::Failed),
+        }
+    }
+}
+
+impl<R: Net> Door<TcpLink<R>> for TcpDoor<R> {
+    ghost state = { λ d. d.book };
+
+    fn listen(
+        &mut self,
+        port: u16,
+        links: u64,
+        workers: u32,
+    ) -> Result<Vec<DoorCount<TcpLink<R>>>, ListenFault> {
+        self.book.add_try(port);
+        let Ok(listener) = TcpListener::bind(&self.rt, (Ipv4Addr::LOCALHOST, port)) else {
+            self.book.add_fault();
+            return Err(ListenFault::Failed);
+        };
+        let Ok(counts) = self.book.open(self.alloc, links, workers) else {
+            return Err(ListenFault::NoMemory);
+        };
+        self.listener = Some(listener);
+        Ok(counts)
+    }
+
+    fn accept(&self, count: &mut DoorCount<TcpLink<R>>) -> Result<Option<TcpLink<R>>, AcceptFault> {
+        if self.book.draw(&mut count.turn).is_none() {
+            return Ok(None);
+        }
+        let link = match count.kept.make_room(count.sums.out() + 1) {
+            Ok(()) => self.next_link(),
+            Err(NoMemory) => Err(AcceptFault::NoMemory),
+        };
+        count.sums.count(link)
+    }
+
+    fn give_back(&self, count: &mut DoorCount<TcpLink<R>>, session: SessionNo, link: TcpLink<R>) {
+        let meter = link.meter;
+        count.take_back(session, link, meter);
+    }
+
+    fn settle(&mut self, counts: Vec<DoorCount<TcpLink<R>>>) -> Result<(), NoMemory>
+        requires { AreAllCounts self.old.book counts.items }
+        ensures settled { OnOk result (self.new.book ≡ after_settle self.old.book counts.items) }
+        ensures links { OnOk result (self.new.book.given + self.new.book.failed + self.new.book.refused ≡ self.new.book.links) }
+        ensures no_memory { IfErr result (λ _. self.new.book ≡ self.old.book) }
+    {
+        self.book.settle(counts)?;
+        self.listener = None;
+        Ok(())
+    }
+}
