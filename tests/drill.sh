@@ -163,6 +163,13 @@ mixed() {
 
 python3 "$top/tests/legal.py" --self-test || exit 1
 passed=$((passed + 1))
+# the example
+cd "$top/examples/market" || exit 1
+"$program" drill schema.txt 100 alice.txt bob.txt >"$room/out" 2>"$room/err" || { echo 'FAILED: the example market'; exit 1; }
+for output in "$room/out" possible.txt; do
+    python3 "$top/tests/legal.py" schema.txt --ample "$output" alice.txt bob.txt || { echo "FAILED: the example market: $output"; exit 1; }
+    passed=$((passed + 1))
+done
 for seed in 1 2 3; do
     mixed 64 1 $seed; judged "64 files of a line, $seed" 0; judged "64 files of a line, $seed" 5 --load load.txt
     mixed 5 20 $seed; judged "files of 20 lines, $seed" 3

@@ -11,6 +11,7 @@ import bisect
 import re
 import sys
 
+sys.dont_write_bytecode = True
 import letters
 import model
 

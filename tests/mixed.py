@@ -5,6 +5,7 @@ seed. The files are f1, f2 and so on, the schema is schema.txt, and a load file 
 import os
 import sys
 
+sys.dont_write_bytecode = True
 import model
 
 
