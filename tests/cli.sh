@@ -1,48 +1,8 @@
 #!/usr/bin/env bash
 # Runs the program as the gate built it, or builds it, and compares its exit codes, standard output and
 # standard error byte for byte. Ends with 1 at the first difference.
-set -u
-top="$(cd "$(dirname "${BASH_SOURCE[0]}")/.." && pwd)"
-room="$(mktemp -d)"
-trap 'chmod -R u+rwx "$room" 2>/dev/null; rm -rf "$room"' EXIT
-passed=0
-
-# builds where the gate has left no program, and says so on standard error
-built="$("$top/justmeadow" --build)" || { echo "FAILED: the program can't be built"; exit 1; }
-program="$room/program"
-cp "$built" "$program"
-# another user may be the one that runs it
-chmod 711 "$room"
-chmod 755 "$program"
-nobody=(setpriv --reuid=65534 --regid=65534 --clear-groups)
-
-# same NAME CODE OUT ERR: what the last call left is as wanted, where OUT and ERR are texts for printf
-same() {
-    printf "$3" >"$room/want-out"
-    printf "$4" >"$room/want-err"
-    if [ "$code" -ne "$2" ]; then
-        echo "FAILED: $1: ended with $code, and not $2"
-        cat "$room/err"
-        exit 1
-    fi
-    if ! cmp -s "$room/want-out" "$room/out"; then
-        echo "FAILED: $1: standard output differs"
-        diff "$room/want-out" "$room/out" | head -n 20
-        exit 1
-    fi
-    if ! cmp -s "$room/want-err" "$room/err"; then
-        echo "FAILED: $1: standard error differs"
-        diff "$room/want-err" "$room/err" | head -n 20
-        exit 1
-    fi
-    passed=$((passed + 1))
-}
-
-# call WORD..: runs the program on the file `in`
-call() {
-    "$program" "$@" <"$room/in" >"$room/out" 2>"$room/err"
-    code=$?
-}
+# shellcheck source=program.sh
+. "$(dirname "${BASH_SOURCE[0]}")/program.sh"
 
 cd "$room" || exit 1
 three='SUB a price >= 10\nPUB price=10\nPUB price=9\n'
@@ -67,6 +27,22 @@ call gen 7 0 0 --load load.txt; same 'gen with a load file' 2 '' 'words refused\
 call run $'\xff'; same 'a word that is no text' 2 '' 'words refused\n'
 call gen 7 1000; same 'gen with two numbers' 2 '' 'words refused\n'
 call gen 7 100001 0; same 'gen over its limit' 2 '' 'words refused\n'
+call drill; same 'drill alone' 2 '' 'words refused\n'
+call drill schema.txt; same 'drill of a schema alone' 2 '' 'words refused\n'
+call drill schema.txt 0; same 'drill without a file' 2 '' 'words refused\n'
+call drill schema.txt schema.txt schema.txt; same 'drill without a number of rounds' 2 '' 'words refused\n'
+call drill schema.txt '' in; same 'drill with an empty number of rounds' 2 '' 'words refused\n'
+call drill schema.txt -1 in; same 'drill with less than no rounds' 2 '' 'words refused\n'
+call drill schema.txt 1000001 in; same 'drill over its rounds' 2 '' 'words refused\n'
+call drill schema.txt 18446744073709551616 in; same 'drill of a number of rounds that is too large' 2 '' 'words refused\n'
+mapfile -t files < <(yes in | head -n 65)
+call drill schema.txt 0 "${files[@]}"; same 'drill of 65 files' 2 '' 'words refused\n'
+call drill schema.txt 0 missing.txt "${files[@]:2}"; same 'drill of 64 files' 4 '' 'read fault\n'
+call drill schema.txt 0 in -x; same 'drill with a flag' 2 '' 'words refused\n'
+call drill schema.txt 0 in --load; same 'drill with a load file without a name' 2 '' 'words refused\n'
+call drill schema.txt 0 in --load load.txt --load=load.txt; same 'drill with two load files' 2 '' 'words refused\n'
+call drill schema.txt 0 in --rounds=3; same 'drill with an unknown option' 2 '' 'words refused\n'
+call drill schema.txt 0 -- -x; same 'drill of a missing file behind a separator' 4 '' 'read fault\n'
 call gen x 0 0; same 'gen without a number' 2 '' 'words refused\n'
 call gen 18446744073709551616 0 0; same 'gen of a number that is too large' 2 '' 'words refused\n'
 
@@ -252,7 +228,7 @@ building="justmeadow: building the program, which proves its 3 crates. The log: 
 building+='justmeadow: 1 of 3: low\njustmeadow: 2 of 3: high\n'
 script --help; cp out usage
 same 'the usage' 0 "$(sed 's/%/%%/g' usage)\n" ''
-for words in 'run SCHEMA' 'run SCHEMA --load FILE' 'gen NUMBER SUBS EVENTS' 'cover SCHEMA FILE NAME' 'SUB name condition' 'UNSUB name' 'PUB event' 'COST event' LIST 'SEND event' 'FETCH most' DUMP 'TAIL place most' QUIT --help --version --build --unproved; do
+for words in 'run SCHEMA' 'run SCHEMA --load FILE' 'gen NUMBER SUBS EVENTS' 'cover SCHEMA FILE NAME' 'drill SCHEMA ROUNDS FILE..' 'SUB name condition' 'UNSUB name' 'PUB event' 'COST event' LIST 'SEND event' 'FETCH most' DUMP 'TAIL place most' QUIT --help --version --build --unproved; do
     grep -q -- "^    \(./justmeadow \)\?$words" usage || { echo "FAILED: the usage lacks $words"; exit 1; }
 done
 script; same 'the script alone' 2 '' "$(cat usage)\n"

@@ -463,4 +463,5 @@ def main(program, sessions):
     print(f"the model of docs/protocol.md: {len(replies)} lines of replies and {len(faults)} load files, no difference")
 
 
-main(*sys.argv[1:])
+if __name__ == "__main__":
+    main(*sys.argv[1:])

@@ -1,0 +1,81 @@
+#!/usr/bin/env bash
+# Prints how many lines a second `drill` answers of 1, 2 and 4 files of PUBs over 10,000 subscriptions, and how much longer three
+# such files take beside a file that writes. Each figure is the median of the runs, which take the files in turn; the times are
+# elapsed ones, less those of as many empty files. At 2 files on two cores 1.7 times the lines of 1 file are wanted, and beside
+# a writer 1.2 times the time at most; that is told where it isn't so. Other work on the machine spoils all of it, so its load
+# is told too. No part of the gate.
+#   bench/drill.sh [PUBS] [RUNS]
+# shellcheck source=common.sh
+. "$(dirname "${BASH_SOURCE[0]}")/common.sh"
+use_program
+pubs="${1:-300000}" runs="${2:-9}"
+cores="$(nproc)"
+on_two=() on_four=()
+if taskset -c 0-1 true 2>/dev/null; then on_two=(taskset -c 0-1); fi
+if taskset -c 0-3 true 2>/dev/null; then on_four=(taskset -c 0-3); fi
+cd "$room" || exit 1
+
+awk -v what=schema -f "$top/bench/workload.awk" >schema.txt
+awk -v what=script -v subs=10000 -v events=0 -f "$top/bench/workload.awk" | sed 's/^SUB/ROW/' >load.txt
+# each file its own events
+awk -v what=script -v subs=1 -v events=$((4 * pubs)) -f "$top/bench/workload.awk" | sed 1d >events
+split -l "$pubs" --numeric-suffixes=1 -a 1 events reads
+: >none
+
+# writing CHANGES: a file of so many, of a condition that no event satisfies, since each event has one attribute
+writing() { awk -v most="$1" 'BEGIN { for (i = 1; i <= most / 2; i++) print "SUB w price < 5 and size < 5\nUNSUB w" }'; }
+
+# elapsed FILE..: the seconds of one `drill` of them
+elapsed() {
+    local TIMEFORMAT=%R
+    { time "${on[@]}" "$program" drill schema.txt 0 "$@" --load=load.txt >out 2>err; } 2>took || { cat err >&2; exit 1; }
+    sed '/^== LOG/,$d' out | grep -v '^HIT\|^OK\|^==' >others
+    [ ! -s others ] || { echo "a line has another reply: $(head -n 1 others)" >&2; exit 1; }
+    tail -n 1 took
+}
+
+# round: one row of seconds: 1, 2 and 4 files and as many empty ones; then three files alone, beside an empty and beside a writing
+# one; and the writing one alone
+round() {
+    local on=("${on_two[@]}")
+    echo "$(elapsed none) $(elapsed reads1) $(elapsed none none) $(elapsed reads1 reads2)"
+    on=("${on_four[@]}")
+    echo "$(elapsed none none none none) $(elapsed reads1 reads2 reads3 reads4)"
+    echo "$(elapsed reads1 reads2 reads3 none) $(elapsed reads1 reads2 reads3 writes) $(elapsed none none none writes)"
+}
+
+# so many changes as take some half of the time of the readers, so that the writer ends before them
+on=("${on_four[@]}")
+writing 20000 >writes
+alone="$(elapsed none none none writes)" && empty="$(elapsed none none none none)" && reading="$(elapsed reads1 reads2 reads3 none)" || exit 1
+changes="$(awk -v a="$alone" -v e="$empty" -v r="$reading" 'BEGIN { print 2 * int(5000 * (r - e) / (a > e ? a - e : 0.001)) }')"
+writing "$changes" >writes
+
+before="$(cut -d' ' -f1 /proc/loadavg)"
+for ((run = 0; run < runs; run++)); do round | paste -sd ' '; done >rows || exit 1
+awk -v pubs="$pubs" -v runs="$runs" -v changes="$changes" -v cores="$cores" -v before="$before" -v after="$(cut -d' ' -f1 /proc/loadavg)" '
+    NF == 9 {
+        rows++
+        one[rows] = pubs / ($2 - $1)
+        two[rows] = 2 * pubs / ($4 - $3)
+        four[rows] = 4 * pubs / ($6 - $5)
+        by_two[rows] = two[rows] / one[rows]
+        by_four[rows] = four[rows] / one[rows]
+        beside[rows] = ($8 - $5) / ($7 - $5)
+        lasts[rows] = ($9 - $5) / ($7 - $5)
+    }
+    function median(of,    i, j, it) {
+        for (i = 2; i <= rows; i++) for (j = i; j > 1 && of[j] < of[j - 1]; j--) { it = of[j]; of[j] = of[j - 1]; of[j - 1] = it }
+        return rows % 2 ? of[(rows + 1) / 2] : (of[rows / 2] + of[rows / 2 + 1]) / 2
+    }
+    END {
+        if (rows < runs) { print "a run failed"; exit 1 }
+        what = "of " pubs " PUBs over 10,000 subscriptions"
+        printf "`drill` of 1 file %s: %d lines a second\n", what, median(one)
+        printf "of 2 files on two cores: %d lines a second, %.2f times as many\n", median(two), twice = median(by_two)
+        printf "of 4 files on four: %d lines a second, %.2f times as many\n", median(four), median(by_four)
+        printf "3 files beside one of %d changes: %.2f times as long as alone; the changes alone last %.2f of that time\n", changes, slower = median(beside), median(lasts)
+        printf "the load of the machine, of %d processors, before and after: %s, %s\n", cores, before, after
+        if (twice < 1.7) printf "less than wanted: 2 files answer %.2f times the lines of 1, and not 1.7\n", twice
+        if (slower > 1.2) printf "more than wanted: 3 files take %.2f times as long beside a writing one, and not 1.2\n", slower
+    }' rows
