@@ -97,51 +97,51 @@ there_mapped seat_in ends back is i end at =
 module _ {E F : Type 0} (seat_in : E → SeatState) (text_in : E → List ℕ) (end_in : E → SessionEnd) (bytes_in : F → List ℕ) (s : Attributes) (boxes : List TableId) (opening : List Entry) (files : List F) (ends : List E) (seats : List SeatState)
     (first : seats ≡ map (first_seat opening boxes) (range_with_len 0 (length files))) (count : length ends ≡ length files)
     (served : (i : ℕ) (seat : SeatState) (file : F) (end : E) → slice_get seats i ≡ Some seat → slice_get files i ≡ Some file → slice_get ends i ≡ Some end → FileServed s (bytes_in file) seat (seat_in end) (text_in end) (end_in end))
-    where
-  -- what was left at a place is of the file there
-  served_at : (i : ℕ) (end : E) → slice_get ends i ≡ Some end → (file : F) × (slice_get files i ≡ Some file) × FileServed s (bytes_in file) (first_seat opening boxes i) (seat_in end) (text_in end) (end_in end)
-  served_at i end at =
-      let lt : i < length files = omega (arith, slice_get_within ends i end at, count) in
-      let file = there files i lt in
-      (file.0, file.1, served i (first_seat opening boxes i) file.0 end (seat_at opening boxes (length files) i seats first lt) file.1 at)
+  where
+    -- what was left at a place is of the file there
+    served_at : (i : ℕ) (end : E) → slice_get ends i ≡ Some end → (file : F) × (slice_get files i ≡ Some file) × FileServed s (bytes_in file) (first_seat opening boxes i) (seat_in end) (text_in end) (end_in end)
+    served_at i end at =
+        let lt : i < length files = omega (arith, slice_get_within ends i end at, count) in
+        let file = there files i lt in
+        (file.0, file.1, served i (first_seat opening boxes i) file.0 end (seat_at opening boxes (length files) i seats first lt) file.1 at)
 
-  -- each seat comes back at its place
-  pub places : (i : ℕ) (end : E) → slice_get ends i ≡ Some end → (seat_in end).passes.seat ≡ i
-  places i end at = (served_at i end at).2.board.goes.seat
+    -- each seat comes back at its place
+    pub places : (i : ℕ) (end : E) → slice_get ends i ≡ Some end → (seat_in end).passes.seat ≡ i
+    places i end at = (served_at i end at).2.board.goes.seat
 
-  -- each session ended as a file's
-  pub ends_are : All (λ e. IsEndOf (seat_in e) (end_in e)) ends
-  ends_are k d lt =
-      let e : E = get_or ends k d in
-      let one = served_at k e (slice_get-get_or ends k d lt) in
-      end_of_file s (bytes_in one.0) (text_in e) (first_seat opening boxes k) (seat_in e) (end_in e) one.2
+    -- each session ended as a file's
+    pub ends_are : All (λ e. IsEndOf (seat_in e) (end_in e)) ends
+    ends_are k d lt =
+        let e : E = get_or ends k d in
+        let one = served_at k e (slice_get-get_or ends k d lt) in
+        end_of_file s (bytes_in one.0) (text_in e) (first_seat opening boxes k) (seat_in e) (end_in e) one.2
 
-  pub are_served : (h : List Entry) (back : List SeatState) (shuts : Bool) (texts : List (List ℕ)) → All (λ e. IsRead (end_in e)) ends → All (IsKeptSeat boxes) back → back ≡ map seat_in ends → texts ≡ map text_in ends
-      → (shuts ≡ false → All (λ e. (seat_in e).glass.shuts ≡ 0) ends) → IsWellFormed h → All (KeepsAll boxes h) back → AreRecorded (length h) h back → IsOpened opening h
-      → AreServed s opening h shuts (map bytes_in files) texts
-  are_served h back shuts texts read kept is texts_are quiet formed keeps recorded opened = record {
-    formed = formed;
-    begins = opened.begins;
-    sessions = λ p e le at.
-        let some = opened.behind p e le at in
-        let found = recorded p e (slice_get_within h p e at) at some in
-        let stands : slice_get back found.0 ≡ Some found.1 = slice_get-get_or back found.0 found.1 found.2 ∙ ap (λ (x : SeatState). Some x) found.3 in
-        let end = get_map seat_in ends found.0 found.1 (subst (λ (l : List SeatState). slice_get l found.0 ≡ Some found.1) is stands) in
-        let one = served_at found.0 end.0 end.1 in
-        let session = own_session s (bytes_in one.0) (text_in end.0) (first_seat opening boxes found.0) (seat_in end.0) (end_in end.0) p e one.2 refl (subst (λ (x : SeatState). Contains x.own (p, e)) (sym end.2) found.4) in
-        (some, omega (arith, session, slice_get_within files found.0 one.0 one.1, length-map files bytes_in));
-    count = ap (λ (l : List (List ℕ)). length l) texts_are ∙ (length-map ends text_in ∙ (count ∙ sym (length-map files bytes_in)));
-    each = λ i file text at_file at_text.
-        let end = get_map text_in ends i text (subst (λ (l : List (List ℕ)). slice_get l i ≡ Some text) texts_are at_text) in
-        let mine = get_map bytes_in files i file at_file in
-        let one = served_at i end.0 end.1 in
-        let same : one.0 ≡ mine.0 = one_at files i one.0 mine.0 one.1 mine.1 in
-        let seat = seat_in end.0 in
-        let at_back : slice_get back i ≡ Some seat = there_mapped seat_in ends back is i end.0 end.1 in
-        let kept_seat : IsKeptSeat boxes seat = at_all (IsKeptSeat boxes) back i seat kept at_back in
-        let keeps_seat = at_all (KeepsAll boxes h) back i seat keeps at_back in
-        subst (λ (x : List ℕ). IsTranscript s (i + 1) (length opening) h shuts x text) (ap bytes_in same ∙ mine.2)
-        (subst (λ (x : List ℕ). IsTranscript s (i + 1) (length opening) h shuts (bytes_in one.0) x) end.2
-        (transcript_of s (length opening) h shuts (bytes_in one.0) (text_in end.0) (first_seat opening boxes i) seat (end_in end.0) one.2 (at_all (λ e. IsRead (end_in e)) ends i end.0 read end.1)
-        (keeps_seat seat.session kept_seat.somebody kept_seat.seat_is) (omega arith) (λ e. at_all (λ x. (seat_in x).glass.shuts ≡ 0) ends i end.0 (quiet e) end.1)));
-  }
+    pub are_served : (h : List Entry) (back : List SeatState) (shuts : Bool) (texts : List (List ℕ)) → All (λ e. IsRead (end_in e)) ends → All (IsKeptSeat boxes) back → back ≡ map seat_in ends → texts ≡ map text_in ends
+        → (shuts ≡ false → All (λ e. (seat_in e).glass.shuts ≡ 0) ends) → IsWellFormed h → All (KeepsAll boxes h) back → AreRecorded (length h) h back → IsOpened opening h
+        → AreServed s opening h shuts (map bytes_in files) texts
+    are_served h back shuts texts read kept is texts_are quiet formed keeps recorded opened = record {
+      formed = formed;
+      begins = opened.begins;
+      sessions = λ p e le at.
+          let some = opened.behind p e le at in
+          let found = recorded p e (slice_get_within h p e at) at some in
+          let stands : slice_get back found.0 ≡ Some found.1 = slice_get-get_or back found.0 found.1 found.2 ∙ ap (λ (x : SeatState). Some x) found.3 in
+          let end = get_map seat_in ends found.0 found.1 (subst (λ (l : List SeatState). slice_get l found.0 ≡ Some found.1) is stands) in
+          let one = served_at found.0 end.0 end.1 in
+          let session = own_session s (bytes_in one.0) (text_in end.0) (first_seat opening boxes found.0) (seat_in end.0) (end_in end.0) p e one.2 refl (subst (λ (x : SeatState). Contains x.own (p, e)) (sym end.2) found.4) in
+          (some, omega (arith, session, slice_get_within files found.0 one.0 one.1, length-map files bytes_in));
+      count = ap (λ (l : List (List ℕ)). length l) texts_are ∙ (length-map ends text_in ∙ (count ∙ sym (length-map files bytes_in)));
+      each = λ i file text at_file at_text.
+          let end = get_map text_in ends i text (subst (λ (l : List (List ℕ)). slice_get l i ≡ Some text) texts_are at_text) in
+          let mine = get_map bytes_in files i file at_file in
+          let one = served_at i end.0 end.1 in
+          let same : one.0 ≡ mine.0 = one_at files i one.0 mine.0 one.1 mine.1 in
+          let seat = seat_in end.0 in
+          let at_back : slice_get back i ≡ Some seat = there_mapped seat_in ends back is i end.0 end.1 in
+          let kept_seat : IsKeptSeat boxes seat = at_all (IsKeptSeat boxes) back i seat kept at_back in
+          let keeps_seat = at_all (KeepsAll boxes h) back i seat keeps at_back in
+          subst (λ (x : List ℕ). IsTranscript s (i + 1) (length opening) h shuts x text) (ap bytes_in same ∙ mine.2)
+          (subst (λ (x : List ℕ). IsTranscript s (i + 1) (length opening) h shuts (bytes_in one.0) x) end.2
+          (transcript_of s (length opening) h shuts (bytes_in one.0) (text_in end.0) (first_seat opening boxes i) seat (end_in end.0) one.2 (at_all (λ e. IsRead (end_in e)) ends i end.0 read end.1)
+          (keeps_seat seat.session kept_seat.somebody kept_seat.seat_is) (omega arith) (λ e. at_all (λ x. (seat_in x).glass.shuts ≡ 0) ends i end.0 (quiet e) end.1)));
+    }

@@ -40,4 +40,4 @@ pub record AreServed (s : Attributes) (opening h : List Entry) (shuts : Bool) (f
   pub sessions : (place : ℕ) (e : Entry) → length opening ≤ place → slice_get h place ≡ Some e → (0 < session_of e) × (session_of e ≤ length files)
   pub count : length transcripts ≡ length files
   pub each : (i : ℕ) (file transcript : List ℕ) → slice_get files i ≡ Some file → slice_get transcripts i ≡ Some transcript
-    → IsTranscript s (i + 1) (length opening) h shuts file transcript
+      → IsTranscript s (i + 1) (length opening) h shuts file transcript

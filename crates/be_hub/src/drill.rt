@@ -148,9 +148,7 @@ fn lacks_memory<T: Sheet<J>, J: Naming + BoxNames>(ends: &[FileEnd<T, J>]) -> bo
         .any(|end| matches!(end.end, SessionEnd::NoMemory))
 }
 
-fn first_split<T: Sheet<J>, J: Naming + BoxNames>(
-    ends: &[FileEnd<T, J>],
-) -> Option<&FileEnd<T, J>>
+fn first_split<T: Sheet<J>, J: Naming + BoxNames>(ends: &[FileEnd<T, J>]) -> Option<&FileEnd<T, J>>
     ensures { option_copied result ≡ find (λ end. is_split_end end.end) ends.now }
 {
     ends.iter()

@@ -258,3 +258,12 @@ exact_ends (Some (run schema load)) I O content before after status e = exact_ru
 exact_ends (Some (gen number subs events)) I O content before after status e = exact_gen O number subs events before.link.sink after.link.sink status e.2
 exact_ends (Some (cover schema file name)) I O content before after status e = exact_cover O (run_files content schema (Some file)) name before after status e.1
 exact_ends (Some (drill schema load rounds files)) I O content before after status e = exact_drill O (drill_files content schema load files) before after status e.1
+
+-- nothing was done for want of memory
+pub exact_nothing : (c : Option Request) (content : Text → ToldFile) (state : CommandState) → EndsExactly c content state state NoMemory
+exact_nothing None content state = tt
+exact_nothing (Some (run schema load)) content state = exact_refused (run_files content schema load) state state NoMemory (inr (refl, refl)) (λ quiet. inr refl)
+exact_nothing (Some (gen number subs events)) content state = λ quiet. inr refl
+exact_nothing (Some (cover schema file name)) content state = exact_refused (run_files content schema (Some file)) state state NoMemory (inr (refl, refl)) (λ quiet. inr refl)
+exact_nothing (Some (drill schema load rounds files)) content state =
+    exact_refused (run_files content schema load) state state NoMemory (inr (refl, refl)) (scripts_refused (map content files) state state NoMemory (inr (refl, refl)) (λ quiet. tt))

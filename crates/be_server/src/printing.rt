@@ -24,12 +24,7 @@ use itoa::Buffer;
 use std::alloc::Global;
 
 /// Writes what the sessions were answered, and then the list.
-pub fn write_drill<K: Sink>(
-    alloc: Global,
-    schema: &Schema,
-    drilled: Drilled,
-    out: &mut K,
-) -> Status
+pub fn write_drill<K: Sink>(alloc: Global, schema: &Schema, drilled: Drilled, out: &mut K) -> Status
     requires { Sound schema.now drilled.log.list }
     ensures { (rows : _) (scripts : _) → AreServed schema.now (opening_of rows) drilled.log.list (is_some drilled.shade) scripts (map (λ t. t.items) drilled.transcripts.items)
         → RunsDrill (out.new ≡ out.old) schema.now rows scripts (sink_state K.Sink out.old) (sink_state K.Sink out.new) result }

@@ -1,5 +1,5 @@
 -- The words after the program's name: what each command takes.
-use Rattle.std.specs.Prelude.{◌≡◌, ℕ, ◌&&◌, List, [], ◌∷◌, length, map, Option, Some, None, option_map, option_and_then, codes, string_bytes, nat_le, find, Result, Ok, Err, if◌then◌else◌}
+use Rattle.std.specs.Prelude.{◌≡◌, ℕ, ◌<◌, ◌≤◌, ◌&&◌, List, [], ◌∷◌, length, map, Option, Some, None, option_map, option_and_then, codes, string_bytes, nat_le, find, Result, Ok, Err, if◌then◌else◌}
 use Rattle.std.specs.declared.alloc.Global.{Global}
 use Rattle.std.specs.declared.string.String.{String}
 use Rattle.be_base.specs.Numbers.{count_of}
@@ -100,3 +100,9 @@ abbrev pub IsAnswerTo : List Text → Result WordsRequest WordsFault → Type 0
 IsAnswerTo words (Ok request) = reading words ≡ Some (plain_request request)
 IsAnswerTo words (Err Refused) = reading words ≡ None
 IsAnswerTo words (Err NoMemory) = Unit {0}
+
+-- what a request asks for is within the limits
+abbrev pub IsWithin : WordsRequest → Type 0
+IsWithin (Gen number subs events) = (subs ≤ GENERATED_SUBSCRIPTIONS) × (events ≤ GENERATED_EVENTS)
+IsWithin (Drill schema load rounds files) = (rounds ≤ ROUNDS) × (0 < length files.items) × (length files.items ≤ SEATS)
+IsWithin request = Unit {0}

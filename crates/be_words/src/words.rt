@@ -1,8 +1,8 @@
 //! What the words after the program's name ask for.
 
-ghost use Rattle.std.specs.Prelude.{◌≡◌, map, option_map, IfOk};
+ghost use Rattle.std.specs.Prelude.{◌≡◌, map, option_map, ◌≤◌, IfOk, IfSome};
 ghost use Rattle.be_base.specs.Readers.{now_of};
-ghost use Rattle.be_words.specs.Words.{IsAnswerTo, words_of, plain_request, request_of, run_of, gen_of, cover_of, drill_of, count_within};
+ghost use Rattle.be_words.specs.Words.{IsAnswerTo, words_of, plain_request, request_of, run_of, gen_of, cover_of, drill_of, count_within, IsWithin};
 
 use crate::arguments::{LOAD, WORD, read_arguments, values_of};
 use be_base::{
@@ -59,7 +59,8 @@ impl From<NoMemory> for WordsFault {
 
 // `run SCHEMA`, with one `--load FILE` or none.
 fn run_of<'a>(words: &[&'a str], loads: &[&'a str]) -> Option<Request<'a>>
-    ensures { option_map plain_request result ≡ run_of (map now_of words.now) (map now_of loads.now) }
+    ensures request { option_map plain_request result ≡ run_of (map now_of words.now) (map now_of loads.now) }
+    ensures within { IfSome result IsWithin }
 {
     match (words, loads) {
         ([schema], []) => Some(Request::Run { schema, load: None }),
@@ -73,7 +74,8 @@ fn run_of<'a>(words: &[&'a str], loads: &[&'a str]) -> Option<Request<'a>>
 
 // `gen NUMBER SUBS EVENTS`.
 fn gen_of<'a>(words: &[&'a str], loads: &[&'a str]) -> Option<Request<'a>>
-    ensures { option_map plain_request result ≡ gen_of (map now_of words.now) (map now_of loads.now) }
+    ensures request { option_map plain_request result ≡ gen_of (map now_of words.now) (map now_of loads.now) }
+    ensures within { IfSome result IsWithin }
 {
     let ([number, subs, events], []) = (words, loads) else {
         return None;
@@ -87,7 +89,8 @@ fn gen_of<'a>(words: &[&'a str], loads: &[&'a str]) -> Option<Request<'a>>
 
 // `cover SCHEMA FILE NAME`.
 fn cover_of<'a>(words: &[&'a str], loads: &[&'a str]) -> Option<Request<'a>>
-    ensures { option_map plain_request result ≡ cover_of (map now_of words.now) (map now_of loads.now) }
+    ensures request { option_map plain_request result ≡ cover_of (map now_of words.now) (map now_of loads.now) }
+    ensures within { IfSome result IsWithin }
 {
     let ([schema, file, name], []) = (words, loads) else {
         return None;
@@ -104,7 +107,8 @@ fn drill_of<'a>(
     words: &[&'a str],
     loads: &[&'a str],
 ) -> Result<Option<Request<'a>>, NoMemory>
-    ensures { IfOk result (λ request. option_map plain_request request ≡ drill_of (map now_of words.now) (map now_of loads.now)) }
+    ensures request { IfOk result (λ request. option_map plain_request request ≡ drill_of (map now_of words.now) (map now_of loads.now)) }
+    ensures within { IfOk result (λ request. IfSome request IsWithin) }
 {
     let [schema, rounds, files @ ..] = words else {
         return Ok(None);
@@ -132,7 +136,8 @@ fn drill_of<'a>(
 
 // A count of this number at most.
 fn count_within(most: u64, word: &str) -> Option<u64>
-    ensures { result ≡ count_within most word.now }
+    ensures count { result ≡ count_within most word.now }
+    ensures within { IfSome result (λ count. count ≤ most) }
 {
     let count = read_count(word.as_bytes())?;
     if count <= most { Some(count) } else { None }
@@ -140,7 +145,8 @@ fn count_within(most: u64, word: &str) -> Option<u64>
 
 /// Reads the words after the program's name.
 pub fn read_words(alloc: Global, words: &[String]) -> Result<Request<'_>, WordsFault>
-    ensures { IsAnswerTo (words_of words.now) result }
+    ensures answer { IsAnswerTo (words_of words.now) result }
+    ensures within { IfOk result IsWithin }
 {
     let [command, words @ ..] = words else {
         return Err(WordsFault::Refused);
@@ -161,7 +167,8 @@ fn request_of<'a>(
     words: &[&'a str],
     loads: &[&'a str],
 ) -> Result<Option<Request<'a>>, NoMemory>
-    ensures { IfOk result (λ request. option_map plain_request request ≡ request_of command.now (record { words = map now_of words.now; loads = map now_of loads.now })) }
+    ensures request { IfOk result (λ request. option_map plain_request request ≡ request_of command.now (record { words = map now_of words.now; loads = map now_of loads.now })) }
+    ensures within { IfOk result (λ request. IfSome request IsWithin) }
 {
     match command {
         "run" => Ok(run_of(words, loads)),

@@ -17,6 +17,10 @@ furnish-requires-clause-glasses g c =
     subst (λ h. All (λ glass. glass ≡ new_glass h) c.in_ok-press.glasses.items) (sym (ap (λ p. p.list) c.in_ok-press.ensures.press)) c.in_ok-press.ensures.glasses
 
 pub invariant_of-desk : goal.invariant_of-desk
-invariant_of-desk g c =
-    (c.in-Ok.ensures.ledger, held_settled c.in_ok-press.press _ c.in_ok-press.ensures.press, sym c.requires.seats.2, c.requires.seats.0,
-        subst (λ h. IsOpened h c.in_ok-press.press.list) (sym c.requires.named.1) (subst (IsOpened _) (sym (ap (λ p. p.list) c.in_ok-press.ensures.press)) (opened_same _)))
+invariant_of-desk g c = (
+  c.in-Ok.ensures.ledger,
+  held_settled c.in_ok-press.press _ c.in_ok-press.ensures.press,
+  sym c.requires.seats.2,
+  c.requires.seats.0,
+  subst (λ h. IsOpened h c.in_ok-press.press.list) (sym c.requires.named.1) (subst (IsOpened _) (sym (ap (λ p. p.list) c.in_ok-press.ensures.press)) (opened_same _)),
+)

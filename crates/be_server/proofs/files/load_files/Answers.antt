@@ -1,5 +1,5 @@
 -- The files that were asked for.
-use Rattle.std.proofs.Common.{None, option_map}
+use Rattle.std.proofs.Common.{None, option_map, ◌++◌, [], ◌∷◌, ap, ◌∙◌, append_assoc}
 use Rattle.be_base.specs.Readers.{now_of}
 use Rattle.be_server.proofs.Loading.{asks_schema, asks_load}
 use Rattle.be_server.proofs.files.load_files.Goals as goal
@@ -17,4 +17,13 @@ returns-clause-asked g c =
       | in-Some+in_ok-rows-in-Some w ↦
           rw (w.in-Some.is, w.shelf-is) (asks_load c.args.schema.now w.in-Some.name.now old first (g.F.Shelf.asked w.load_table.new.shelf) c.in_ok-schema.ensures.read w.load_table.ensures.asked)
       | in-None w ↦ rw (w.in-None.is, w.shelf-is) (asks_schema c.args.schema.now None old first c.load_schema.ensures.asked)
+    ]
+
+pub returns-clause-read : goal.returns-clause-read
+returns-clause-read g c =
+    let old = g.F.Shelf.asked c.args.shelf.now in
+    elim c.match-load.branch [
+      | in-Some+in_ok-rows-in-Some w ↦
+          rw (w.in-Some.is, w.shelf-is) (w.in_ok-rows-in-Some.ensures.read ∙ (ap (λ l. l ++ w.in-Some.name.now ∷ []) c.in_ok-schema.ensures.read ∙ append_assoc old (c.args.schema.now ∷ []) (w.in-Some.name.now ∷ [])))
+      | in-None w ↦ rw (w.in-None.is, w.shelf-is) c.in_ok-schema.ensures.read
     ]
