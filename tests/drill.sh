@@ -1,6 +1,6 @@
 #!/usr/bin/env bash
 # Runs the program's `drill`: rows worked by hand, each fault with its code, and long files of mixed lines, whose output
-# tests/legal.py judges. Ends with 1 at the first difference.
+# tests/legal.py judges: SOAK_LINES in each of the longest, 10,000 where it isn't set. Ends with 1 at the first difference.
 # shellcheck source=program.sh
 . "$(dirname "${BASH_SOURCE[0]}")/program.sh"
 began=$SECONDS
@@ -183,8 +183,7 @@ for file in f1 f2; do
     { echo "SUB $file all"; yes 'SEND -' | head -n 1500; echo 'FETCH 700'; yes 'SEND price=1' | head -n 900; echo 'FETCH 5000'; } >$file
 done
 judged 'full boxes' 10
-soak=("${JUSTMEADOW_SOAK:-10000}")
-mixed 8 "${soak[0]}" 8; judged '8 long files' 1000; judged '8 long files over a load file' 1000 --load load.txt
+mixed 8 "${SOAK_LINES:-10000}" 8; judged '8 long files' 1000; judged '8 long files over a load file' 1000 --load load.txt
 for kind in '#' ATTR BAD BYE COST DOM DUP END HIT LIST LONG MANY NONE OK OTHER SENT TAILED TWICE; do
     grep -q "[0-9] $kind\(,\|$\)" kinds || { echo "FAILED: 8 long files: no reply $kind"; exit 1; }
 done
