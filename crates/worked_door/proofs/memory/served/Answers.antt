@@ -4,7 +4,7 @@ use Rattle.worked_door.proofs.memory.served.Goals as goal
 
 pub make-requires-clause-unused : goal.make-requires-clause-unused
 make-requires-clause-unused g c k d less =
-    let fresh = c.in_some-peers.ensures k d less in
+    let fresh = c.in_ok-peers.ensures k d less in
     record {
       no_read_failed = fresh.no_read_failed;
       none_taken = fresh.none_taken;
