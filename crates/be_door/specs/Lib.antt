@@ -5,4 +5,3 @@ pub mod Sums
 pub mod Kept
 pub mod Counts
 pub mod Door
-pub mod NoDoor

@@ -1,84 +1,73 @@
 //! A door that can't listen.
 
-ghost use Rattle.std.specs.Prelude.{◌≡◌, ◌<◌, ◌≤◌, Err};
+ghost use Rattle.std.specs.Prelude.{◌≡◌, ◌+◌, ◌<◌, ◌≤◌, Err, IfErr, OnOk, false};
 ghost use Rattle.be_base.specs.declared.limits.TheConstants.{LINKS, SEATS};
 ghost use Rattle.be_base.specs.Counts.{raised};
-ghost use Rattle.be_door.specs.Door.{AreAllCounts};
-ghost use Rattle.be_door.specs.NoDoor.{NoDoorState, no_door_state};
+ghost use Rattle.be_door.specs.Door.{AreAllCounts, new_door, after_try, after_settle};
 
+use crate::book::Book;
 use crate::count::DoorCount;
 use crate::door::Door;
+use crate::meter::Metered;
 use be_base::{NoMemory, SessionNo};
 use be_io::{AcceptFault, Link, ListenFault};
-use std::marker::Model;
+use std::alloc::Global;
 
-/// A door that can't listen.
+/// A door that can't listen, so that no count is of it.
 #[derive(Drop)]
-pub struct NoDoor {
-    tries: u64,
-    port: u16,
-    read_faults: u64,
+pub struct NoDoor<L> {
+    book: Book<Metered<L>>,
 }
 
-impl Model for NoDoor {
-    ghost use Rattle.be_door.specs.NoDoor.{NoDoorState};
-
-    ghost Value = { NoDoorState };
-
-    ghost view = { λ d. record { tries = d.tries; port = d.port; read_faults = d.read_faults } };
-}
-
-impl NoDoor {
-    pub fn make() -> NoDoor
-        ensures { result ≡ record { tries = 0; port = 0; read_faults = 0 } }
+impl<L: Drop> NoDoor<L> {
+    /// It takes no memory.
+    pub fn make(alloc: Global) -> NoDoor<L>
+        ensures { result.book ≡ new_door false }
     {
         NoDoor {
-            tries: 0,
-            port: 0,
-            read_faults: 0,
+            book: Book::make(alloc, false),
         }
     }
 }
 
-impl<L: Link + Drop> Door<L> for NoDoor {
-    ghost state = { no_door_state };
+impl<L: Link + Drop> Door<Metered<L>> for NoDoor<L> {
+    ghost state = { λ d. d.book };
 
     fn listen(
         &mut self,
         port: u16,
         links: u64,
         workers: u32,
-    ) -> Result<Vec<DoorCount<L>>, ListenFault>
+    ) -> Result<Vec<DoorCount<Metered<L>>>, ListenFault>
         requires links { links ≤ LINKS }
         requires some { 0 < workers }
         requires workers { workers ≤ SEATS }
         ensures fails { result ≡ Err ListenFault.Failed }
-        ensures after { self.new ≡ record {
-          tries = raised 1 self.old.tries;
-          port = port;
-          read_faults = raised 1 self.old.read_faults;
-        } }
+        ensures after { self.new.book ≡ record (after_try self.old.book port) { read_faults = raised 1 self.old.book.read_faults } }
     {
-        self.tries = self.tries.saturating_add(1);
-        self.port = port;
-        self.read_faults = self.read_faults.saturating_add(1);
+        self.book.add_try(port);
+        self.book.add_fault();
         Err(ListenFault::Failed)
     }
 
-    // No count is of this door, so nobody can call the next three.
-    fn accept(&self, _count: &mut DoorCount<L>) -> Result<Option<L>, AcceptFault> {
-        unreachable!()
+    fn accept(&self, count: &mut DoorCount<Metered<L>>) -> Result<Option<Metered<L>>, AcceptFault> {
+        if self.book.draw(&mut count.turn).is_none() {
+            return Ok(None);
+        }
+        count.sums.count(Err(AcceptFault::Failed))
     }
 
-    fn give_back(&self, _count: &mut DoorCount<L>, _session: SessionNo, _link: L) {
-        unreachable!()
+    fn give_back(&self, count: &mut DoorCount<Metered<L>>, session: SessionNo, link: Metered<L>) {
+        let meter = link.meter;
+        count.take_back(session, link, meter);
     }
 
-    fn settle(&mut self, counts: Vec<DoorCount<L>>) -> Result<(), NoMemory>
-        requires { AreAllCounts (no_door_state self.old) counts.items }
-        ensures never { ⊥ }
+    fn settle(&mut self, counts: Vec<DoorCount<Metered<L>>>) -> Result<(), NoMemory>
+        requires { AreAllCounts self.old.book counts.items }
+        ensures settled { OnOk result (self.new.book ≡ after_settle self.old.book counts.items) }
+        ensures links { OnOk result (self.new.book.given + self.new.book.failed + self.new.book.refused ≡ self.new.book.links) }
+        ensures no_memory { IfErr result (λ _. self.new.book ≡ self.old.book) }
     {
-        let _ = counts;
-        unreachable!()
+        self.book.settle(counts)
     }
 }

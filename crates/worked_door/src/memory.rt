@@ -1,8 +1,7 @@
 //! A row over a door in memory.
 
 ghost use Rattle.std.specs.Prelude.{All, IfSome};
-ghost use Rattle.be_io.specs.Outside.{link_state};
-ghost use Rattle.be_door.specs.Links.{IsUnused};
+ghost use Rattle.worked_door.specs.Peers.{IsFresh};
 
 use crate::row::Row;
 use crate::serve::run;
@@ -20,12 +19,12 @@ pub type Peer = Pair<MemSource, MemSink>;
 pub fn served<R: Threads + Wait + Sync + Copy>(rt: R, alloc: Global, row: &Row) -> Option<String> {
     let accept = vec![in alloc; row.failing_accept].ok()?;
     let listen = vec![in alloc; row.failing_listen].ok()?;
-    let mut door =
-        MemDoor::make(rt, alloc, peers(alloc, row)?, accept).failing_listens(listen);
+    let peers = peers(alloc, row)?;
+    let mut door = MemDoor::make(rt, alloc, peers, accept).failing_listens(listen);
     let mut out = String::new(alloc);
-    if run(&rt, alloc, &mut door, 1, row.links, row.workers).is_err() {
+    if run(&rt, &mut door, 1, row.links, row.workers).is_err() {
         out.push_str("failed; ").ok()?;
-        run(&rt, alloc, &mut door, 1, row.links, row.workers).ok()?;
+        run(&rt, &mut door, 1, row.links, row.workers).ok()?;
     }
     out.push_str(shown_sums(alloc, &door.sums())?.as_str()).ok()?;
     out.push_str(shown_kept(alloc, door.kept(), row)?.as_str()).ok()?;
@@ -33,7 +32,7 @@ pub fn served<R: Threads + Wait + Sync + Copy>(rt: R, alloc: Global, row: &Row) 
 }
 
 fn peers(alloc: Global, row: &Row) -> Option<Vec<Peer>>
-    ensures { IfSome result (λ peers. All (λ peer. IsUnused (link_state Peer.Source Peer.Sink peer)) peers.items) }
+    ensures { IfSome result (λ peers. All (λ peer. IsFresh peer.source peer.sink) peers.items) }
 {
     let mut peers = Vec::new(alloc);
     for number in 0..row.peers {
@@ -43,7 +42,7 @@ fn peers(alloc: Global, row: &Row) -> Option<Vec<Peer>>
 }
 
 fn peer(alloc: Global, row: &Row, number: u64) -> Option<Peer>
-    ensures { IfSome result (λ peer. IsUnused (link_state Peer.Source Peer.Sink peer)) }
+    ensures { IfSome result (λ peer. IsFresh peer.source peer.sink) }
 {
     let mut bytes = Vec::new(alloc);
     bytes

@@ -22,7 +22,7 @@ pub fn served<R: Threads + Sync + Net<Listener = TcpListener, Stream = TcpStream
     for number in 0..row.peers {
         peers.push(peer(&rt, alloc, port, number)?).ok()?;
     }
-    serve_and_settle(&rt, alloc, &mut door, row.workers, counts).ok()?;
+    serve_and_settle(&rt, &mut door, counts).ok()?;
     let sums = shown_sums(alloc, &door.sums())?;
     let answered = answered(alloc, peers)?;
     format!(in alloc; "{sums}, answered {answered}").ok()

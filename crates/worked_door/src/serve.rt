@@ -7,16 +7,10 @@ ghost use Rattle.worked_door.specs.Served.{IsReady, IsServed};
 use be_base::{NoMemory, SessionNo};
 use be_door::{Door, DoorCount};
 use be_io::{Link, ListenFault, write_all};
-use std::alloc::{AllocError, Global};
+use std::alloc::AllocError;
+use std::sync::atomic::{AtomicU64, Ordering};
 use std::thread;
 use std::thread::Threads;
-
-/// A worker's place among the others, from 0, and its count.
-#[derive(Drop)]
-struct Job<L> {
-    worker: u32,
-    count: DoorCount<L>,
-}
 
 // Writes back what the link gives, until its end or a fault.
 fn echo<L: Link>(link: &mut L) {
@@ -33,24 +27,21 @@ fn echo<L: Link>(link: &mut L) {
     }
 }
 
-// Serves links until there are none. The first link has the session of the worker's place, and each further one a session
-// that is higher by the number of workers.
+// Serves links until there are none, each with the next session.
 fn serve<L: Link + Drop, D: Door<L>>(
     door: &D,
-    workers: u32,
-    worker: u32,
+    sessions: &AtomicU64,
     mut count: DoorCount<L>,
 ) -> DoorCount<L>
     requires { IsReady (D.state door.now) count }
     ensures { IsServed (D.state door.now) result }
 {
-    let mut session = worker as u64 + 1;
     loop {
         match door.accept(&mut count) {
             Ok(Some(mut link)) => {
+                let session = sessions.fetch_add(1, Ordering::SeqCst);
                 echo(&mut link);
                 door.give_back(&mut count, SessionNo(session), link);
-                session = session.saturating_add(workers as u64);
             }
             Ok(None) => return count,
             Err(_) => {}
@@ -58,59 +49,44 @@ fn serve<L: Link + Drop, D: Door<L>>(
     }
 }
 
-fn jobs_of<L: Drop>(alloc: Global, counts: Vec<DoorCount<L>>) -> Result<Vec<Job<L>>, AllocError> {
-    let mut jobs = Vec::new(alloc);
-    let mut worker: u32 = 0;
-    for count in counts {
-        jobs.push(Job { worker, count })?;
-        worker = worker.saturating_add(1);
-    }
-    Ok(jobs)
-}
-
 // One thread for each count.
 fn serve_all<L: Link + Drop + Send, D: Door<L> + Sync, R: Threads + Sync>(
     rt: &R,
-    alloc: Global,
     door: &D,
-    workers: u32,
     counts: Vec<DoorCount<L>>,
 ) -> Result<Vec<DoorCount<L>>, AllocError>
     requires { All (IsReady (D.state door.now)) counts.items }
     ensures many { IfOk result (λ served. length served.items ≡ length counts.items) }
     ensures served { IfOk result (λ served. All (IsServed (D.state door.now)) served.items) }
 {
-    let jobs = jobs_of(alloc, counts)?;
+    let sessions = AtomicU64::new(1);
     thread::map_vec(
         rt,
-        jobs,
-        &|job: Job<L>| -> DoorCount<L>
-            requires { IsReady (D.state door.now) job.count }
+        counts,
+        &|count: DoorCount<L>| -> DoorCount<L>
+            requires { IsReady (D.state door.now) count }
             ensures { IsServed (D.state door.entry.now) result }
-        { serve(door, workers, job.worker, job.count) },
+        { serve(door, &sessions, count) },
     )
 }
 
 /// Serves all links of a listen, and takes all its counts back.
 pub fn serve_and_settle<L: Link + Drop + Send, D: Door<L> + Sync, R: Threads + Sync>(
     rt: &R,
-    alloc: Global,
     door: &mut D,
-    workers: u32,
     counts: Vec<DoorCount<L>>,
 ) -> Result<(), NoMemory>
     requires counts { All (IsReady (D.state door.old)) counts.items }
     requires many { (length counts.items ≡ (D.state door.old).workers) × (0 < (D.state door.old).workers) }
     ensures links { OnOk result ((D.state door.new).given + (D.state door.new).failed + (D.state door.new).refused ≡ (D.state door.old).links) }
 {
-    let served = serve_all(rt, alloc, &*door, workers, counts)?;
+    let served = serve_all(rt, &*door, counts)?;
     door.settle(served)
 }
 
 /// Gives out so many links to so many workers, and takes all counts back.
 pub fn run<L: Link + Drop + Send, D: Door<L> + Sync, R: Threads + Sync>(
     rt: &R,
-    alloc: Global,
     door: &mut D,
     port: u16,
     links: u64,
@@ -121,7 +97,7 @@ pub fn run<L: Link + Drop + Send, D: Door<L> + Sync, R: Threads + Sync>(
     ensures links { OnOk result ((D.state door.new).given + (D.state door.new).failed + (D.state door.new).refused ≡ links) }
 {
     let counts = door.listen(port, links, workers)?;
-    match serve_and_settle(rt, alloc, door, workers, counts) {
+    match serve_and_settle(rt, door, counts) {
         Ok(()) => Ok(()),
         Err(NoMemory) => Err(ListenFault::NoMemory),
     }

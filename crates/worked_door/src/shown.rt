@@ -66,16 +66,15 @@ fn is_each_once(alloc: Global, kept: &[(SessionNo, Metered<Peer>)]) -> Option<bo
     Some(true)
 }
 
-// Whether the links of a worker stand together, by rising sessions, and behind those of the workers before it.
+// Whether the links of each worker stand together: a worker's sessions rise, so there are no more rises than workers.
 fn are_in_order(kept: &[(SessionNo, Metered<Peer>)], workers: u64) -> bool {
-    let mut last = (0, 0);
+    let mut rises: u64 = 1;
+    let mut last = 0;
     for (session, _) in kept.iter() {
-        let this = (session.0.saturating_sub(1).checked_rem(workers), session.0);
-        let this = (this.0.unwrap_or(0), this.1);
-        if this <= last {
-            return false;
+        if session.0 <= last {
+            rises = rises.saturating_add(1);
         }
-        last = this;
+        last = session.0;
     }
-    true
+    rises <= workers
 }
