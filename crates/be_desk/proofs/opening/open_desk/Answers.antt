@@ -18,4 +18,4 @@ furnish-requires-clause-glasses g c =
 
 pub invariant_of-desk : goal.invariant_of-desk
 invariant_of-desk g c =
-    (c.in-Ok.ensures.ledger, held_settled c.in_ok-press.press _ c.in_ok-press.ensures.press, sym c.requires.seats.2, c.requires.seats.0)
+    (c.in-Ok.ensures.ledger, held_settled c.in_ok-press.press _ [] c.in_ok-press.ensures.press, sym c.requires.seats.2, c.requires.seats.0)
