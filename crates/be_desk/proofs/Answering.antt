@@ -76,7 +76,7 @@ answers d d' s s' r (Held n) (g, published, known) =
     let long : n ≡ length d.list + 1 = g.count ∙ (ap (λ (h : List Entry). length h) g.list ∙ length-append d.list (g.entry ∷ [])) in
     (accepts d d' s s' r n g, omega (arith, long, ap (λ (h : List Entry). length h) known))
 answers d d' s s' r (Split a b) (stays, published, rift) = (stays.own, differ d' s' a b rift)
-answers d d' s s' r NoMemory stays = stays.own
+answers d d' s s' r NoMemory (stays, may) = stays.own
 answers d d' s s' r (Dup m id) (stays, a, why) = refused d d' s s' r (Dup m id) stays a why
 answers d d' s s' r (NoName m) (stays, a, why) = refused d d' s s' r (NoName m) stays a why
 answers d d' s s' r (Other m id) (stays, a, why) = refused d d' s s' r (Other m id) stays a why

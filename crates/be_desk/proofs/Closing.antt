@@ -1,8 +1,8 @@
 -- The records of all seats against the list.
-use Rattle.std.proofs.Common.{◌≡◌, ◌≢◌, ℕ, zero, suc, ◌+◌, ◌<◌, ◌≤◌, ◌==◌, ◌⊎◌, Bool, true, false, true≢false, cond, List, [], ◌∷◌, ◌++◌, length, Option, Some, None, slice_get, get_or, inl, inr, refl, sym, ap, ◌∙◌, subst, arith, length-append, append_assoc}
+use Rattle.std.proofs.Common.{◌≡◌, ◌≢◌, ℕ, zero, suc, ◌+◌, ◌<◌, ◌≤◌, ◌==◌, ◌⊎◌, Bool, true, false, true≢false, cond, List, [], ◌∷◌, ◌++◌, length, Option, Some, None, slice_get, get_or, map, inl, inr, refl, sym, ap, ◌∙◌, subst, arith, length-append, append_assoc}
 use Rattle.std.specs.List.{All, AllPairs, Any, Contains, filter}
 use Rattle.std.proofs.lemmas.Bool.{cases_order, eq-eqb, eqb-true}
-use Rattle.std.proofs.lemmas.List.{get_or_at, get_or_default}
+use Rattle.std.proofs.lemmas.List.{get_or_at, get_or_default, get_or-map, length-map}
 use Rattle.std.proofs.lemmas.List.Elements.{All-cons, All-contains, All-head, All-nil, All-tail}
 use Rattle.std.proofs.lemmas.Option.{slice_get-get_or, slice_get_within}
 use Rattle.atomic_table.specs.Seated.{TableId}
@@ -10,9 +10,10 @@ use Rattle.be_base.specs.Lists.{BeginsWith}
 use Rattle.be_change.specs.History.{Entry, session_of, placed_from, IsWellFormed}
 use Rattle.be_change.proofs.Extends.{get-append}
 use Rattle.be_mail.specs.Letters.{seat_of}
+use Rattle.be_mail.specs.Passes.{Passes}
 use Rattle.be_board.specs.Word.{own_of, IsDelivered, Keeps}
 use Rattle.be_desk.specs.Seats.{SeatState, word_of, IsKeptSeat, put_placed, placed_at, IsRecord, IsOfSeat}
-use Rattle.be_desk.specs.Closing.{AreApart, KeepsRecord, AreRecorded, AreKept, IsListed, pairs_at, pair_of, merged, pairs_of, HasPlace, IsFirstPlace, entry_at, StrayState, Differ, IsStray, RisesFrom, IsBeside, IsKeptAt, AreKeptBelow, IsUnkeptAt}
+use Rattle.be_desk.specs.Closing.{AreAllSeats, AreApart, KeepsRecord, AreRecorded, AreKept, IsListed, pairs_at, pair_of, merged, pairs_of, HasPlace, IsFirstPlace, entry_at, StrayState, Differ, IsStray, RisesFrom, IsBeside, IsKeptAt, AreKeptBelow, IsUnkeptAt}
 use Rattle.be_desk.proofs.Places.{In, in_any, any_in}
 
 -- the pair is the list's own
@@ -139,6 +140,15 @@ rest_kept k h front (e ∷ es) n (q ∷ qs) all long up stands has =
     let longer : n + 1 ≡ length (front ++ e ∷ []) = omega (arith, long, length-append front (e ∷ [])) in
     let at : slice_get h n ≡ Some e = entry_here h front e es n all long in
     by_place k n h e es q qs at up stands has (cases_order n q.0) (λ own up' stands' has'. rest_kept k h (front ++ e ∷ []) es (n + 1) own next longer up' stands' has')
+
+abbrev passes_in : SeatState → Passes
+passes_in s = s.passes
+
+pub are_apart : (boxes : List TableId) (seats : List SeatState) → AreAllSeats boxes seats → AreApart seats
+are_apart boxes seats all i j d lt within =
+    let once : (get_or (map passes_in seats) i d.passes).seat ≢ (get_or (map passes_in seats) j d.passes).seat = all.once i j d.passes lt (omega (arith, within, length-map seats passes_in)) in
+    subst (λ (p : Passes). p.seat ≢ (get_or seats j d).passes.seat) (get_or-map passes_in seats i d d.passes (omega (arith, lt, within)))
+    (subst (λ (q : Passes). (get_or (map passes_in seats) i d.passes).seat ≢ q.seat) (get_or-map passes_in seats j d d.passes within) once)
 
 -- what was found is found at the one seat that has this number
 only : (seats : List SeatState) (number : ℕ) (P : SeatState → Type 0) → AreApart seats → Any (λ (t : SeatState). (t.passes.seat ≡ number) × P t) seats → All (λ (s : SeatState). s.passes.seat ≡ number → P s) seats
@@ -290,6 +300,12 @@ differ boxes h seats at made (Some e) besides le is here end first =
     let unkept = here (slice_get_within h at e is) in
     (subst (λ (x : Entry). 0 < session_of x) (some_same unkept.0 e (sym unkept.1 ∙ is)) unkept.2, not_made boxes h seats at made besides unkept first)
 
+made_own : (boxes : List TableId) (h : List Entry) (seats : List SeatState) (at n : ℕ) (e : Entry) → All (IsBeside boxes h) seats → IsFirstPlace at seats (Some n) → slice_get h n ≡ Some e → Any (λ (t : SeatState). Contains t.own (n, e)) seats
+made_own boxes h seats at n e besides first here =
+    let found = first.1 in
+    let b : IsBeside boxes h found.1 = subst (IsBeside boxes h) found.3 (besides found.0 found.1 found.2) in
+    (found.0, found.1, found.2, found.3, contains_pair h n e found.1.own b.listed here found.4)
+
 pub is_stray : (boxes : List TableId) (h : List Entry) (seats : List SeatState) (s : StrayState) → AreApart seats → All (IsBeside boxes h) seats → s.at ≤ length h → AreKeptBelow s.at (length boxes) h seats
     → (s.at < length h → IsUnkeptAt (length boxes) h seats s.at) → (s.at ≡ length h → s.made ≢ None) → IsFirstPlace s.at seats s.made → s.listed ≡ slice_get h s.at → s.change ≡ entry_at h s.made → IsStray h seats s
 is_stray boxes h seats s apart besides le kept here end first listed change = record {
@@ -298,6 +314,7 @@ is_stray boxes h seats s apart besides le kept here end first listed change = re
   listed = listed;
   made = first;
   change = change;
+  own = λ n e made is. made_own boxes h seats s.at n e besides (subst (IsFirstPlace s.at seats) made first) (ap (entry_at h) (sym made) ∙ (sym change ∙ is));
   differ = subst (λ (o : Option Entry). Differ s.at o s.made) (sym listed) (differ boxes h seats s.at s.made (slice_get h s.at) besides le refl here end first);
 }
 

@@ -31,70 +31,63 @@ use Rattle.be_board.specs.Reads.{Looks, IsReadAt, Refuses}
 use Rattle.be_board.specs.Letters.{Sends, RefusesSend, Posts}
 use Rattle.be_board.specs.Local.{letter_for, letters_for, addressed}
 use Rattle.be_desk.specs.Seats.{SeatState, IsOfSeat, IsSeat}
-use Rattle.be_desk.specs.Boards.{board_of, put_count, OnBoards, AreSome, after_puts, Offers}
+use Rattle.be_desk.specs.Boards.{board_of, put_count, OnBoards, Offers}
 
--- one letter more was offered, and is not, or is, among those that were put
-some_skip : (some all : List PlainLetter) (l : PlainLetter) → AreSome some all → AreSome some (all ++ l ∷ [])
-some_skip some [] l is = inl is
-some_skip some (x ∷ xs) l (inl later) = inl (some_skip some xs l later)
-some_skip some (x ∷ xs) l (inr (rest, is, later)) = inr (rest, is, some_skip rest xs l later)
+-- what the passes show once so many letters were put and so many came back
+pub record Shown (q q' : Passes) (put full : ℕ) : Type 0 where
+  pub seat : q'.seat ≡ q.seat
+  pub taken : q'.taken ≡ q.taken
+  pub empties : q'.empties ≡ q.empties
+  pub fulls : q'.fulls ≡ raised full q.fulls
+  pub puts : put_count q' ≡ put_count q + put
 
-some_more : (some all : List PlainLetter) (l : PlainLetter) → AreSome some all → AreSome (some ++ l ∷ []) (all ++ l ∷ [])
-some_more some [] l is = inr ([], ap (λ (x : List PlainLetter). x ++ l ∷ []) is, refl)
-some_more some (x ∷ xs) l (inl later) = inl (some_more some xs l later)
-some_more some (x ∷ xs) l (inr (rest, is, later)) = inr (rest ++ l ∷ [], ap (λ (y : List PlainLetter). y ++ l ∷ []) is, some_more rest xs l later)
+module _ (F : Passes → ℕ → Type 0) (seats : ℕ) where
+  -- one letter more was put, or came back
 
-some_few : (some all : List PlainLetter) → AreSome some all → length some ≤ length all
-some_few some [] is = omega (arith, ap (λ (x : List PlainLetter). length x) is)
-some_few some (x ∷ xs) (inl later) = omega (arith, some_few some xs later)
-some_few some (x ∷ xs) (inr (rest, is, later)) = omega (arith, ap (λ (y : List PlainLetter). length y) is, some_few rest xs later)
+  pub offers_put : (ls : List PlainLetter) (l : PlainLetter) (n : ℕ) (q q1 q2 : Passes) → Offers F seats ls n q q1 → q2 ≡ after_put q1 (seat_of seats l.session) l → Offers F seats (ls ++ l ∷ []) (n + 1) q q2
+  offers_put [] l n q q1 q2 (none, same) is = inl (n, refl, (none, is ∙ ap (λ (x : Passes). after_put x (seat_of seats l.session) l) same))
+  offers_put (x ∷ xs) l n q q1 q2 (inl (more, at, rest)) is = inl (more + 1, ap (λ (k : ℕ). k + 1) at, offers_put xs l more (after_put q (seat_of seats x.session) x) q1 q2 rest is)
+  offers_put (x ∷ xs) l n q q1 q2 (inr (full, rest)) is = inr (full, offers_put xs l n (after_full q) q1 q2 rest is)
 
-puts-snoc : (seats : ℕ) (ls : List PlainLetter) (l : PlainLetter) (q : Passes) → after_puts seats (ls ++ l ∷ []) q ≡ after_put (after_puts seats ls q) (seat_of seats l.session) l
-puts-snoc seats [] l q = refl
-puts-snoc seats (x ∷ xs) l q = puts-snoc seats xs l (after_put q (seat_of seats x.session) x)
+  pub offers_full : (ls : List PlainLetter) (l : PlainLetter) (n : ℕ) (q q1 q2 : Passes) → Offers F seats ls n q q1 → F q1 (seat_of seats l.session) → q2 ≡ after_full q1 → Offers F seats (ls ++ l ∷ []) n q q2
+  offers_full [] l n q q1 q2 (none, same) f is = inr (subst (λ (x : Passes). F x (seat_of seats l.session)) same f, (none, is ∙ ap after_full same))
+  offers_full (x ∷ xs) l n q q1 q2 (inl (more, at, rest)) f is = inl (more, at, offers_full xs l more (after_put q (seat_of seats x.session) x) q1 q2 rest f is)
+  offers_full (x ∷ xs) l n q q1 q2 (inr (full, rest)) f is = inr (full, offers_full xs l n (after_full q) q1 q2 rest f is)
 
--- nothing changes but what was put
-puts_keep : (seats : ℕ) (ls : List PlainLetter) (q : Passes) → after_puts seats ls q ≡ record q { puts = (after_puts seats ls q).puts }
-puts_keep seats [] q = refl
-puts_keep seats (x ∷ xs) q = puts_keep seats xs (after_put q (seat_of seats x.session) x)
+  pub offers_few : (ls : List PlainLetter) (n : ℕ) (q q' : Passes) → Offers F seats ls n q q' → n ≤ length ls
+  offers_few [] n q q' (none, same) = omega (arith, none)
+  offers_few (x ∷ xs) n q q' (inl (more, at, rest)) = omega (arith, at, offers_few xs more (after_put q (seat_of seats x.session) x) q' rest)
+  offers_few (x ∷ xs) n q q' (inr (full, rest)) = omega (arith, offers_few xs n (after_full q) q' rest)
 
-count_puts : (seats : ℕ) (ls : List PlainLetter) (q : Passes) → 0 < seats → seats ≤ length q.puts → put_count (after_puts seats ls q) ≡ put_count q + length ls
-count_puts seats [] q some few = omega arith
-count_puts seats (x ∷ xs) q some few =
-    let box : ℕ = seat_of seats x.session in
-    let here : box < length q.puts = omega (arith, few, mod-lt (x.session - 1) some) in
-    let more = sum_by-set (λ (letters : List PlainLetter). length letters) q.puts box (put_into box q ++ x ∷ []) [] here in
-    let one : put_count (after_put q box x) ≡ put_count q + 1 = omega (arith, more, length-append (put_into box q) (x ∷ [])) in
-    omega (arith, one, count_puts seats xs (after_put q box x) some (subst (λ (n : ℕ). seats ≤ n) (sym (length-set q.puts box (put_into box q ++ x ∷ []))) few))
+  count_put : (l : PlainLetter) (q : Passes) → 0 < seats → seats ≤ length q.puts → put_count (after_put q (seat_of seats l.session) l) ≡ put_count q + 1
+  count_put l q some few =
+      let box : ℕ = seat_of seats l.session in
+      let here : box < length q.puts = omega (arith, few, mod-lt (l.session - 1) some) in
+      let more = sum_by-set (λ (letters : List PlainLetter). length letters) q.puts box (put_into box q ++ l ∷ []) [] here in
+      omega (arith, more, length-append (put_into box q) (l ∷ []))
 
-pub offers_none : (seats : ℕ) (q : Passes) → q.fulls ≤ last_count → Offers seats [] 0 q q
-offers_none seats q few = record { these = []; some = refl; count = refl; passes = ap (λ (n : ℕ). record q { fulls = n }) (omega (arith, few)) }
-
-pub offers_put : (seats : ℕ) (ls : List PlainLetter) (l : PlainLetter) (n : ℕ) (q q1 q2 : Passes) → Offers seats ls n q q1 → q2 ≡ after_put q1 (seat_of seats l.session) l → Offers seats (ls ++ l ∷ []) (n + 1) q q2
-offers_put seats ls l n q q1 q2 o is =
-    let left : length ls - n ≡ length (ls ++ l ∷ []) - (n + 1) = omega (arith, length-append ls (l ∷ [])) in
-    record {
-      these = o.these ++ l ∷ [];
-      some = some_more o.these ls l o.some;
-      count = omega (arith, o.count, length-append o.these (l ∷ []));
-      passes = is ∙ (ap (λ (x : Passes). after_put x (seat_of seats l.session) l) o.passes
-          ∙ (ap (λ (x : Passes). record x { fulls = raised (length ls - n) q.fulls }) (sym (puts-snoc seats o.these l q))
-          ∙ ap (λ (k : ℕ). record (after_puts seats (o.these ++ l ∷ []) q) { fulls = raised k q.fulls }) left));
-    }
-
-pub offers_full : (seats : ℕ) (ls : List PlainLetter) (l : PlainLetter) (n : ℕ) (q q1 q2 : Passes) → Offers seats ls n q q1 → q2 ≡ after_full q1 → Offers seats (ls ++ l ∷ []) n q q2
-offers_full seats ls l n q q1 q2 o is =
-    let few : n ≤ length ls = omega (arith, o.count, some_few o.these ls o.some) in
-    let one : raised 1 (raised (length ls - n) q.fulls) ≡ raised (length (ls ++ l ∷ []) - n) q.fulls = omega (arith, few, length-append ls (l ∷ [])) in
-    record {
-      these = o.these;
-      some = some_skip o.these ls l o.some;
-      count = o.count;
-      passes = is ∙ (ap after_full o.passes ∙ ap (λ (k : ℕ). record (after_puts seats o.these q) { fulls = k }) one);
-    }
-
-pub offers_few : (seats : ℕ) (ls : List PlainLetter) (n : ℕ) (q q' : Passes) → Offers seats ls n q q' → n ≤ length ls
-offers_few seats ls n q q' o = omega (arith, o.count, some_few o.these ls o.some)
+  shown : (ls : List PlainLetter) (n : ℕ) (q q' : Passes) → 0 < seats → seats ≤ length q.puts → q.fulls ≤ last_count → Offers F seats ls n q q' → Shown q q' n (length ls - n)
+  shown [] n q q' some few most (none, same) = record {
+    seat = ap (λ (x : Passes). x.seat) same;
+    taken = ap (λ (x : Passes). x.taken) same;
+    empties = ap (λ (x : Passes). x.empties) same;
+    fulls = omega (arith, ap (λ (x : Passes). x.fulls) same, most);
+    puts = omega (arith, ap put_count same, none);
+  }
+  shown (x ∷ xs) n q q' some few most (inl (more, at, rest)) =
+      let box : ℕ = seat_of seats x.session in
+      let later = shown xs more (after_put q box x) q' some (subst (λ (k : ℕ). seats ≤ k) (sym (length-set q.puts box (put_into box q ++ x ∷ []))) few) most rest in
+      record {
+        seat = later.seat;
+        taken = later.taken;
+        empties = later.empties;
+        fulls = later.fulls ∙ omega (arith, at);
+        puts = omega (arith, later.puts, count_put x q some few, at);
+      }
+  shown (x ∷ xs) n q q' some few most (inr (full, rest)) =
+      let later = shown xs n (after_full q) q' some few (omega arith) rest in
+      let less : n ≤ length xs = offers_few xs n (after_full q) q' rest in
+      record { seat = later.seat; taken = later.taken; empties = later.empties; fulls = omega (arith, later.fulls, less); puts = later.puts }
 
 -- a row that stands in the list, and is hit
 record IsHitRow (h : List Entry) (e : Assignments) (r : ℕ × Row) : Type 0 where
@@ -163,45 +156,25 @@ put_delivered h q q' to l (Ok x) is other all one = subst (AllPut (IsDelivered h
 put_delivered h q q' to l (Err y) other is all one = subst (AllPut (IsDelivered h)) (sym is) all
 
 -- the seat read, and then offered letters for the hits
-pub record Posted (schema : Attributes) (s s1 s2 : SeatState) (e : Assignments) (boxes : List TableId) (n put : ℕ) : Type 0 where
+pub record Posted (F : Passes → ℕ → Type 0) (schema : Attributes) (s s1 s2 : SeatState) (e : Assignments) (boxes : List TableId) (n put : ℕ) : Type 0 where
   pub looks : OnBoards schema Looks s s1
   pub read : OnBoards schema (λ b b'. IsReadAt b b' n) s s1
   pub posted : s2 ≡ record s1 { passes = s2.passes }
   pub form : AreOfSeat s1.passes
   pub boxes_are : s1.passes.boxes ≡ boxes
   pub fulls : s1.passes.fulls ≤ last_count
-  pub offers : Offers (length boxes) (letters_for n e (rows_of (hit_rows s1.glass.known e))) put s1.passes s2.passes
+  pub offers : Offers F (length boxes) (letters_for n e (rows_of (hit_rows s1.glass.known e))) put s1.passes s2.passes
 
--- what the passes show then
-pub record Shown (q q' : Passes) (put full : ℕ) : Type 0 where
-  pub seat : q'.seat ≡ q.seat
-  pub taken : q'.taken ≡ q.taken
-  pub empties : q'.empties ≡ q.empties
-  pub fulls : q'.fulls ≡ raised full q.fulls
-  pub puts : put_count q' ≡ put_count q + put
-
-shown : (seats put : ℕ) (ls : List PlainLetter) (q q' : Passes) → AreOfSeat q → length q.boxes ≡ seats → Offers seats ls put q q' → Shown q q' put (length ls - put)
-shown seats put ls q q' form is o =
-    let some : 0 < seats = omega (arith, form.own, is) in
-    let keep = puts_keep seats o.these q in
-    let puts = count_puts seats o.these q some (omega (arith, form.each, is)) in
-    record {
-      seat = ap (λ (x : Passes). x.seat) o.passes ∙ ap (λ (x : Passes). x.seat) keep;
-      taken = ap (λ (x : Passes). x.taken) o.passes ∙ ap (λ (x : Passes). x.taken) keep;
-      empties = ap (λ (x : Passes). x.empties) o.passes ∙ ap (λ (x : Passes). x.empties) keep;
-      fulls = ap (λ (x : Passes). x.fulls) o.passes;
-      puts = ap put_count o.passes ∙ (puts ∙ ap (λ (n : ℕ). put_count q + n) o.count);
-    }
-
-pub shown_after : (schema : Attributes) (s s1 s2 : SeatState) (e : Assignments) (boxes : List TableId) (n put : ℕ) → Posted schema s s1 s2 e boxes n put
+pub shown_after : (F : Passes → ℕ → Type 0) (schema : Attributes) (s s1 s2 : SeatState) (e : Assignments) (boxes : List TableId) (n put : ℕ) → Posted F schema s s1 s2 e boxes n put
     → Shown s1.passes s2.passes put (length (letters_for n e (rows_of (hit_rows s1.glass.known e))) - put)
-shown_after schema s s1 s2 e boxes n put p =
-    shown (length boxes) put (letters_for n e (rows_of (hit_rows s1.glass.known e))) s1.passes s2.passes p.form (ap (λ (l : List TableId). length l) p.boxes_are) p.offers
+shown_after F schema s s1 s2 e boxes n put p =
+    let is = ap (λ (l : List TableId). length l) p.boxes_are in
+    shown F (length boxes) (letters_for n e (rows_of (hit_rows s1.glass.known e))) put s1.passes s2.passes (omega (arith, p.form.own, is)) (omega (arith, p.form.each, is)) p.fulls p.offers
 
-pub sends_on : (schema : Attributes) (s s1 s2 : SeatState) (e : Assignments) (boxes : List TableId) (n put : ℕ) → Posted schema s s1 s2 e boxes n put → OnBoards schema Sends s s2
-sends_on schema s s1 s2 e boxes n put p tends =
+pub sends_on : (F : Passes → ℕ → Type 0) (schema : Attributes) (s s1 s2 : SeatState) (e : Assignments) (boxes : List TableId) (n put : ℕ) → Posted F schema s s1 s2 e boxes n put → OnBoards schema Sends s s2
+sends_on F schema s s1 s2 e boxes n put p tends =
     let l = p.looks tends in
-    let q = shown_after schema s s1 s2 e boxes n put p in
+    let q = shown_after F schema s s1 s2 e boxes n put p in
     subst (λ (x : SeatState). Sends (board_of schema tends s) (board_of schema tends x)) (sym p.posted) (record {
       goes = record {
         seat = q.seat ∙ l.goes.seat;
@@ -237,16 +210,16 @@ parts n e h =
     let each : length rows ≡ length (hit_rows h e) = length-map (hit_rows h e) (λ (r : ℕ × Row). r.1) in
     (omega (arith, both, many, nobodys), omega (arith, named, each))
 
-pub posts_on : (schema : Attributes) (s s1 s2 : SeatState) (e : Assignments) (boxes : List TableId) (n put dropped : ℕ) → Posted schema s s1 s2 e boxes n put → dropped ≡ length (rows_of (hit_rows s1.glass.known e)) - put
+pub posts_on : (F : Passes → ℕ → Type 0) (schema : Attributes) (s s1 s2 : SeatState) (e : Assignments) (boxes : List TableId) (n put dropped : ℕ) → Posted F schema s s1 s2 e boxes n put → dropped ≡ length (rows_of (hit_rows s1.glass.known e)) - put
     → OnBoards schema (λ b b'. Posts b b' e (record { n = n; put = put; dropped = dropped })) s s2
-posts_on schema s s1 s2 e boxes n put dropped p left tends =
+posts_on F schema s s1 s2 e boxes n put dropped p left tends =
     let h : List Entry = s1.glass.known in
     let ls : List PlainLetter = letters_for n e (rows_of (hit_rows h e)) in
     let l = p.looks tends in
     let r = p.read tends in
-    let q = shown_after schema s s1 s2 e boxes n put p in
+    let q = shown_after F schema s s1 s2 e boxes n put p in
     let all = parts n e h in
-    let few : put ≤ length ls = offers_few (length boxes) ls put s1.passes s2.passes p.offers in
+    let few : put ≤ length ls = offers_few F (length boxes) ls put s1.passes s2.passes p.offers in
     subst (λ (x : SeatState). Posts (board_of schema tends s) (board_of schema tends x) e (record { n = n; put = put; dropped = dropped })) (sym p.posted) (record {
       read = record { length = r.length; counted = r.counted };
       all = omega (arith, left, few, all.0, all.1);
@@ -256,9 +229,9 @@ posts_on schema s s1 s2 e boxes n put dropped p left tends =
     })
 
 -- as many were put as the found rows at most
-pub put_few : (schema : Attributes) (s s1 s2 : SeatState) (e : Assignments) (boxes : List TableId) (n put : ℕ) → Posted schema s s1 s2 e boxes n put → put ≤ length (rows_of (hit_rows s1.glass.known e))
-put_few schema s s1 s2 e boxes n put p =
-    omega (arith, (parts n e s1.glass.known).0, offers_few (length boxes) (letters_for n e (rows_of (hit_rows s1.glass.known e))) put s1.passes s2.passes p.offers)
+pub put_few : (F : Passes → ℕ → Type 0) (schema : Attributes) (s s1 s2 : SeatState) (e : Assignments) (boxes : List TableId) (n put : ℕ) → Posted F schema s s1 s2 e boxes n put → put ≤ length (rows_of (hit_rows s1.glass.known e))
+put_few F schema s s1 s2 e boxes n put p =
+    omega (arith, (parts n e s1.glass.known).0, offers_few F (length boxes) (letters_for n e (rows_of (hit_rows s1.glass.known e))) put s1.passes s2.passes p.offers)
 
 -- letters that were made, with room for all, are those for all rows
 pub made_all : (n : ℕ) (e : Assignments) (rows found : List Row) (room : ℕ) (made : List PlainLetter) → made ≡ take room (letters_for n e found) → found ≡ rows → room ≡ length rows → made ≡ letters_for n e rows

@@ -7,6 +7,7 @@ use Rattle.atomic_table.specs.Seated.{TableId}
 use Rattle.be_mail.specs.Passes.{Passes, new_passes}
 use Rattle.be_desk.specs.Seats.{SeatState, seat_for, first_seat}
 use Rattle.be_base.proofs.Beginnings.{BeginsWith-same}
+use Rattle.be_model.specs.declared.paths.Step.{Step}
 use Rattle.be_published.specs.States.{PressState, settled}
 use Rattle.be_desk.specs.Desks.{IsHeld, IsOpened}
 use Rattle.be_change.specs.History.{Entry, session_of, IsWellFormed, MayFollow}
@@ -39,8 +40,8 @@ all_front P [] ys all = All-nil P
 all_front P (x ∷ xs) ys all = All-cons P x xs (All-head P x (xs ++ ys) all) (all_front P xs ys (All-tail P x (xs ++ ys) all))
 
 -- nothing is held at a press that is settled
-pub held_settled : (p : PressState) (h : List Entry) → p ≡ settled h → IsHeld p.published p.list
-held_settled p h is = subst (λ (x : PressState). IsHeld x.published x.list) (sym is) (record { begins = BeginsWith-same h; one = omega arith })
+pub held_settled : (p : PressState) (h : List Entry) (steps : List Step) → p ≡ settled h steps → IsHeld p.published p.list
+held_settled p h steps is = subst (λ (x : PressState). IsHeld x.published x.list) (sym is) (record { begins = BeginsWith-same h; one = omega arith })
 
 -- a desk's list is opened by all of it
 pub opened_same : (h : List Entry) → IsOpened h h

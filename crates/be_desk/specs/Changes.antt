@@ -10,7 +10,7 @@ use Rattle.be_board.specs.declared.answers.Answer.{Answer}
 use Rattle.be_board.specs.declared.answers.Answer.TheVariants.{Done, Held, Dup, NoName, Other, Split, NoMemory}
 use Rattle.be_board.specs.Word.{own_in, top}
 use Rattle.be_published.specs.States.{knowing}
-use Rattle.be_desk.specs.Desks.{DeskState}
+use Rattle.be_desk.specs.Desks.{DeskState, MayBeFreed}
 use Rattle.be_desk.specs.Numbers.{numbers}
 use Rattle.be_desk.specs.Seats.{SeatState, word_of}
 
@@ -69,15 +69,22 @@ Changed d d' s s' r (Done n) = Grew d d' s s' r n × (d'.published ≡ d'.list) 
 -- all but the change is published, and the seat knows that
 Changed d d' s s' r (Held n) = Grew d d' s s' r n × (d'.published ≡ d.list) × (s'.glass.known ≡ d.list)
 Changed d d' s s' r (Split a b) = Stays d d' s s' × (d'.published ≡ d'.list) × IsRift d' s' a b
-Changed d d' s s' r NoMemory = Stays d d' s s'
+-- nothing was done, but that a held change may have been published
+Changed d d' s s' r NoMemory = Stays d d' s s' × MayBeFreed d d'
 Changed d d' s s' r answer = Stays d d' s s' × Agrees d' s' × IsRefusal d'.list s.session r answer
 
 -- the entry was put last in the list and in the record, and published, or is held; or there was no memory for it
 abbrev pub Took : DeskState → DeskState → SeatState → SeatState → Entry → Answer → Type 0
 Took d d' s s' e (Done n) = Puts d d' s s' e n × (d'.published ≡ d'.list) × (s'.glass.known ≡ d'.list)
 Took d d' s s' e (Held n) = Puts d d' s s' e n × (d'.published ≡ d.list) × (s'.glass.known ≡ d.list)
-Took d d' s s' e NoMemory = Stays d d' s s'
+Took d d' s s' e NoMemory = Stays d d' s s' × (d' ≡ d)
 Took d d' s s' e answer = ⊥
+
+-- no step was planned or put, and those that were pending are published, where it went so far
+pub record LeavesSteps (d d' : DeskState) (answer : Answer) : Type 0 where
+  pub glass : d'.glass ≡ d.glass
+  pub steps : d'.steps ≡ d.steps
+  pub reshaped : answer ≢ NoMemory → d'.reshaped ≡ d.steps
 
 -- the desk told the seat two numbers that differ, and the seat counted it
 abbrev pub Counts : SeatState → SeatState → Answer → Type 0

@@ -1,10 +1,15 @@
 -- What the records of all seats are against the list, when the server closes.
-use Rattle.std.specs.Prelude.{◌≡◌, ◌≢◌, ℕ, zero, suc, ◌<◌, ◌≤◌, ◌+◌, ◌==◌, ⊤, List, [], ◌∷◌, ◌++◌, filter, if◌then◌else◌, length, All, AllPairs, Any, Contains, min, Option, Some, None, slice_get}
+use Rattle.std.specs.Prelude.{◌≡◌, ◌≢◌, ℕ, zero, suc, ◌<◌, ◌≤◌, ◌+◌, ◌==◌, ⊤, List, [], ◌∷◌, ◌++◌, filter, if◌then◌else◌, length, map, All, AllPairs, Any, Contains, min, Option, Some, None, slice_get}
 use Rattle.atomic_table.specs.Seated.{TableId}
 use Rattle.be_change.specs.History.{Entry, session_of, placed_of}
 use Rattle.be_mail.specs.Letters.{seat_of}
+use Rattle.be_mail.specs.Settled.{AreAll}
 use Rattle.be_board.specs.Word.{own_of}
 use Rattle.be_desk.specs.Seats.{SeatState, IsOfSeat}
+
+-- these are all seats, each once, in any order
+abbrev pub AreAllSeats : List TableId → List SeatState → Type 0
+AreAllSeats boxes seats = AreAll boxes (map (λ (s : SeatState). s.passes) seats)
 
 -- no two of them are the same seat
 abbrev pub AreApart : List SeatState → Type 0
@@ -84,6 +89,8 @@ pub record IsStray (h : List Entry) (seats : List SeatState) (s : StrayState) : 
   pub listed : s.listed ≡ slice_get h s.at
   pub made : IsFirstPlace s.at seats s.made
   pub change : s.change ≡ entry_at h s.made
+  -- where the list has an entry at that place, it is the one that the record has there
+  pub own : (n : ℕ) (e : Entry) → s.made ≡ Some n → s.change ≡ Some e → Any (λ (t : SeatState). Contains t.own (n, e)) seats
   pub differ : Differ s.at s.listed s.made
 
 -- what follows serves the proof

@@ -10,7 +10,7 @@ use Rattle.be_core.specs.declared.acts.CoreReply.{CoreReply}
 use Rattle.be_core.specs.declared.acts.CoreReply.TheVariants as core
 use Rattle.be_board.specs.declared.answers.Answer.{Answer}
 use Rattle.be_board.specs.declared.answers.Answer.TheVariants.{Done, Held, Dup, NoName, Other, Split, NoMemory}
-use Rattle.be_desk.specs.Desks.{DeskState, freed}
+use Rattle.be_desk.specs.Desks.{DeskState, freed, MayBeFreed}
 use Rattle.be_desk.specs.Seats.{SeatState}
 use Rattle.be_desk.specs.Changes.{serial_in}
 
@@ -73,4 +73,4 @@ IsRunOfCore d d' s s' r (Split a b) =
     (d' ≡ freed d)
     × (IsAhead d' s' a b → StandsByRecord d' s → run (world d' s.session a) (asked d s r) ≡ (world d' s.session a, core.Split a b ∷ []))
 -- nothing was done, but that a held change may have been published
-IsRunOfCore d d' s s' r NoMemory = (d' ≡ d) ⊎ (d' ≡ freed d)
+IsRunOfCore d d' s s' r NoMemory = MayBeFreed d d'

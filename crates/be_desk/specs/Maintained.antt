@@ -1,29 +1,39 @@
 -- What a call of the maintainer makes of the desk, for each answer.
-use Rattle.std.specs.Prelude.{◌≡◌, ◌⊎◌, length}
+use Rattle.std.specs.Prelude.{◌≡◌, ◌⊎◌, [], ◌∷◌, ◌++◌, length}
 use Rattle.be_model.specs.declared.paths.Step.{Step}
 use Rattle.be_published.specs.States.{one_shut, one_none, one_plan}
 use Rattle.be_desk.specs.Desks.{DeskState, freed, HasHeld}
 use Rattle.be_desk.specs.declared.maintained.Maintained.{Maintained}
 use Rattle.be_desk.specs.declared.maintained.Maintained.TheVariants.{Freed, Stepped, Idle, Shut, NoMemory}
 
--- a step was planned, and nothing else has changed
-abbrev pub planned : DeskState → DeskState
-planned d = record d { glass = one_plan d.glass }
+-- this step was put last among those that are pending
+abbrev pub with_step : Step → DeskState → DeskState
+with_step step d = record d { steps = d.steps ++ step ∷ [] }
 
+-- what was pending was published, and then this step was planned
+abbrev pub planned : Step → DeskState → DeskState
+planned step d = record (freed d) { glass = one_plan step d.glass }
+
+-- what was pending was published, and then memory was wanting to the plan, or to the step that it found: that isn't put,
+-- or is pending
+abbrev pub IsCutShort : DeskState → DeskState → Type 0
+IsCutShort d d' = (d' ≡ freed d) ⊎ ((step : Step) × ((d' ≡ planned step d) ⊎ (d' ≡ with_step step (planned step d))))
+
+-- what is pending is published first, be it a change or steps that couldn't be published before
 abbrev pub IsMaintained : DeskState → DeskState → Maintained → Type 0
 -- a change was held, and was published
 IsMaintained d d' (Freed n) = HasHeld d × (d' ≡ freed d) × (n ≡ length d.list)
--- none was held, and a step was planned, put and published
-IsMaintained d d' (Stepped step) = (d.published ≡ d.list) × (d' ≡ planned d)
+-- none was held, and this step was planned, put and published
+IsMaintained d d' (Stepped step) = (d.published ≡ d.list) × (d' ≡ freed (with_step step (planned step d)))
 -- none was held, and no step was found
-IsMaintained d d' Idle = (d.published ≡ d.list) × (d' ≡ record d { glass = one_none d.glass })
+IsMaintained d d' Idle = (d.published ≡ d.list) × (d' ≡ record (freed d) { glass = one_none d.glass })
 -- none was held, and the reader was refused an entry
-IsMaintained d d' Shut = (d.published ≡ d.list) × (d' ≡ record d { glass = one_shut d.glass })
--- memory was wanting to the publishing of the held change, to the plan, or to the step that it found
-IsMaintained d d' NoMemory = (d' ≡ d) ⊎ ((d.published ≡ d.list) × (d' ≡ planned d))
+IsMaintained d d' Shut = (d.published ≡ d.list) × (d' ≡ record (freed d) { glass = one_shut d.glass })
+-- memory was wanting to the publishing of what was pending, to the plan, or to the step that it found
+IsMaintained d d' NoMemory = (d' ≡ d) ⊎ ((d.published ≡ d.list) × IsCutShort d d')
 
--- a step that was planned is put and published, or not for want of memory. The list is as before
-abbrev pub OnStep : DeskState → DeskState → Maintained → Type 0
-OnStep d d' (Stepped step) = d' ≡ d
-OnStep d d' NoMemory = d' ≡ d
-OnStep d d' answer = ⊥
+-- this step is put and published, or not for want of memory: then it isn't put, or is pending
+abbrev pub OnStep : DeskState → DeskState → Step → Maintained → Type 0
+OnStep d d' step (Stepped made) = (made ≡ step) × (d' ≡ freed (with_step step d))
+OnStep d d' step NoMemory = (d' ≡ d) ⊎ (d' ≡ with_step step d)
+OnStep d d' step answer = ⊥

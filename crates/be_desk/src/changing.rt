@@ -13,9 +13,9 @@ ghost use Rattle.be_model.specs.Lies.{conj_lies};
 ghost use Rattle.be_board.specs.Changes.{Answers};
 ghost use Rattle.be_board.specs.Word.{top};
 ghost use Rattle.be_desk.specs.Asks.{request_of, ask_lies};
-ghost use Rattle.be_desk.specs.Changes.{Agrees, IsRift, IsRefusal, Changed, Took, Counts, Continues, serial_in};
+ghost use Rattle.be_desk.specs.Changes.{Agrees, IsRift, IsRefusal, Changed, Took, Counts, Continues, LeavesSteps, serial_in};
 ghost use Rattle.be_desk.specs.Core.{IsRunOfCore};
-ghost use Rattle.be_desk.specs.Desks.{DeskState, HasHeld, freed};
+ghost use Rattle.be_desk.specs.Desks.{DeskState};
 ghost use Rattle.be_desk.specs.Seats.{SeatState, word_of, is_over, list_in};
 
 use crate::ask::Ask;
@@ -47,7 +47,7 @@ impl<T: Sheet<J>, J: Naming + BoxNames> Desk<T, J> {
         ensures changed { Changed self.old self.new seat.old seat.new (request_of ask) result }
         ensures counts { Counts seat.old seat.new result }
         ensures seat { Continues seat.old seat.new }
-        ensures glass { self.new.glass ≡ self.old.glass }
+        ensures steps { LeavesSteps self.old self.new result }
         ensures answers { Answers (word_of seat.old) (word_of seat.new) (request_of ask) result }
         ensures formed { IsWellFormed seat.new.glass.known }
         ensures core { IsRunOfCore self.old self.new seat.old seat.new (request_of ask) result }
@@ -76,8 +76,7 @@ impl<T: Sheet<J>, J: Naming + BoxNames> Desk<T, J> {
         ensures changed { Changed self.old self.new seat.old seat.new (request_of ask) result }
         ensures counts { Counts seat.old seat.new result }
         ensures seat { Continues seat.old seat.new }
-        ensures glass { self.new.glass ≡ self.old.glass }
-        ensures spared { (result ≡ Answer.NoMemory) → (self.new ≡ self.old) ⊎ (self.new ≡ freed self.old) }
+        ensures steps { LeavesSteps self.old self.new result }
     {
         match self.free(rt) {
             Err(NoMemory) => return Answer::NoMemory,
@@ -217,13 +216,13 @@ impl<T: Sheet<J>, J: Naming + BoxNames> Desk<T, J> {
     // Puts the change last, and publishes it.
     fn take<R: Wait>(&mut self, rt: &R, seat: &mut Seat<T, J>, change: Arc<Change>) -> Answer
         requires agrees { Agrees self.old seat.old }
+        requires shaped { self.old.reshaped ≡ self.old.steps }
         requires present { is_over seat.old ≡ false }
         requires may { MayAppend J.schema self.old.list (entry_of (arc_value change)) }
         requires own { session_of (entry_of (arc_value change)) ≡ seat.old.session }
         ensures took { Took self.old self.new seat.old seat.new (entry_of (arc_value change)) result }
         ensures seat { Continues seat.old seat.new × (seat.new.splits ≡ seat.old.splits) × (seat.new.rift ≡ seat.old.rift) }
-        ensures glass { self.new.glass ≡ self.old.glass }
-        ensures spared { (result ≡ Answer.NoMemory) → self.new ≡ self.old }
+        ensures steps { (self.new.glass ≡ self.old.glass) × (self.new.steps ≡ self.old.steps) × (self.new.reshaped ≡ self.old.steps) }
     {
         let leaves = is_leave_of(&change, seat.session);
         begins(&seat.made, self.press.whole());
@@ -255,6 +254,7 @@ fn append<T: Sheet<J>, J: Naming>(
     ensures length { IfOk result (λ n. n ≡ length ledger.new) }
     ensures few { IfOk result (λ n. n ≤ LOG_CHANGES + 1) }
     ensures press { (press.new.list ≡ ledger.new) × (press.new.published ≡ press.old.published) }
+    ensures steps { (press.new.reshaped ≡ press.old.reshaped) × (press.new.steps ≡ press.old.steps) }
 {
     // That the list is well formed comes to light at the press.
     let _ = press.len();

@@ -6,7 +6,7 @@ ghost use Rattle.be_change.specs.Entries.{entry_of};
 ghost use Rattle.be_change.specs.History.{Entry, session_of};
 ghost use Rattle.be_mail.specs.Letters.{seat_of};
 ghost use Rattle.be_desk.specs.Seats.{SeatState};
-ghost use Rattle.be_desk.specs.Closing.{AreApart, AreKept, IsStray, HasPlace, IsNextPlace, IsFirstPlace, entry_at, IsBeside, IsKeptAt, AreKeptBelow, IsUnkeptAt, least_of};
+ghost use Rattle.be_desk.specs.Closing.{AreAllSeats, AreKept, IsStray, HasPlace, IsNextPlace, IsFirstPlace, entry_at, IsBeside, IsKeptAt, AreKeptBelow, IsUnkeptAt, least_of};
 
 use crate::desk::Desk;
 use crate::seat::Seat;
@@ -19,9 +19,9 @@ use be_published::{Naming, Sheet};
 use std::sync::Arc;
 
 impl<T: Sheet<J>, J: Naming + BoxNames> Desk<T, J> {
-    /// Compares the records of these seats, in any order, with the list.
+    /// Compares the records of all seats, in any order, with the list.
     pub fn check_records(&self, seats: &[Seat<T, J>]) -> Result<Option<Stray>, NoMemory>
-        requires apart { AreApart seats.now }
+        requires all { AreAllSeats J.boxes seats.now }
         ensures { IfOk result (λ found. MatchOption found (AreKept J.boxes self.now.list seats.now) (λ stray. IsStray self.now.list seats.now stray)) }
     {
         self.meet_all(seats);

@@ -1,15 +1,16 @@
 //! The desk.
 
-ghost use Rattle.std.specs.Prelude.{◌≡◌, ◌+◌, ◌<◌, ◌≤◌, ◌↔◌, Some, None, length, IfSome, MatchResult, OnErr};
+ghost use Rattle.std.specs.Prelude.{◌≡◌, ◌+◌, ◌<◌, ◌≤◌, ◌↔◌, Some, None, false, length, IfSome, MatchResult, OnErr};
 ghost use Rattle.std.specs.Option.{is_some};
 ghost use Rattle.be_base.specs.Lists.{BeginsWith};
 ghost use Rattle.be_change.specs.Sound.{Sound};
 ghost use Rattle.be_published.specs.Reads.{Meets};
-ghost use Rattle.be_desk.specs.Desks.{freed, HasHeld, IsOpened};
+ghost use Rattle.be_desk.specs.declared.desk.TheConstants.{SESSIONS_END};
+ghost use Rattle.be_desk.specs.Desks.{freed, HasPending, IsOpened};
 ghost use Rattle.be_desk.specs.Numbers.{numbers};
 ghost use Rattle.be_desk.specs.Rifts.{numbers_of};
 ghost use Rattle.be_desk.specs.Seats.{SeatState, is_over};
-ghost use Rattle.be_desk.specs.Changes.{Continues};
+ghost use Rattle.be_desk.specs.Changes.{Continues, serial_in};
 
 use crate::ledger::Ledger;
 use crate::rift::Rift;
@@ -20,6 +21,9 @@ use be_mail::BoxNames;
 use be_published::{Glass, Naming, Press, Sheet};
 use std::marker::Model;
 use std::sync::Wait;
+
+/// A seat's session from this number on has no next one: 2^62.
+pub const SESSIONS_END: u64 = 4611686018427387904;
 
 /// The desk. It stands behind a lock. It is not `Drop`: end it by `end`, or by `into_log`.
 pub struct Desk<T: Sheet<J>, J: Naming + BoxNames> {
@@ -37,7 +41,7 @@ impl<T: Sheet<J>, J: Naming + BoxNames> Model for Desk<T, J> {
 
     ghost Value = { DeskState };
 
-    ghost view = { λ d. record { published = d.press.published; list = d.press.list; glass = d.glass } };
+    ghost view = { λ d. record { published = d.press.published; list = d.press.list; reshaped = d.press.reshaped; steps = d.press.steps; glass = d.glass } };
 
     ghost invariant = { λ d. (d.ledger ≡ d.press.list) × IsHeld d.press.published d.press.list × (d.seats ≡ length J.boxes) × (0 < d.seats) × IsOpened J.opening d.press.list };
 }
@@ -54,9 +58,9 @@ impl<T: Sheet<J>, J: Naming + BoxNames> Desk<T, J> {
         self.press.len()
     }
 
-    /// Publishes the change that is held, where one is. It may wait for readers.
+    /// Publishes the change that is held and the steps that are pending, where there are any. It may wait for readers.
     pub fn free<R: Wait>(&mut self, rt: &R) -> Result<(), NoMemory>
-        ensures { MatchResult result (λ _. self.new ≡ freed self.old) (λ _. (self.new ≡ self.old) × HasHeld self.old) }
+        ensures { MatchResult result (λ _. self.new ≡ freed self.old) (λ _. (self.new ≡ self.old) × HasPending self.old) }
     {
         if self.press.is_settled() {
             return Ok(());
@@ -67,8 +71,10 @@ impl<T: Sheet<J>, J: Naming + BoxNames> Desk<T, J> {
 
     /// Begins the seat's next session.
     pub fn enter(&self, seat: &mut Seat<T, J>)
-        requires { seat.old.session < 4611686018427387904 }
-        ensures { seat.new ≡ record seat.old { session = seat.old.session + length J.boxes } }
+        requires { seat.old.session < SESSIONS_END }
+        ensures next { seat.new ≡ record seat.old { session = seat.old.session + length J.boxes } }
+        ensures serial { serial_in seat.new ≡ 0 }
+        ensures present { is_over seat.new ≡ false }
     {
         seat.session = SessionNo(seat.session.0 + u64::from(self.seats));
         seat.serial = 0;

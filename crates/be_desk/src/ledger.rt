@@ -111,7 +111,7 @@ impl Ledger {
         requires may { MayAppend J.schema self.old (entry_of (arc_value change)) }
         ensures list { MatchResult result (λ _. self.new ≡ self.old ++ entry_of (arc_value change) ∷ []) (λ _. self.new ≡ self.old) }
         ensures same { press.new.list ≡ self.new }
-        ensures published { press.new.published ≡ press.old.published }
+        ensures published { (press.new.published ≡ press.old.published) × (press.new.reshaped ≡ press.old.reshaped) × (press.new.steps ≡ press.old.steps) }
     {
         self.list.reserve(1)?;
         let kept = Arc::try_clone(&change)?;

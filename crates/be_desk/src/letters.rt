@@ -1,14 +1,15 @@
 //! What a seat puts into mailboxes, and takes out of its own, as the board of its session.
 
-ghost use Rattle.std.specs.Prelude.{◌≡◌, ℕ, ◌<◌, ◌≤◌, ◌==◌, true, length, map, option_map, All, IfSome, IfErr, IfOk, OnOk, OnErr, if◌then◌else◌};
+ghost use Rattle.std.specs.Prelude.{◌≡◌, ℕ, ◌<◌, ◌≤◌, ◌==◌, true, length, map, option_map, All, [], IfSome, IfErr, IfOk, OnOk, OnErr, MatchBool};
 ghost use Rattle.std.specs.Option.{IfNone};
 ghost use Rattle.be_base.specs.Counts.{last_count, HasRisen};
+ghost use Rattle.be_base.specs.declared.limits.TheConstants.{BOX_LETTERS};
 ghost use Rattle.be_model.specs.ByIds.{rows_of};
 ghost use Rattle.be_model.specs.Letters.{plain_letter};
 ghost use Rattle.be_model.specs.Lies.{event_lies};
 ghost use Rattle.be_change.specs.History.{hit_rows};
 ghost use Rattle.be_mail.specs.Letters.{posting, seat_of, IsFit};
-ghost use Rattle.be_mail.specs.Passes.{after_put, after_full, after_fetch, after_empty, AreOfSeat};
+ghost use Rattle.be_mail.specs.Passes.{after_put, after_full, after_fetch, after_empty, AreOfSeat, Held};
 ghost use Rattle.be_board.specs.Letters.{IsLetterFor, Sends, RefusesSend, Posts, Fetches};
 ghost use Rattle.be_board.specs.Local.{letters_for};
 ghost use Rattle.be_board.specs.State.{LeavesLetters};
@@ -26,7 +27,8 @@ use std::sync::Wait;
 
 impl<T: Sheet<J>, J: Naming + BoxNames> Seat<T, J> {
     /// Puts one letter for each live row that the event satisfies, by rising id, into the mailbox of the row's session. A
-    /// letter that comes back from a full one is dropped. It makes all letters first, and puts none where it is refused.
+    /// letter that comes back from a full one is dropped. It makes all letters first, and where it is refused puts none and
+    /// finds none.
     pub fn send<S: Post, R: Wait>(
         &mut self,
         rt: &R,
@@ -40,18 +42,22 @@ impl<T: Sheet<J>, J: Naming + BoxNames> Seat<T, J> {
         requires schema { S.schema ≡ J.schema }
         ensures sends { OnBoards J.schema Sends self.old self.new }
         ensures posts { IfOk result (λ sent. OnBoards J.schema (λ b b'. Posts b b' event.now sent) self.old self.new) }
-        ensures offers { IfOk result (λ sent. Offers (length J.boxes) (letters_for sent.n event.now (rows_of (hit_rows self.new.glass.known event.now))) sent.put self.old.passes self.new.passes) }
+        ensures offers { IfOk result (λ sent. Offers (λ q mailbox. Held S.schema S.seats S.found q mailbox BOX_LETTERS) (length J.boxes) (letters_for sent.n event.now (rows_of (hit_rows self.new.glass.known event.now))) sent.put self.old.passes self.new.passes) }
         ensures found { OnOk result (found.new.rows ≡ rows_of (hit_rows self.new.glass.known event.now)) }
         ensures refused { IfErr result (λ why. OnBoards J.schema (λ b b'. RefusesSend b b' why) self.old self.new) }
         ensures kept { OnErr result (OnBoards J.schema LeavesLetters self.old self.new) }
+        ensures passes { OnErr result (self.new.passes ≡ self.old.passes) }
+        ensures none { OnErr result (found.new.rows ≡ []) }
         ensures seat { self.new ≡ record self.old { glass = self.new.glass; passes = self.new.passes } }
     {
         let n = self.find(event, found)?;
         // What the seat's type keeps comes to light here.
         self.count();
         self.form();
-        let letters = make_letters(alloc, n, event, found.rows(), found.len());
-        let letters = letters.map_err(|_| NoRead::NoMemory)?;
+        let Ok(letters) = make_letters(alloc, n, event, found.rows(), found.len()) else {
+            found.clear();
+            return Err(NoRead::NoMemory);
+        };
         let put = self.post(rt, mail, letters);
         Ok(Sent {
             n,
@@ -66,7 +72,7 @@ impl<T: Sheet<J>, J: Naming + BoxNames> Seat<T, J> {
         requires fit { All (IsFit S.schema) (map plain_letter letters.items) }
         requires delivered { All (IsDelivered self.old.glass.known) (map plain_letter letters.items) }
         ensures seat { self.new ≡ record self.old { passes = self.new.passes } }
-        ensures offers { Offers (length J.boxes) (map plain_letter letters.items) result self.old.passes self.new.passes }
+        ensures offers { Offers (λ q mailbox. Held S.schema S.seats S.found q mailbox BOX_LETTERS) (length J.boxes) (map plain_letter letters.items) result self.old.passes self.new.passes }
     {
         self.form();
         // That they are no more than can be counted comes to light here.
@@ -86,7 +92,9 @@ impl<T: Sheet<J>, J: Naming + BoxNames> Seat<T, J> {
         requires fit { IsFit S.schema (plain_letter letter) }
         requires delivered { IsDelivered self.old.glass.known (plain_letter letter) }
         ensures seat { self.new ≡ record self.old { passes = self.new.passes } }
-        ensures put { self.new.passes ≡ (if result then after_put self.old.passes (seat_of (length J.boxes) letter.session.0) (plain_letter letter) else after_full self.old.passes) }
+        ensures put { MatchBool result
+            (self.new.passes ≡ after_put self.old.passes (seat_of (length J.boxes) letter.session.0) (plain_letter letter))
+            ((self.new.passes ≡ after_full self.old.passes) × Held S.schema S.seats S.found self.old.passes (seat_of (length J.boxes) letter.session.0) BOX_LETTERS) }
     {
         // That the seat is one of those that have a mailbox comes to light at its number.
         let _ = self.passes.seat();

@@ -25,7 +25,7 @@ mod stray;
 
 pub use ask::Ask;
 pub use broom::Broom;
-pub use desk::Desk;
+pub use desk::{Desk, SESSIONS_END};
 pub use maintained::Maintained;
 pub use opening::{make_desk, open_desk};
 pub use rift::Rift;

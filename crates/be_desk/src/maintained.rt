@@ -2,6 +2,7 @@
 
 ghost use Rattle.std.specs.Prelude.{◌≡◌, IfOk};
 ghost use Rattle.be_base.specs.Counts.{raised};
+ghost use Rattle.be_desk.specs.Desks.{freed};
 ghost use Rattle.be_desk.specs.Maintained.{IsMaintained, OnStep};
 
 use crate::broom::Broom;
@@ -29,17 +30,20 @@ pub enum Maintained {
 
 impl<T: Sheet<J>, J: Naming + BoxNames> Desk<T, J> {
     /// Publishes the change that is held, and does no more; or, where none is, makes the next step that the desk's reader
-    /// plans. It may wait for readers.
+    /// plans. Steps that couldn't be published before are published first. It may wait for readers.
     pub fn maintain<R: Wait>(&mut self, rt: &R, broom: &mut Broom) -> Maintained
         ensures broom { broom.new ≡ raised 1 broom.old }
         ensures done { IsMaintained self.old self.new result }
     {
         broom.calls = broom.calls.saturating_add(1);
-        if !self.press.is_settled() {
-            return match self.press.publish(rt) {
-                Ok(n) => Maintained::Freed { n },
-                Err(_) => Maintained::NoMemory,
-            };
+        let held = self.press.has_changes();
+        match self.free(rt) {
+            Err(NoMemory) => return Maintained::NoMemory,
+            Ok(()) => {}
+        }
+        if held {
+            let n = self.press.len();
+            return Maintained::Freed { n };
         }
         match self.glass.plan() {
             Ok(Some(step)) => self.reshape(rt, step),
@@ -51,8 +55,8 @@ impl<T: Sheet<J>, J: Naming + BoxNames> Desk<T, J> {
 
     // Makes a step in both copies.
     fn reshape<R: Wait>(&mut self, rt: &R, step: Step) -> Maintained
-        requires { self.old.published ≡ self.old.list }
-        ensures done { OnStep self.old self.new result }
+        requires { self.old ≡ freed self.old }
+        ensures done { OnStep self.old self.new step result }
     {
         let Ok(again) = copied(&step) else {
             return Maintained::NoMemory;

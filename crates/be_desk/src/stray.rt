@@ -3,6 +3,7 @@
 ghost use Rattle.std.specs.Prelude.{◌≡◌, option_map, IfSome};
 ghost use Rattle.std.specs.Arc.{arc_value};
 ghost use Rattle.be_change.specs.Entries.{entry_of};
+ghost use Rattle.be_desk.specs.Closing.{Differ};
 
 use be_model::Change;
 use std::marker::Model;
@@ -21,7 +22,7 @@ impl Model for Stray {
     ghost use Rattle.std.specs.Prelude.{option_map};
     ghost use Rattle.std.specs.Arc.{arc_value};
     ghost use Rattle.be_change.specs.Entries.{entry_of};
-    ghost use Rattle.be_desk.specs.Closing.{StrayState};
+    ghost use Rattle.be_desk.specs.Closing.{StrayState, Differ};
 
     ghost Value = { StrayState };
 
@@ -31,12 +32,15 @@ impl Model for Stray {
       made = s.made;
       change = option_map (λ c. entry_of (arc_value c)) s.change;
     } };
+
+    ghost invariant = { λ s. Differ s.at (option_map (λ c. entry_of (arc_value c)) s.listed) s.made };
 }
 
 impl Stray {
     /// The place from which on they differ.
     pub fn at(&self) -> u64
-        ensures { result ≡ self.now.at }
+        ensures at { result ≡ self.now.at }
+        ensures differ { Differ self.now.at self.now.listed self.now.made }
     {
         self.at
     }

@@ -1,5 +1,5 @@
 -- What the list keeps of all seats, once they agree with it.
-use Rattle.std.proofs.Common.{◌≡◌, ◌≢◌, ℕ, ◌<◌, Bool, true, List, length, map, get_or, subst, arith}
+use Rattle.std.proofs.Common.{◌≡◌, ℕ, ◌<◌, Bool, true, List, length, map, get_or, subst, arith}
 use Rattle.std.specs.Prelude.{if◌then◌else◌, Any, Option, None, MatchOption}
 use Rattle.std.specs.List.{All}
 use Rattle.std.proofs.lemmas.List.{get_or-map, length-map}
@@ -11,12 +11,12 @@ use Rattle.be_model.specs.Letters.{PlainLetter}
 use Rattle.be_change.specs.History.{Entry, IsWellFormed}
 use Rattle.be_mail.specs.Letters.{Posting, letter_in}
 use Rattle.be_mail.specs.Passes.{Passes, AllPut}
-use Rattle.be_mail.specs.Settled.{AreAll, TakenWerePut}
+use Rattle.be_mail.specs.Settled.{TakenWerePut}
 use Rattle.be_mail.proofs.AllPut.{taken_are_such}
 use Rattle.be_board.specs.Word.{IsDelivered}
 use Rattle.be_board.proofs.Delivered.{delivered_along}
 use Rattle.be_desk.specs.Seats.{SeatState}
-use Rattle.be_desk.specs.Closing.{AreApart, AreKept}
+use Rattle.be_desk.specs.Closing.{AreKept}
 use Rattle.be_hub.specs.Closing.{KeepsAll, IsShown}
 
 pub was_pushed : {X : Type 0} (b : Bool) (now more less : List X) → b ≡ true → now ≡ if b then more else less → now ≡ more
@@ -24,12 +24,6 @@ was_pushed {X} b now more less ok is = subst (λ (c : Bool). now ≡ if c then m
 
 abbrev passes_in : SeatState → Passes
 passes_in s = s.passes
-
-pub are_apart : (boxes : List TableId) (seats : List SeatState) → AreAll boxes (map (λ (s : SeatState). s.passes) seats) → AreApart seats
-are_apart boxes seats all i j d lt within =
-    let once : (get_or (map passes_in seats) i d.passes).seat ≢ (get_or (map passes_in seats) j d.passes).seat = all.once i j d.passes lt (omega (arith, within, length-map seats passes_in)) in
-    subst (λ (p : Passes). p.seat ≢ (get_or seats j d).passes.seat) (get_or-map passes_in seats i d d.passes (omega (arith, lt, within)))
-    (subst (λ (q : Passes). (get_or (map passes_in seats) i d.passes).seat ≢ q.seat) (get_or-map passes_in seats j d d.passes within) once)
 
 -- each letter that a seat put tells of a row that is live in the list
 letters_stand : (boxes : List TableId) (h published : List Entry) (s : SeatState) → BeginsWith h published → IsShown boxes published s → AllPut (IsDelivered h) s.passes

@@ -1,4 +1,5 @@
 pub mod Adding
 pub mod Pending
+mod Trails
 mod Openings
 mod CoreReads

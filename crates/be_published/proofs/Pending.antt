@@ -1,5 +1,5 @@
 -- What notes make of a copy's list, and of what is pending.
-use Rattle.std.proofs.Common.{◌≡◌, ℕ, ◌+◌, ◌≤◌, Bool, true, cond, List, [], ◌∷◌, ◌++◌, length, Option, Some, None, refl, ap, sym, ◌∙◌, subst, arith, eq-eqb, length-append, fold, Result, Ok, Err}
+use Rattle.std.proofs.Common.{◌≡◌, ℕ, ◌+◌, ◌<◌, ◌≤◌, Bool, true, false, cond, List, [], ◌∷◌, ◌++◌, length, refl, ap, sym, ◌∙◌, subst, arith, eq-eqb, length-append, fold, append_assoc, Result, Ok, Err}
 use Rattle.std.specs.Prelude.{MatchResult, OnOk}
 use Rattle.std.proofs.lemmas.Bool.{and_from}
 use Rattle.std.proofs.lemmas.List.{append-nil}
@@ -14,7 +14,8 @@ use Rattle.be_change.proofs.Forms.{sound_last}
 use Rattle.be_copy.specs.declared.edits.Edit.{Edit}
 use Rattle.be_copy.specs.declared.edits.Edit.TheVariants.{Change, Reshape}
 use Rattle.be_copy.specs.Edits.{fits, absorbed}
-use Rattle.be_published.specs.Notes.{edited, leads_to, EndsWith, noted}
+use Rattle.be_model.specs.declared.paths.Step.{Step}
+use Rattle.be_published.specs.Notes.{Noted, Leads, Reshapes, edited, stepped, leads_to, EndsWith, noted, steps_in, ArePending, IsLoose}
 
 -- the edit is a change
 abbrev pub IsChange : Edit → Type 0
@@ -61,7 +62,7 @@ pub noted_next : (h next : List Entry) (edit : Edit) → IsChange edit → lengt
 noted_next h next (Change c) is len = ap (λ (b : Bool). cond b next h) (eq-eqb _ _ len)
 noted_next h next (Reshape step) is len = absurd is
 
-fold-snoc : (a : List Entry) (xs : List (Option (List Entry))) (x : Option (List Entry)) → fold noted a (xs ++ x ∷ []) ≡ noted (fold noted a xs) x
+fold-snoc : (a : List Entry) (xs : List Noted) (x : Noted) → fold noted a (xs ++ x ∷ []) ≡ noted (fold noted a xs) x
 fold-snoc a [] x = refl
 fold-snoc a (y ∷ ys) x = fold-snoc (noted a y) ys x
 
@@ -73,43 +74,72 @@ edited_begins : (front f : List Entry) (edit : Edit) → f ≡ edited front edit
 edited_begins front f (Change c) e = (entry_of (arc_value c) ∷ [], e)
 edited_begins front f (Reshape step) e = subst (λ (l : List Entry). BeginsWith l front) (sym e) (BeginsWith-same front)
 
--- the pending notes lead from what is published to the whole, which goes on where what is published ends
-abbrev pub Leads : List Entry → List (Option (List Entry)) → List Entry → Type 0
-Leads here notes front = (fold noted here notes ≡ front) × BeginsWith front here
+steps_in-append : (xs ys : List Noted) → steps_in (xs ++ ys) ≡ steps_in xs ++ steps_in ys
+steps_in-append [] ys = refl
+steps_in-append (Leads next ∷ xs) ys = steps_in-append xs ys
+steps_in-append (Reshapes step ∷ xs) ys = ap (λ (l : List Step). step ∷ l) (steps_in-append xs ys)
+
+stepped_in : (steps : List Step) (edit : Edit) (f : List Entry) → steps ++ steps_in (leads_to edit f ∷ []) ≡ stepped steps edit
+stepped_in steps (Change c) f = append-nil steps
+stepped_in steps (Reshape step) f = refl
 
 -- one more note keeps that
-pub append_kept : (here there front f f2 : List Entry) (all mid late now : List (Option (List Entry))) (n : Option (List Entry)) (edit : Edit)
-    → Leads here all front → mid ++ late ≡ all → late ≡ [] → now ≡ mid ++ n ∷ [] → there ≡ here → n ≡ leads_to edit f2 → f2 ≡ f → f ≡ edited front edit
-    → Leads there now f
-append_kept here there front f f2 all mid late now n edit was settled none handed same made again grown =
-    let mids : mid ≡ all = sym (append-nil mid) ∙ (ap (λ (l : List (Option (List Entry))). mid ++ l) (sym none) ∙ settled) in
-    let lead : n ≡ leads_to edit f = made ∙ ap (leads_to edit) again in
+pub append_kept : (here there front f f2 : List Entry) (made steps steps' : List Step) (all mid late now : List Noted) (n : Noted) (edit : Edit)
+    → ArePending here made all front steps → mid ++ late ≡ all → late ≡ [] → now ≡ mid ++ n ∷ [] → there ≡ here → n ≡ leads_to edit f2 → f2 ≡ f → f ≡ edited front edit → steps' ≡ stepped steps edit
+    → ArePending there made now f steps'
+append_kept here there front f f2 made steps steps' all mid late now n edit was settled none handed same again_made again grown more =
+    let mids : mid ≡ all = sym (append-nil mid) ∙ (ap (λ (l : List Noted). mid ++ l) (sym none) ∙ settled) in
+    let lead : n ≡ leads_to edit f = again_made ∙ ap (leads_to edit) again in
     let folds : fold noted there now ≡ f =
-    ap (fold noted there) handed ∙ (fold-snoc there mid n ∙ (ap (λ (a : List Entry). noted (fold noted a mid) n) same ∙ (ap (λ (l : List (Option (List Entry))). noted (fold noted here l) n) mids ∙ (ap (λ (a : List Entry). noted a n) was.0 ∙ (ap (noted front) lead ∙ noted_edit front f edit grown))))) in
-    (folds, subst (λ (p : List Entry). BeginsWith f p) (sym same) (BeginsWith-along f front here (edited_begins front f edit grown) was.1))
+    ap (fold noted there) handed ∙ (fold-snoc there mid n ∙ (ap (λ (a : List Entry). noted (fold noted a mid) n) same ∙ (ap (λ (l : List Noted). noted (fold noted here l) n) mids ∙ (ap (λ (a : List Entry). noted a n) was.0 ∙ (ap (noted front) lead ∙ noted_edit front f edit grown))))) in
+    let ins : steps_in now ≡ steps_in all ++ steps_in (leads_to edit f ∷ []) =
+    ap steps_in handed ∙ (steps_in-append mid (n ∷ []) ∙ (ap (λ (l : List Noted). steps_in l ++ steps_in (n ∷ [])) mids ∙ ap (λ (x : Noted). steps_in all ++ steps_in (x ∷ [])) lead)) in (
+      folds,
+      subst (λ (p : List Entry). BeginsWith f p) (sym same) (BeginsWith-along f front here (edited_begins front f edit grown) was.1),
+      more
+          ∙ (sym (stepped_in steps edit f)
+          ∙ (ap (λ (l : List Step). l ++ steps_in (leads_to edit f ∷ [])) was.2 ∙ (append_assoc made (steps_in all) (steps_in (leads_to edit f ∷ [])) ∙ ap (λ (l : List Step). made ++ l) (sym ins)))),
+    )
+
+-- one more step is loose
+pub more_loose : (b : Bool) (made steps : List Step) (step : Step) → IsLoose b made steps → IsLoose true made (steps ++ step ∷ [])
+more_loose b made steps step is = ((λ f. absurd cc), (λ t. omega (arith, few b is, length-append steps (step ∷ []))))
+  where
+    few : (c : Bool) → IsLoose c made steps → length made ≤ length steps
+    few true l = omega (arith, l.1 refl)
+    few false l = omega (arith, ap (λ (x : List Step). length x) (l.0 refl))
 
 -- what was published is the whole then, or nothing changed
-pub published_whole : {A E : Type 0} (r : Result A E) (here at there front : List Entry) (all mid late now : List (Option (List Entry)))
-    → Leads here all front → mid ++ late ≡ all → late ≡ [] → at ≡ here
+pub published_whole : {A E : Type 0} (r : Result A E) (here at there front : List Entry) (made steps : List Step) (all mid late now : List Noted)
+    → ArePending here made all front steps → mid ++ late ≡ all → late ≡ [] → at ≡ here
     → MatchResult r (λ _. (there ≡ fold noted at mid) × (now ≡ [])) (λ _. (there ≡ at) × (now ≡ mid))
     → OnOk r (there ≡ front)
-published_whole (Ok x) here at there front all mid late now was settled none same d =
-    let mids : mid ≡ all = sym (append-nil mid) ∙ (ap (λ (l : List (Option (List Entry))). mid ++ l) (sym none) ∙ settled) in
+published_whole (Ok x) here at there front made steps all mid late now was settled none same d =
+    let mids : mid ≡ all = sym (append-nil mid) ∙ (ap (λ (l : List Noted). mid ++ l) (sym none) ∙ settled) in
     d.0 ∙ (ap (λ (a : List Entry). fold noted a mid) same ∙ (ap (fold noted here) mids ∙ was.0))
-published_whole (Err x) here at there front all mid late now was settled none same d = tt
+published_whole (Err x) here at there front made steps all mid late now was settled none same d = tt
 
-pub publish_kept : {A E : Type 0} (r : Result A E) (here at there front : List Entry) (all mid late now : List (Option (List Entry)))
-    → Leads here all front → mid ++ late ≡ all → late ≡ [] → at ≡ here
+-- the steps that were published then
+abbrev pub made_then : {A E : Type 0} → Result A E → List Step → List Step → List Step
+made_then (Ok x) made steps = steps
+made_then (Err x) made steps = made
+
+pub publish_kept : {A E : Type 0} (r : Result A E) (here at there front : List Entry) (made steps : List Step) (all mid late now : List Noted)
+    → ArePending here made all front steps → mid ++ late ≡ all → late ≡ [] → at ≡ here
     → MatchResult r (λ _. (there ≡ fold noted at mid) × (now ≡ [])) (λ _. (there ≡ at) × (now ≡ mid))
-    → Leads there (now ++ late) front
-publish_kept {A} {E} (Ok x) here at there front all mid late now was settled none same d =
+    → ArePending there (made_then r made steps) (now ++ late) front steps
+publish_kept {A} {E} (Ok x) here at there front made steps all mid late now was settled none same d =
     let r : Result A E = Ok x in
-    let whole : there ≡ front = published_whole r here at there front all mid late now was settled none same d in (
-      ap (λ (l : List (Option (List Entry))). fold noted there l) (ap (λ (l : List (Option (List Entry))). l ++ late) d.1 ∙ none) ∙ whole,
+    let whole : there ≡ front = published_whole r here at there front made steps all mid late now was settled none same d in
+    let gone : now ++ late ≡ [] = ap (λ (l : List Noted). l ++ late) d.1 ∙ none in (
+      ap (λ (l : List Noted). fold noted there l) gone ∙ whole,
       subst (λ (l : List Entry). BeginsWith front l) (sym whole) (BeginsWith-same front),
+      sym (append-nil steps) ∙ ap (λ (l : List Noted). steps ++ steps_in l) (sym gone),
     )
-publish_kept (Err x) here at there front all mid late now was settled none same d =
-    let stays : there ≡ here = d.0 ∙ same in (
-      ap (λ (l : List (Option (List Entry))). fold noted there (l ++ late)) d.1 ∙ (ap (λ (l : List (Option (List Entry))). fold noted there l) settled ∙ (ap (λ (a : List Entry). fold noted a all) stays ∙ was.0)),
+publish_kept (Err x) here at there front made steps all mid late now was settled none same d =
+    let stays : there ≡ here = d.0 ∙ same in
+    let notes : now ++ late ≡ all = ap (λ (l : List Noted). l ++ late) d.1 ∙ settled in (
+      ap (λ (l : List Noted). fold noted there l) notes ∙ (ap (λ (l : List Entry). fold noted l all) stays ∙ was.0),
       subst (λ (p : List Entry). BeginsWith front p) (sym stays) was.1,
+      was.2 ∙ ap (λ (l : List Noted). made ++ steps_in l) (sym notes),
     )

@@ -1,16 +1,24 @@
 -- What contracts see of the writer and of a reader.
-use Rattle.std.specs.Prelude.{ℕ, List}
+use Rattle.std.specs.Prelude.{ℕ, ◌<◌, ◌⊎◌, List, [], ◌∷◌, ◌++◌, length}
 use Rattle.be_base.specs.Counts.{raised}
 use Rattle.be_change.specs.History.{Entry}
+use Rattle.be_model.specs.declared.paths.Step.{Step}
 
--- what is published, and that with what is pending
 pub record PressState : Type 0 where
+  -- the changes that are published, and these with the pending ones
   pub published : List Entry
   pub list : List Entry
+  -- the steps that were published, and these with the pending ones
+  pub reshaped : List Step
+  pub steps : List Step
 
 -- a press with nothing pending
-abbrev pub settled : List Entry → PressState
-settled h = record { published = h; list = h }
+abbrev pub settled : List Entry → List Step → PressState
+settled h steps = record { published = h; list = h; reshaped = steps; steps = steps }
+
+-- a change or a step is pending
+abbrev pub HasPending : PressState → Type 0
+HasPending p = (length p.published < length p.list) ⊎ (length p.reshaped < length p.steps)
 
 pub record GlassState : Type 0 where
   -- the longest of the lists that were seen and learnt
@@ -21,12 +29,12 @@ pub record GlassState : Type 0 where
   pub reads : ℕ
   -- plans that found no step
   pub nones : ℕ
-  -- plans that found one
-  pub plans : ℕ
+  -- the steps that plans found, in order
+  pub plans : List Step
 
 -- a reader that knows the list, and counted nothing
 abbrev pub new_glass : List Entry → GlassState
-new_glass known = record { known = known; shuts = 0; reads = 0; nones = 0; plans = 0 }
+new_glass known = record { known = known; shuts = 0; reads = 0; nones = 0; plans = [] }
 
 abbrev pub knowing : List Entry → GlassState → GlassState
 knowing known g = record g { known = known }
@@ -40,5 +48,5 @@ one_read known g = record g { known = known; reads = raised 1 g.reads }
 abbrev pub one_none : GlassState → GlassState
 one_none g = record g { nones = raised 1 g.nones }
 
-abbrev pub one_plan : GlassState → GlassState
-one_plan g = record g { plans = raised 1 g.plans }
+abbrev pub one_plan : Step → GlassState → GlassState
+one_plan step g = record g { plans = g.plans ++ step ∷ [] }

@@ -1,6 +1,6 @@
 //! A reader.
 
-ghost use Rattle.std.specs.Prelude.{◌≡◌, ◌≢◌, ◌++◌, ◌↔◌, [], true, length, max, None, Ok, Err, IfOk, IfErr, IfSome, OnOk, OnErr, MatchResult, if◌then◌else◌};
+ghost use Rattle.std.specs.Prelude.{◌≡◌, ◌≢◌, ◌++◌, ◌↔◌, [], true, length, max, None, Ok, Err, IfOk, IfErr, IfSome, OnOk, OnErr, MatchResult, option_map};
 ghost use Rattle.std.specs.Option.{IfNone};
 ghost use Rattle.be_base.specs.Lists.{BeginsWith};
 ghost use Rattle.be_model.specs.Bounds.{IsWithinBound};
@@ -11,13 +11,14 @@ ghost use Rattle.be_change.specs.History.{live, hit_rows};
 ghost use Rattle.be_change.specs.Sound.{Sound};
 ghost use Rattle.be_change.specs.Walk.{live_rows, tail_from};
 ghost use Rattle.be_published.specs.Reads.{Meets, IsReadAt, Refuses, after_plan, Learns};
-ghost use Rattle.be_published.specs.States.{knowing, one_shut, one_read, one_none, one_plan, new_glass};
+ghost use Rattle.be_published.specs.States.{knowing, one_shut, one_read, new_glass};
 
 use crate::front::Front;
 use crate::history::Naming;
 use crate::shade::Shade;
 use crate::sheet::Sheet;
 use crate::told::Told;
+use crate::trail::Trail;
 use be_base::{NoMemory, NoRead, SessionNo};
 use be_model::{Change, Cost, Event, Found, Step};
 use crossbeam_utils::rule::Unruled;
@@ -38,7 +39,8 @@ pub struct Glass<T: Sheet<J>, J: Naming> {
     shuts: u64,
     reads: u64,
     nones: u64,
-    plans: u64,
+    // The steps that were planned.
+    plans: Trail<Step>,
 }
 
 impl<T: Sheet<J>, J: Naming> Model for Glass<T, J> {
@@ -46,7 +48,7 @@ impl<T: Sheet<J>, J: Naming> Model for Glass<T, J> {
 
     ghost Value = { GlassState };
 
-    ghost view = { λ g. record { known = g.front; shuts = g.shuts; reads = g.reads; nones = g.nones; plans = g.plans } };
+    ghost view = { λ g. record { known = g.front; shuts = g.shuts; reads = g.reads; nones = g.nones; plans = g.plans.items } };
 }
 
 impl<T: Sheet<J>, J: Naming> Glass<T, J> {
@@ -59,7 +61,7 @@ impl<T: Sheet<J>, J: Naming> Glass<T, J> {
             shuts: 0,
             reads: 0,
             nones: 0,
-            plans: 0,
+            plans: Trail::new(),
         }
     }
 
@@ -193,7 +195,7 @@ impl<T: Sheet<J>, J: Naming> Glass<T, J> {
         self.leave(entered);
         match done {
             Ok(step) => {
-                self.count_plan(step.is_some());
+                self.note_plan(step.as_ref());
                 Ok(step)
             }
             Err(NoMemory) => Err(NoRead::NoMemory),
@@ -292,13 +294,12 @@ impl<T: Sheet<J>, J: Naming> Glass<T, J> {
         NoRead::Shut
     }
 
-    fn count_plan(&mut self, found: bool)
-        ensures { self.new ≡ (if found then one_plan self.old else one_none self.old) }
+    fn note_plan(&mut self, found: Option<&Step>)
+        ensures { self.new ≡ after_plan self.old (option_map (λ step. step.now) found.entry) }
     {
-        if found {
-            self.plans = self.plans.saturating_add(1);
-        } else {
-            self.nones = self.nones.saturating_add(1);
+        match found {
+            Some(step) => self.plans = self.plans.and(step),
+            None => self.nones = self.nones.saturating_add(1),
         }
     }
 }

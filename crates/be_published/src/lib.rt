@@ -18,6 +18,7 @@ mod press;
 mod shade;
 mod sheet;
 mod told;
+mod trail;
 mod writing;
 
 pub use front::Front;

@@ -17,11 +17,9 @@ pub struct Note<J: Naming> {
 }
 
 impl<J: Naming> Model for Note<J> {
-    ghost use Rattle.std.specs.Prelude.{List, Option};
-    ghost use Rattle.be_change.specs.History.{Entry};
-    ghost use Rattle.be_published.specs.Notes.{leads_to, EndsWith};
+    ghost use Rattle.be_published.specs.Notes.{Noted, leads_to, EndsWith};
 
-    ghost Value = { Option (List Entry) };
+    ghost Value = { Noted };
 
     ghost view = { λ n. leads_to n.edit n.front };
 

@@ -39,7 +39,7 @@ pub fn make_pair<I: Index, J: Naming, R: Wait>(
     requires bounded { (I.is_bounded index_a ≡ true) × (I.is_bounded index_b ≡ true) }
     requires empty { (I.rows index_a ≡ []) × (I.rows index_b ≡ []) }
     requires readers { 0 < readers }
-    ensures press { IfOk result (λ pair. pair.0 ≡ settled []) }
+    ensures press { IfOk result (λ pair. pair.0 ≡ settled [] []) }
     ensures count { IfOk result (λ pair. length pair.1.items ≡ readers) }
     ensures glasses { IfOk result (λ pair. All (λ glass. glass ≡ new_glass []) pair.1.items) }
 {
@@ -71,7 +71,7 @@ pub fn open_pair<I: Index, J: Naming, R: Wait>(
     requires table { IsTable rows.items }
     requires lie { list_all (row_lies J.schema) rows.items ≡ true }
     requires readers { 0 < readers }
-    ensures press { IfOk result (λ pair. pair.0 ≡ settled (opening_of rows.items)) }
+    ensures press { IfOk result (λ pair. pair.0 ≡ settled (opening_of rows.items) []) }
     ensures count { IfOk result (λ pair. length pair.1.items ≡ readers) }
     ensures glasses { IfOk result (λ pair. All (λ glass. glass ≡ new_glass (opening_of rows.items)) pair.1.items) }
 {
@@ -100,7 +100,7 @@ fn open_press<I: Index, J: Naming>(
     requires table { IsTable rows.items }
     requires lie { list_all (row_lies J.schema) rows.items ≡ true }
     requires readers { 0 < readers }
-    ensures { IfOk result (λ press. press ≡ settled (opening_of rows.items)) }
+    ensures { IfOk result (λ press. press ≡ settled (opening_of rows.items) []) }
 {
     let (book, mut front) = opened.named::<J>();
     let mut first = Page::make(alloc, index_a, front.again());

@@ -1,12 +1,13 @@
 //! The one writer.
 
-ghost use Rattle.std.specs.Prelude.{◌≡◌, ◌++◌, ◌<◌, [], true, false, length, drop, fold, IfOk, OnOk, OnErr, MatchResult};
+ghost use Rattle.std.specs.Prelude.{◌≡◌, ◌++◌, ◌<◌, [], true, false, List, length, drop, fold, IfOk, OnOk, OnErr, MatchBool, MatchResult};
 ghost use Rattle.std.specs.Option.{option_to_list};
 ghost use Rattle.be_base.specs.Lists.{BeginsWith};
 ghost use Rattle.be_change.specs.Entries.{entries_in};
 ghost use Rattle.be_change.specs.Sound.{Sound};
-ghost use Rattle.be_published.specs.Notes.{MayEdit, edited, noted};
-ghost use Rattle.be_published.specs.States.{settled, new_glass};
+ghost use Rattle.be_published.specs.Notes.{MayEdit, edited, stepped, noted, IsLoose};
+ghost use Rattle.be_published.specs.States.{settled, HasPending, new_glass};
+ghost use Rattle.be_model.specs.declared.paths.Step.{Step};
 
 use crate::front::Front;
 use crate::glass::Glass;
@@ -14,10 +15,11 @@ use crate::history::{Book, Naming};
 use crate::notes::{Note, led_on};
 use crate::sheet::Sheet;
 use crate::told::Told;
+use crate::trail::Trail;
 use crate::writing::{handed, is_settled, shown};
 use be_base::NoMemory;
 use be_copy::Edit;
-use be_model::Change;
+use be_model::{Change, Step};
 use core::mem::replace_with;
 use crossbeam_utils::rule::Unruled;
 use left_right::writer::Writer;
@@ -33,20 +35,25 @@ pub struct Press<T: Sheet<J>, J: Naming> {
     front: Front<J>,
     // A note that the writer had no memory for. It is handed over before the next one.
     late: Option<Note<J>>,
+    // Whether a step is pending.
+    loose: bool,
+    // The steps that were published, and these with the pending ones.
+    reshaped: Trail<Step>,
+    steps: Trail<Step>,
 }
 
 impl<T: Sheet<J>, J: Naming> Model for Press<T, J> {
-    ghost use Rattle.std.specs.Prelude.{◌≡◌, ◌++◌, drop, fold};
+    ghost use Rattle.std.specs.Prelude.{◌++◌, drop};
     ghost use Rattle.std.specs.Option.{option_to_list};
-    ghost use Rattle.be_base.specs.Lists.{BeginsWith};
-    ghost use Rattle.be_published.specs.Notes.{noted};
+    ghost use Rattle.be_published.specs.Notes.{ArePending, IsLoose};
     ghost use Rattle.be_published.specs.States.{PressState};
 
     ghost Value = { PressState };
 
-    ghost view = { λ p. record { published = T.list p.writer.desk.shown.value; list = p.front } };
+    ghost view = { λ p. record { published = T.list p.writer.desk.shown.value; list = p.front; reshaped = p.reshaped.items; steps = p.steps.items } };
 
-    ghost invariant = { λ p. (fold noted (T.list p.writer.desk.shown.value) (drop p.writer.behind p.writer.log.items ++ option_to_list p.late) ≡ p.front) × BeginsWith p.front (T.list p.writer.desk.shown.value) };
+    ghost invariant = { λ p. ArePending (T.list p.writer.desk.shown.value) p.reshaped.items (drop p.writer.behind p.writer.log.items ++ option_to_list p.late) p.front p.steps.items
+        × IsLoose p.loose p.reshaped.items p.steps.items };
 }
 
 impl<T: Sheet<J>, J: Naming> Press<T, J> {
@@ -62,7 +69,7 @@ impl<T: Sheet<J>, J: Naming> Press<T, J> {
         requires alike { T.state first ≡ T.state second }
         requires list { T.list first ≡ front }
         requires readers { 0 < readers }
-        ensures { IfOk result (λ press. press ≡ settled front) }
+        ensures { IfOk result (λ press. press ≡ settled front []) }
     {
         match Writer::new(alloc, first, second, readers as usize) {
             Ok(writer) => Ok(Press {
@@ -70,6 +77,9 @@ impl<T: Sheet<J>, J: Naming> Press<T, J> {
                 book,
                 front,
                 late: None,
+                loose: false,
+                reshaped: Trail::new(),
+                steps: Trail::new(),
             }),
             Err(_) => Err(NoMemory),
         }
@@ -102,12 +112,18 @@ impl<T: Sheet<J>, J: Naming> Press<T, J> {
         &self.front
     }
 
-    /// Whether every change is published. A step that reshapes may be pending.
+    /// Whether nothing is pending, no change and no step.
     pub fn is_settled(&self) -> bool
-        ensures all { result ≡ true → self.now.published ≡ self.now.list }
-        ensures some { result ≡ false → length self.now.published < length self.now.list }
+        ensures { MatchBool result (self.now ≡ settled self.now.list self.now.steps) (HasPending self.now) }
     {
-        self.writer.published().front().len() == self.front.len()
+        !self.has_changes() && !self.loose
+    }
+
+    /// Whether a change is pending.
+    pub fn has_changes(&self) -> bool
+        ensures { MatchBool result (length self.now.published < length self.now.list) (self.now.published ≡ self.now.list) }
+    {
+        self.writer.published().front().len() < self.front.len()
     }
 
     /// What is published now, for a glass to learn.
@@ -131,8 +147,10 @@ impl<T: Sheet<J>, J: Naming> Press<T, J> {
     /// Puts an edit last among what is pending, or hands it back.
     pub fn append(&mut self, edit: Edit) -> Result<(), (Edit, NoMemory)>
         requires { MayEdit J.schema self.old.list edit }
-        ensures published { self.new.published ≡ self.old.published }
-        ensures list { MatchResult result (λ _. self.new.list ≡ edited self.old.list edit) (λ back. (back.0 ≡ edit) × (self.new.list ≡ self.old.list)) }
+        ensures published { (self.new.published ≡ self.old.published) × (self.new.reshaped ≡ self.old.reshaped) }
+        ensures pending { MatchResult result
+            (λ _. (self.new.list ≡ edited self.old.list edit) × (self.new.steps ≡ stepped self.old.steps edit))
+            (λ back. (back.0 ≡ edit) × (self.new ≡ self.old)) }
     {
         if !is_settled(&mut self.writer, &mut self.late) {
             return Err((edit, NoMemory));
@@ -140,6 +158,7 @@ impl<T: Sheet<J>, J: Naming> Press<T, J> {
         let Ok(front) = led_on(&self.front, &self.book, &edit) else {
             return Err((edit, NoMemory));
         };
+        take_note(&edit, &mut self.steps, &mut self.loose);
         let note = Note::make(edit, front.again());
         self.late = handed(&mut self.writer, note);
         self.front = front;
@@ -148,7 +167,7 @@ impl<T: Sheet<J>, J: Naming> Press<T, J> {
 
     /// Shows readers all that is pending, in order, and gives the published length. It may wait for readers.
     pub fn publish<R: Wait>(&mut self, rt: &R) -> Result<u64, NoMemory>
-        ensures published { MatchResult result (λ n. (self.new ≡ settled self.old.list) × (n ≡ length self.old.list)) (λ _. self.new ≡ self.old) }
+        ensures published { MatchResult result (λ n. (self.new ≡ settled self.old.list self.old.steps) × (n ≡ length self.old.list)) (λ _. self.new ≡ self.old) }
     {
         if !is_settled(&mut self.writer, &mut self.late) {
             return Err(NoMemory);
@@ -166,7 +185,11 @@ impl<T: Sheet<J>, J: Naming> Press<T, J> {
             { shown(rt, writer) },
         );
         match done {
-            Ok(()) => Ok(self.front.len()),
+            Ok(()) => {
+                self.reshaped = self.steps.again();
+                self.loose = false;
+                Ok(self.front.len())
+            }
             Err(_) => Err(NoMemory),
         }
     }
@@ -178,7 +201,24 @@ impl<T: Sheet<J>, J: Naming> Press<T, J> {
             book: _,
             front: _,
             late: _,
+            loose: _,
+            reshaped: _,
+            steps: _,
         } = self;
         writer.take(rt);
+    }
+}
+
+// Puts a step last among all steps. It is pending then.
+fn take_note(edit: &Edit, steps: &mut Trail<Step>, loose: &mut bool)
+    ensures steps { steps.new.items ≡ stepped steps.old.items edit.now }
+    ensures loose { (made : List Step) → IsLoose loose.old made steps.old.items → IsLoose loose.new made steps.new.items }
+{
+    match edit {
+        Edit::Reshape(step) => {
+            *steps = steps.and(step);
+            *loose = true;
+        }
+        Edit::Change(_) => {}
     }
 }

@@ -1,13 +1,13 @@
 //! A copy, as the writer and the readers see it.
 
-ghost use Rattle.std.specs.Prelude.{◌≡◌, ◌++◌, [], true, List, Option, fold, OnOk, OnErr, IfOk};
+ghost use Rattle.std.specs.Prelude.{◌≡◌, ◌++◌, [], true, List, fold, OnOk, OnErr, IfOk};
 ghost use Rattle.be_model.specs.Bounds.{IsWithinBound};
 ghost use Rattle.be_model.specs.ByIds.{rows_of, session_rows};
 ghost use Rattle.be_model.specs.Lies.{event_lies};
 ghost use Rattle.be_change.specs.Entries.{entries_in};
 ghost use Rattle.be_change.specs.History.{Entry, live, hit_rows};
 ghost use Rattle.be_change.specs.Walk.{live_rows, tail_from};
-ghost use Rattle.be_published.specs.Notes.{noted};
+ghost use Rattle.be_published.specs.Notes.{Noted, noted};
 
 use crate::front::Front;
 use crate::history::Naming;
@@ -56,5 +56,5 @@ pub trait Sheet<J: Naming>: Absorb<Note<J>> + Drop {
     fn plan(&self) -> Result<Option<Step>, NoMemory>;
 
     /// Notes lead its list as `noted` says.
-    ghost follows: { (x y : Self) (notes : List (Option (List Entry))) → Self.state y ≡ fold Self.applied (Self.state x) notes → list y ≡ fold noted (list x) notes };
+    ghost follows: { (x y : Self) (notes : List Noted) → Self.state y ≡ fold Self.applied (Self.state x) notes → list y ≡ fold noted (list x) notes };
 }

@@ -5,16 +5,13 @@ ghost use Rattle.be_desk.specs.Asks.{ask_lies};
 
 use be_base::Name;
 use be_board::Answer;
-use be_desk::{Ask, Desk, Seat};
+use be_desk::{Ask, Desk, SESSIONS_END, Seat};
 use be_expr::read_expr;
 use be_mail::BoxNames;
 use be_model::Schema;
 use be_published::{Naming, Sheet};
 use std::alloc::Global;
 use std::sync::Wait;
-
-// A session beyond this number has none after it.
-const SESSIONS_END: u64 = 4611686018427387904;
 
 /// The answer to what a seat asks, or to what it is asked.
 pub fn answer<T: Sheet<J>, J: Naming + BoxNames, R: Wait>(

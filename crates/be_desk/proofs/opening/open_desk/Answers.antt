@@ -19,7 +19,7 @@ furnish-requires-clause-glasses g c =
 pub invariant_of-desk : goal.invariant_of-desk
 invariant_of-desk g c = (
   c.in-Ok.ensures.ledger,
-  held_settled c.in_ok-press.press _ c.in_ok-press.ensures.press,
+  held_settled c.in_ok-press.press _ [] c.in_ok-press.ensures.press,
   sym c.requires.seats.2,
   c.requires.seats.0,
   subst (λ h. IsOpened h c.in_ok-press.press.list) (sym c.requires.named.1) (subst (IsOpened _) (sym (ap (λ p. p.list) c.in_ok-press.ensures.press)) (opened_same _)),

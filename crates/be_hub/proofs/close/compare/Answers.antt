@@ -1,11 +1,11 @@
 use Rattle.std.proofs.Common.{sym, subst}
 use Rattle.be_mail.specs.Settled.{TakenWerePut}
-use Rattle.be_desk.specs.Closing.{AreApart, AreKept, IsStray}
-use Rattle.be_hub.proofs.Closing.{are_apart, keeps_all, none_said}
+use Rattle.be_desk.specs.Closing.{AreAllSeats, AreKept, IsStray}
+use Rattle.be_hub.proofs.Closing.{keeps_all, none_said}
 use Rattle.be_hub.proofs.close.compare.Goals as goal
 
 pub check_records-requires : goal.check_records-requires
-check_records-requires g c = record { apart = subst AreApart (sym c.deref.ensures.value) (are_apart g.J.BoxNames.boxes c.args.seats.items c.requires.all) }
+check_records-requires g c = record { all = subst (AreAllSeats g.J.BoxNames.boxes) (sym c.deref.ensures.value) c.requires.all }
 
 pub returns-in-None-clause-keeps : goal.returns-in-None-clause-keeps
 returns-in-None-clause-keeps g c =

@@ -16,3 +16,9 @@ invariant_of-seat g c =
     let i = c.seat.invariant in
     let d = c.self.invariant in
     (i.0, seat_entered g.J.BoxNames.boxes c.seat.inside.serial c.seat.inside.gone _ c.self.inside.seats _ d.3 d.2 (ap (λ n. c.seat.inside.session.0 + n) c.from.ensures) i.1, i.2)
+
+pub returns-clause-serial : goal.returns-clause-serial
+returns-clause-serial g c = sym (invariant_of-seat g c).1.serial_is
+
+pub returns-clause-present : goal.returns-clause-present
+returns-clause-present g c = sym (invariant_of-seat g c).1.gone_is
