@@ -194,7 +194,9 @@ pub fn answers<R: Threads + Wait + Sync>(
     wanted: &[u8],
 ) -> bool {
     match run(rt, alloc, setting) {
-        Some(ran) => is(&ran.status, &Status::Done) && ran.left == 0 && ran.out.as_slice() == wanted,
+        Some(ran) => is(&ran.status, &Status::Done)
+            && ran.left == 0
+            && ran.out.as_slice() == wanted,
         None => false,
     }
 }
