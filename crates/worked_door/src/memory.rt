@@ -26,8 +26,10 @@ pub fn served<R: Threads + Wait + Sync + Copy>(rt: R, alloc: Global, row: &Row) 
         out.push_str("failed; ").ok()?;
         run(&rt, &mut door, 1, row.links, row.workers).ok()?;
     }
-    out.push_str(shown_sums(alloc, &door.sums())?.as_str()).ok()?;
-    out.push_str(shown_kept(alloc, door.kept(), row)?.as_str()).ok()?;
+    out.push_str(shown_sums(alloc, &door.sums())?.as_str())
+        .ok()?;
+    out.push_str(shown_kept(alloc, door.kept(), row)?.as_str())
+        .ok()?;
     Some(out)
 }
 

@@ -19,20 +19,14 @@ pub fn shown_sums(alloc: Global, sums: &Sums) -> Option<String> {
         write_faults,
         most,
     } = *sums;
-    format!(
-        in alloc;
+    format!(in alloc;
         "given {given} back {back} failed {failed} refused {refused} faults {read_faults} {write_faults} most {most}"
-    )
-    .ok()
+    ).ok()
 }
 
 /// Few links of one worker one by one, with the session and what each holds. Of others, whether each was given once, and
 /// whether they stand in their workers' order.
-pub fn shown_kept(
-    alloc: Global,
-    kept: &[(SessionNo, Metered<Peer>)],
-    row: &Row,
-) -> Option<String> {
+pub fn shown_kept(alloc: Global, kept: &[(SessionNo, Metered<Peer>)], row: &Row) -> Option<String> {
     let mut out = String::new(alloc);
     if row.workers == 1 && kept.len() <= SHOWN {
         for (session, link) in kept.iter() {
@@ -45,7 +39,11 @@ pub fn shown_kept(
     }
     let once = is_each_once(alloc, kept)?;
     let ordered = are_in_order(kept, row.workers as u64);
-    format!(in alloc; ", kept {}, each once {once}, in workers' order {ordered}", kept.len()).ok()
+    format!(in alloc;
+        ", kept {}, each once {once}, in workers' order {ordered}",
+        kept.len()
+    )
+    .ok()
 }
 
 // Whether the links hold the numbers from 0, each once.
