@@ -11,7 +11,7 @@ use be_base::{
 use std::alloc::Global;
 
 /// What the words ask for.
-#[derive(Debug, PartialEq, Eq)]
+#[derive(Debug, Drop, PartialEq, Eq)]
 pub enum Request<'a> {
     /// One session over the input and the output, with the files of the schema and of the opening table.
     Run {

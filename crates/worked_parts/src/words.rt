@@ -32,7 +32,7 @@ fn request<'a>(words: &'a [String], alloc: Global) -> Result<Option<Request<'a>>
 #[test]
 fn words_are_read(rt: HostRuntime) -> Result<(), Fail> {
     let alloc = rt.alloc();
-    for (words, wanted) in [
+    let rows = [
         ("run S", run_over(None)),
         ("run S --", run_over(None)),
         ("run -- S", run_over(None)),
@@ -54,12 +54,11 @@ fn words_are_read(rt: HostRuntime) -> Result<(), Fail> {
             "gen -- 9223372036854775807 007 0",
             gen_of(9223372036854775807, 7, 0),
         ),
-    ] {
+    ];
+    for (words, wanted) in &rows {
         let strings = split(alloc, words)?;
-        assert!(rt;
-            request(strings.as_slice(), alloc).ok() == Some(wanted),
-            "{words}"
-        );
+        let asked = request(strings.as_slice(), alloc).ok();
+        assert!(rt; asked.as_ref() == Some(wanted), "{words}");
     }
     Ok(())
 }
