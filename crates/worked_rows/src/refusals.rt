@@ -206,64 +206,6 @@ fn a_schema_without_attributes(rt: HostRuntime) {
     assert!(rt; is_right);
 }
 
-const STATUSES: &[(Status, u8, &str)] = &[
-    (Status::Done, 0, ""),
-    (Status::Words, 2, "words refused"),
-    (
-        Status::SchemaBad {
-            line: 1,
-            kind: SchemaKind::Form,
-        },
-        3,
-        "schema line 1: Form",
-    ),
-    (
-        Status::SchemaBad {
-            line: 3,
-            kind: SchemaKind::Reserved,
-        },
-        3,
-        "schema line 3: Reserved",
-    ),
-    (
-        Status::SchemaBad {
-            line: 4,
-            kind: SchemaKind::Twice,
-        },
-        3,
-        "schema line 4: Twice",
-    ),
-    (
-        Status::SchemaBad {
-            line: 5,
-            kind: SchemaKind::Range,
-        },
-        3,
-        "schema line 5: Range",
-    ),
-    (
-        Status::SchemaBad {
-            line: 6,
-            kind: SchemaKind::Many,
-        },
-        3,
-        "schema line 6: Many",
-    ),
-    (
-        Status::LoadBad {
-            line: 6,
-            kind: TableKind::Many,
-        },
-        3,
-        "load line 6: Many",
-    ),
-    (Status::ReadFault, 4, "read fault"),
-    (Status::LongFile, 4, "file over 67108864 bytes"),
-    (Status::WriteFault, 5, "write fault"),
-    (Status::NoMemory, 6, "out of memory"),
-    (Status::Spent, 8, "input over 1099511627776 bytes"),
-];
-
 fn has(alloc: Global, status: &Status, code: u8, text: &str) -> Option<bool> {
     let shown = format!(in alloc; "{status}").ok()?;
     Some(status.code() == code && shown.as_str() == text)
@@ -272,7 +214,64 @@ fn has(alloc: Global, status: &Status, code: u8, text: &str) -> Option<bool> {
 #[test]
 fn codes_and_texts(rt: HostRuntime) {
     let alloc = rt.alloc();
-    for (status, code, text) in STATUSES {
+    let rows: [(Status, u8, &str); 13] = [
+        (Status::Done, 0, ""),
+        (Status::Words, 2, "words refused"),
+        (
+            Status::SchemaBad {
+                line: 1,
+                kind: SchemaKind::Form,
+            },
+            3,
+            "schema line 1: Form",
+        ),
+        (
+            Status::SchemaBad {
+                line: 3,
+                kind: SchemaKind::Reserved,
+            },
+            3,
+            "schema line 3: Reserved",
+        ),
+        (
+            Status::SchemaBad {
+                line: 4,
+                kind: SchemaKind::Twice,
+            },
+            3,
+            "schema line 4: Twice",
+        ),
+        (
+            Status::SchemaBad {
+                line: 5,
+                kind: SchemaKind::Range,
+            },
+            3,
+            "schema line 5: Range",
+        ),
+        (
+            Status::SchemaBad {
+                line: 6,
+                kind: SchemaKind::Many,
+            },
+            3,
+            "schema line 6: Many",
+        ),
+        (
+            Status::LoadBad {
+                line: 6,
+                kind: TableKind::Many,
+            },
+            3,
+            "load line 6: Many",
+        ),
+        (Status::ReadFault, 4, "read fault"),
+        (Status::LongFile, 4, "file over 67108864 bytes"),
+        (Status::WriteFault, 5, "write fault"),
+        (Status::NoMemory, 6, "out of memory"),
+        (Status::Spent, 8, "input over 1099511627776 bytes"),
+    ];
+    for (status, code, text) in &rows {
         assert!(rt; has(alloc, status, *code, text) == Some(true), "{text}");
     }
 }
