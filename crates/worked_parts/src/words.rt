@@ -4,61 +4,183 @@ use be_words::{Request, WordsFault, read_words};
 use std::alloc::Global;
 use std::test::Fail;
 
-// A run with the schema in the file `S`.
-const fn run_over<'a>(load: Option<&'a str>) -> Option<Request<'a>> {
-    Some(Request::Run { schema: "S", load })
+// A request, but for those that name several files.
+#[derive(Clone, Copy)]
+enum Wanted {
+    Run {
+        schema: &'static str,
+        load: Option<&'static str>,
+    },
+    Gen {
+        number: u64,
+        subs: u64,
+        events: u64,
+    },
 }
 
-const fn run_of(schema: &str) -> Option<Request<'_>> {
-    Some(Request::Run { schema, load: None })
-}
-
-const fn gen_of<'a>(number: u64, subs: u64, events: u64) -> Option<Request<'a>> {
-    Some(Request::Gen {
-        number,
-        subs,
-        events,
-    })
-}
-
-fn request<'a>(words: &'a [String], alloc: Global) -> Result<Option<Request<'a>>, WordsFault> {
-    match read_words(alloc, words) {
-        Ok(request) => Ok(Some(request)),
-        Err(WordsFault::Refused) => Ok(None),
-        Err(fault) => Err(fault),
+// Whether it is this one.
+fn is(request: &Request<'_>, wanted: Wanted) -> bool {
+    match (request, wanted) {
+        (Request::Run { schema, load }, Wanted::Run { schema: s, load: l }) => {
+            *schema == s && *load == l
+        }
+        (
+            Request::Gen {
+                number,
+                subs,
+                events,
+            },
+            Wanted::Gen {
+                number: n,
+                subs: s,
+                events: e,
+            },
+        ) => *number == n && *subs == s && *events == e,
+        _ => false,
     }
 }
+
+const READ: &[(&str, Wanted)] = &[
+    (
+        "run S",
+        Wanted::Run {
+            schema: "S",
+            load: None,
+        },
+    ),
+    (
+        "run S --",
+        Wanted::Run {
+            schema: "S",
+            load: None,
+        },
+    ),
+    (
+        "run -- S",
+        Wanted::Run {
+            schema: "S",
+            load: None,
+        },
+    ),
+    (
+        "run -",
+        Wanted::Run {
+            schema: "-",
+            load: None,
+        },
+    ),
+    (
+        "run -- -x",
+        Wanted::Run {
+            schema: "-x",
+            load: None,
+        },
+    ),
+    (
+        "run -- --",
+        Wanted::Run {
+            schema: "--",
+            load: None,
+        },
+    ),
+    (
+        "run - --",
+        Wanted::Run {
+            schema: "-",
+            load: None,
+        },
+    ),
+    (
+        "run ",
+        Wanted::Run {
+            schema: "",
+            load: None,
+        },
+    ),
+    (
+        "run S --load T",
+        Wanted::Run {
+            schema: "S",
+            load: Some("T"),
+        },
+    ),
+    (
+        "run --load T S",
+        Wanted::Run {
+            schema: "S",
+            load: Some("T"),
+        },
+    ),
+    (
+        "run --load=T -- S",
+        Wanted::Run {
+            schema: "S",
+            load: Some("T"),
+        },
+    ),
+    (
+        "run S --load -",
+        Wanted::Run {
+            schema: "S",
+            load: Some("-"),
+        },
+    ),
+    (
+        "run S --load=-x",
+        Wanted::Run {
+            schema: "S",
+            load: Some("-x"),
+        },
+    ),
+    (
+        "run S --load=--",
+        Wanted::Run {
+            schema: "S",
+            load: Some("--"),
+        },
+    ),
+    (
+        "run S --load=",
+        Wanted::Run {
+            schema: "S",
+            load: Some(""),
+        },
+    ),
+    (
+        "run S --load ",
+        Wanted::Run {
+            schema: "S",
+            load: Some(""),
+        },
+    ),
+    (
+        "gen 7 100000 10000",
+        Wanted::Gen {
+            number: 7,
+            subs: 100000,
+            events: 10000,
+        },
+    ),
+    (
+        "gen -- 9223372036854775807 007 0",
+        Wanted::Gen {
+            number: 9223372036854775807,
+            subs: 7,
+            events: 0,
+        },
+    ),
+];
 
 #[test]
 fn words_are_read(rt: HostRuntime) -> Result<(), Fail> {
     let alloc = rt.alloc();
-    let rows = [
-        ("run S", run_over(None)),
-        ("run S --", run_over(None)),
-        ("run -- S", run_over(None)),
-        ("run -", run_of("-")),
-        ("run -- -x", run_of("-x")),
-        ("run -- --", run_of("--")),
-        ("run - --", run_of("-")),
-        ("run ", run_of("")),
-        ("run S --load T", run_over(Some("T"))),
-        ("run --load T S", run_over(Some("T"))),
-        ("run --load=T -- S", run_over(Some("T"))),
-        ("run S --load -", run_over(Some("-"))),
-        ("run S --load=-x", run_over(Some("-x"))),
-        ("run S --load=--", run_over(Some("--"))),
-        ("run S --load=", run_over(Some(""))),
-        ("run S --load ", run_over(Some(""))),
-        ("gen 7 100000 10000", gen_of(7, 100000, 10000)),
-        (
-            "gen -- 9223372036854775807 007 0",
-            gen_of(9223372036854775807, 7, 0),
-        ),
-    ];
-    for (words, wanted) in &rows {
+    for (words, wanted) in READ {
         let strings = split(alloc, words)?;
-        let asked = request(strings.as_slice(), alloc).ok();
-        assert!(rt; asked.as_ref() == Some(wanted), "{words}");
+        let is_read = match read_words(alloc, strings.as_slice()) {
+            Ok(request) => is(&request, *wanted),
+            Err(_) => false,
+        };
+        assert!(rt; is_read, "{words}");
     }
     Ok(())
 }
@@ -103,10 +225,11 @@ fn words_are_refused(rt: HostRuntime) -> Result<(), Fail> {
         "help run",
     ] {
         let strings = split(alloc, words)?;
-        assert!(rt;
-            request(strings.as_slice(), alloc).ok() == Some(None),
-            "{words}"
-        );
+        let is_refused = match read_words(alloc, strings.as_slice()) {
+            Err(WordsFault::Refused) => true,
+            _ => false,
+        };
+        assert!(rt; is_refused, "{words}");
     }
     Ok(())
 }
