@@ -115,6 +115,29 @@ call run schema.txt --load missing.txt; same 'a missing load file' 4 '' 'read fa
 call run schema.txt --load .; same 'a folder as load file' 4 '' 'read fault\n'
 call run schema.txt --load over.txt; same 'a load file over the limit' 4 '' 'file over 67108864 bytes\n'
 call run first.txt --load missing.txt; same 'a faulty schema before a missing load file' 3 '' 'schema line 1: Range\n'
+call drill first.txt 0 missing.txt; same 'a faulty schema before a missing file of drill' 3 '' 'schema line 1: Range\n'
+call heat first.txt 0 missing.txt; same 'a faulty schema before a missing file of heat' 3 '' 'schema line 1: Range\n'
+call follow first.txt missing.txt; same 'a faulty schema before a missing feed' 3 '' 'schema line 1: Range\n'
+call cover first.txt missing.txt a; same 'a faulty schema before a missing file of cover' 3 '' 'schema line 1: Range\n'
+printf "$three" >in
+
+# what events ask for, and a follower
+printf 'int price 0 1000\nint qty -5 5\nsym side buy sell hold\nint one 7 7\n' >four.txt
+printf 'PUB price=1\nPUB price=2 qty=0\nPUB -\nPUB price=1001\n' >asks.txt
+call heat four.txt 0 asks.txt; same 'heat of four events' 0 '== 1\nHIT 0 0\nHIT 0 0\nHIT 0 0\nDOM price\n== LOG 1\nBYE 1 0\n== HEAT 3\nprice 2 1\nqty 1 2\nside 0 3\none 0 3\n' ''
+printf 'PUB price=1\nSUB x all\nQUIT\n' >in
+printf 'AT 0 SUB 1 0 a all\nAT 1 SUB 1 1 b price < 5\n' >feed.txt
+call follow four.txt feed.txt; same 'a follower of two changes' 0 'HIT 2 2 a b\nBAD\nBYE 2\n' ''
+printf 'AT 0 SUB 1 0 a all\nAT 1 SUB 1 1 b price < 5' >feed.txt
+call follow four.txt feed.txt; same 'a last line without LF' 0 'HIT 1 1 a\nBAD\nBYE 1\n' ''
+printf 'AT 1 BYE 1 0\n' >feed.txt
+call follow four.txt feed.txt; same 'a gap in a feed' 3 '' 'feed line 1: Gap\n'
+printf 'AT 0 SUB 1 0 a all\nAT 0 BYE 1 0\n' >feed.txt
+call follow four.txt feed.txt; same 'another change at a place' 3 '' 'feed line 2: Fork\n'
+printf 'AT 0 UNSUB 1 0 a\n' >feed.txt
+call follow four.txt feed.txt; same 'a removal of no row' 3 '' 'feed line 1: Unfit\n'
+printf 'SUB a all\nTAIL 0 5\n' >tail.txt
+call drill four.txt 0 tail.txt; same 'TAIL in drill' 0 '== 1\nOK 1\nAT 0 SUB 1 0 a all\nTAILED 1 1\n== LOG 2\nSUB 1 0 a all\nBYE 1 1\n' ''
 printf "$three" >in
 
 # sessions

@@ -4,11 +4,17 @@
         session.subscribe("cheap", "price <= 250")
         print(session.publish("price=240"))          # ['cheap']
 
+Or over a connection to a server that runs, `./justmeadow serve schema.txt 7000 8 100`:
+
+    with Connection(7000) as session:
+        session.subscribe("dear", "price > 900")
+
 Each line has one reply, which is there before the program waits for another line: `ask` sends a line and waits for its
 reply. Most replies are one line; those to FETCH, DUMP and TAIL have lines NOTE, ROW and AT before their last one.
 `ask_all` sends many lines from a thread while the caller reads; who sends first and reads later waits for ever, once both
 pipes are full."""
 import contextlib
+import socket
 import subprocess
 import threading
 
@@ -37,6 +43,7 @@ def one_line(line):
 class Session:
     def __init__(self, command):
         self.process = subprocess.Popen(command, stdin=subprocess.PIPE, stdout=subprocess.PIPE)
+        self.reader, self.writer = self.process.stdout, self.process.stdin
 
     def __enter__(self):
         return self
@@ -47,9 +54,9 @@ class Session:
     def close(self):
         """Ends the input, at which the session leaves, and returns the program's exit code."""
         with contextlib.suppress(BrokenPipeError):
-            self.process.stdin.close()
-        self.process.stdout.read()
-        self.process.stdout.close()
+            self.writer.close()
+        self.reader.read()
+        self.reader.close()
         return self.process.wait()
 
     def reply(self):
@@ -60,7 +67,7 @@ class Session:
         return "\n".join(lines)
 
     def _line(self):
-        line = self.process.stdout.readline()
+        line = self.reader.readline()
         if not line.endswith(b"\n"):
             raise Ended(f"no whole reply, but {line!r}")
         return line[:-1].decode("ascii")
@@ -68,9 +75,9 @@ class Session:
     def ask(self, line):
         """Sends one line, and returns its reply."""
         try:
-            self.process.stdin.write(one_line(line))
-            self.process.stdin.flush()
-        except BrokenPipeError as error:
+            self.writer.write(one_line(line))
+            self.writer.flush()
+        except (BrokenPipeError, ConnectionResetError) as error:
             raise Ended("the program reads no more") from error
         return self.reply()
 
@@ -87,9 +94,9 @@ class Session:
                 self.reply()
 
     def _send(self, lines):
-        with contextlib.suppress(BrokenPipeError, ValueError):  # the reader meets the end, and says so
-            self.process.stdin.write(b"".join(lines))
-            self.process.stdin.flush()
+        with contextlib.suppress(BrokenPipeError, ConnectionResetError, ValueError):  # the reader meets the end, and says so
+            self.writer.write(b"".join(lines))
+            self.writer.flush()
 
     def _words(self, line, wanted):
         words = self.ask(line).split(" ")
@@ -132,3 +139,21 @@ class Session:
     def tail(self, place, most):
         """The changes from a place on, at most so many, as their texts."""
         return [line.split(" ", 2)[2] for line in self._lines(f"TAIL {place} {most}", "TAILED")[:-1]]
+
+
+class Connection(Session):
+    """A session of a server that runs, over a connection to it. While all its seats are taken, the first reply waits."""
+
+    def __init__(self, port, host="127.0.0.1"):
+        self.socket = socket.create_connection((host, port))
+        self.socket.setsockopt(socket.IPPROTO_TCP, socket.TCP_NODELAY, 1)
+        self.reader, self.writer = self.socket.makefile("rb"), self.socket.makefile("wb")
+
+    def close(self):
+        """Ends the input, at which the session leaves, and waits until it has."""
+        with contextlib.suppress(OSError):
+            self.writer.close()
+            self.socket.shutdown(socket.SHUT_WR)
+            self.reader.read()
+        self.reader.close()
+        self.socket.close()

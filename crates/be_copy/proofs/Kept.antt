@@ -1,19 +1,22 @@
 -- What the type of a copy keeps, as its list grows.
-use Rattle.std.proofs.Common.{◌≡◌, ℕ, ◌==◌, true, false, List, [], ◌∷◌, ◌++◌, length, Result, Ok, Err, OnOk, Bool, Option, Some, None, option_map, find, cond, ◌||◌, refl, sym, ap, ◌∙◌, subst}
+use Rattle.std.proofs.Common.{◌≡◌, ℕ, ◌+◌, ◌≤◌, ◌==◌, ◌&&◌, true, false, not, List, [], ◌∷◌, ◌++◌, length, Result, Ok, Err, OnOk, Bool, Option, Some, None, option_map, find, cond, ◌||◌, refl, sym, ap, ◌∙◌, subst, arith}
 use Rattle.std.proofs.lemmas.Bool.{and_parts, and_from}
 use Rattle.std.proofs.lemmas.List.Folds.{list_all-append}
 use Rattle.std.specs.Option.{IfNone}
 use Rattle.be_base.specs.Text.{Text}
+use Rattle.be_base.specs.declared.limits.TheConstants.{LOG_CHANGES}
 use Rattle.be_model.specs.declared.changes.Row.{Row}
 use Rattle.be_model.specs.Rows.{id_of}
-use Rattle.be_model.specs.ByIds.{ByIds, AllBelow, has_id, row_at, put_by_id}
+use Rattle.be_model.specs.ByIds.{ByIds, AllBelow, SayIds, has_id, is_of, row_at, put_by_id}
 use Rattle.be_model.specs.Schemas.{Attributes}
 use Rattle.be_model.specs.Lies.{row_lies, entry_lies}
-use Rattle.be_model.proofs.RisingIds.{above_is_new, put_greatest}
-use Rattle.be_change.specs.History.{Entry, subscribed, unsubscribed, left, live, after_entry, has_name, is_live_name}
+use Rattle.be_model.proofs.RisingIds.{SayIds-filter, SayIds-snoc, above_is_new, put_greatest}
+use Rattle.be_change.specs.Entries.{HasIdAt, HaveIdsFrom, IdsArePlaces}
+use Rattle.be_change.specs.History.{Entry, subscribed, unsubscribed, left, live, live_from, after_entry, has_name, is_live_name}
 use Rattle.be_change.specs.Sound.{all_lie}
-use Rattle.be_change.proofs.Grows.{live-append, live_below}
+use Rattle.be_change.proofs.Grows.{live-append, live_below, rising_live}
 use Rattle.be_change.proofs.Listed.{live_listed}
+use Rattle.be_index.specs.Promise.{IsMap}
 use Rattle.be_copy.specs.declared.register.Register.{Register}
 use Rattle.be_copy.specs.Edits.{fits}
 use Rattle.be_copy.specs.Registers.{IsRegister, AreOfList, IsKept}
@@ -25,6 +28,25 @@ kept_listed h rows is i row at = live_listed h i row (sym (ap (row_at i) is) ∙
 
 rows_below : (h : List Entry) (rows : ByIds) → rows ≡ live h → AllBelow (length h) rows
 rows_below h rows is = subst (AllBelow (length h)) (sym is) (live_below h)
+
+below_more : (n k : ℕ) (m : ByIds) → n ≤ k → AllBelow n m → AllBelow k m
+below_more n k [] few b = tt
+below_more n k (r ∷ rs) few b = (omega (arith, b.0, few), below_more n k rs few b.1)
+
+say_after : (l : ByIds) (place : ℕ) (e : Entry) → HasIdAt place e → SayIds l → SayIds (after_entry l place e)
+say_after l place (subscribed k n row) id say = SayIds-snoc l (place, row) say id
+say_after l place (unsubscribed k n name) id say = SayIds-filter (λ r. not (is_of k r && has_name name r)) l say
+say_after l place (left k n) id say = SayIds-filter (λ r. not (is_of k r)) l say
+
+say_from : (l : ByIds) (place : ℕ) (h : List Entry) → HaveIdsFrom place h → SayIds l → SayIds (live_from l place h)
+say_from l place [] ids say = say
+say_from l place (e ∷ es) ids say = say_from (after_entry l place e) (place + 1) es ids.1 (say_after l place e ids.0 say)
+
+-- the live rows of a list are a map, where the id of each Sub's row is its place
+pub kept_map : (h : List Entry) (rows : ByIds) (n spare : ℕ) → rows ≡ live h → n ≡ length h → n + spare ≤ LOG_CHANGES → IdsArePlaces h → IsMap rows
+kept_map h rows n spare is len few ids =
+    let map : IsMap (live h) = record { rising = rising_live h; say = say_from [] 0 h ids tt; low = below_more (length h) LOG_CHANGES (live h) (omega (arith, len, few)) (live_below h) } in
+    subst IsMap (sym is) map
 
 -- no live row has the next place as its id
 pub next_is_new : (h : List Entry) (rows : ByIds) (id : ℕ) → rows ≡ live h → id ≡ length h → has_id id rows ≡ false

@@ -81,6 +81,8 @@ impl<I: Index> Copy2<I> {
         ensures there { IfSome result (λ row. HasNameAt (live self.now.list) (id_of (arc_value row.now)) name.now) }
         ensures none { IfNone result (is_live_name name.now (live self.now.list) ≡ false) }
     {
+        // That ids rise comes to light at the length of the list.
+        let _ = self.log.len();
         first(&self.log, &self.index, &self.register, Wanted::Named(name))
     }
 
@@ -157,6 +159,8 @@ fn change_rows<I: Index>(
     ensures schema { I.schema index.new ≡ I.schema index.old }
     ensures bounded { I.is_bounded index.new ≡ I.is_bounded index.old }
 {
+    // That ids rise comes to light at the length of the list.
+    let _ = log.len();
     match change {
         Change::Sub { row, .. } => add_row(log, index, register, row),
         Change::Unsub { session, name, .. } => {

@@ -27,12 +27,10 @@ pub fn first<'a, I: Index>(
 ) -> Option<&'a Arc<Row>>
     requires filed { IsRegister register.now (I.rows index.now) }
     requires listed { AreOfList log.now.list (I.rows index.now) }
+    requires map { IsMap (I.rows index.now) }
     ensures first { option_map (λ row. arc_value row.now) result ≡ option_map (λ r. r.1) (find (wants wanted.entry) (I.rows index.now)) }
     ensures there { IfSome result (λ row. IsWantedRow wanted.entry (I.rows index.now) (arc_value row.now)) }
-    ensures map { IsMap (I.rows index.now) }
 {
-    // That the rows are a map comes to light at their number.
-    let _ = index.len();
     let mut from = 0;
     while let Some(id) = register.next(wanted, from) {
         let Some(row) = log.row(Id(id)) else {
@@ -94,6 +92,7 @@ pub fn remove_wanted<I: Index>(
 )
     requires filed { IsRegister register.old (I.rows index.old) }
     requires listed { AreOfList log.now.list (I.rows index.old) }
+    requires map { IsMap (I.rows index.old) }
     ensures rows { I.rows index.new ≡ filter (λ r. not (wants wanted.entry r)) (I.rows index.old) }
     ensures filed { IsRegister register.new (I.rows index.new) }
     ensures schema { I.schema index.new ≡ I.schema index.old }

@@ -25,8 +25,8 @@ impl<I: Index> Copy2<I> {
         ensures bound { IfOk result (λ cost. I.is_bounded self.now.index ≡ true → IsWithinBound (I.schema self.now.index) event.now (live_rows self.now.list) cost) }
     {
         let index = self.index();
-        // That ids rise comes to light at the number of rows.
-        let _ = index.len();
+        // That ids rise comes to light at the length of the list.
+        let _ = self.log().len();
         found.clear();
         let cost = index.find(event, found)?;
         found.order();
@@ -48,7 +48,7 @@ impl<I: Index> Copy2<I> {
         ensures none { OnErr result (found.new.rows ≡ []) }
     {
         let index = self.index();
-        let _ = index.len();
+        let _ = self.log().len();
         found.clear();
         index.rows_of(session, found)?;
         found.order();
@@ -61,7 +61,7 @@ impl<I: Index> Copy2<I> {
         ensures none { OnErr result (found.new.rows ≡ []) }
     {
         let index = self.index();
-        let _ = index.len();
+        let _ = self.log().len();
         found.clear();
         index.all(found)?;
         found.order();

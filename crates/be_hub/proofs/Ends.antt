@@ -10,7 +10,7 @@ use Rattle.be_mail.specs.Passes.{Passes}
 use Rattle.be_mail.specs.Settled.{AreAll}
 use Rattle.be_mail.proofs.Sums.{all_in_order}
 use Rattle.be_desk.specs.Seats.{SeatState, IsKeptSeat}
-use Rattle.be_hub.proofs.Jobs.{get_map}
+use Rattle.be_hub.proofs.Pairs.{get_map}
 
 pub there : {X : Type 0} (xs : List X) (i : ℕ) → i < length xs → (x : X) × (slice_get xs i ≡ Some x)
 there [] i h = absurd (omega arith)

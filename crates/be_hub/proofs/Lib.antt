@@ -1,8 +1,15 @@
 mod AtBoard
 mod Asking
 mod FilesServed
-pub mod Jobs
+pub mod Pairs
 pub mod Closing
 pub mod Ends
 mod Transcripts
-mod Served
+mod FilesClosed
+pub mod Places
+mod LinksServed
+mod LinksBegun
+mod LinksLegal
+pub mod WereRead
+mod DoorSettled
+mod DoorServed

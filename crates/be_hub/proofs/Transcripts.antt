@@ -59,7 +59,7 @@ on_by_none : (end : Option SessionEnd) (i j : ℕ) → is_on end ≡ true → en
 on_by_none None i j on is = absurd cc
 on_by_none (Some e) i j on is = absurd cc
 
-abbrev plain : Exchange → Bool
+abbrev pub plain : Exchange → Bool
 plain p = not (is_split p)
 
 on_is_plain : (p : Exchange) → goes_on p ≡ true → plain p ≡ true
@@ -69,13 +69,13 @@ quit_is_plain : (p : Exchange) → end_after p.0 p.1 ≡ Some Quit → plain p �
 quit_is_plain p by = not_split p.0 p.1 (λ i j is. absurd cc)
 
 -- where no reply ended the session, or the last one to a QUIT, none is a SPLIT
-all_plain : (ps : List Exchange) → list_all goes_on ps ≡ true → list_all plain ps ≡ true
+pub all_plain : (ps : List Exchange) → list_all goes_on ps ≡ true → list_all plain ps ≡ true
 all_plain [] on = refl
 all_plain (p ∷ ps) on =
     let parts = and_parts (goes_on p) (list_all goes_on ps) on in
     and_from (plain p) (list_all plain ps) (on_is_plain p parts.0) (all_plain ps parts.1)
 
-all_plain_last : (ps : List Exchange) (p : Exchange) → list_all goes_on ps ≡ true → end_after p.0 p.1 ≡ Some Quit → list_all plain (ps ++ p ∷ []) ≡ true
+pub all_plain_last : (ps : List Exchange) (p : Exchange) → list_all goes_on ps ≡ true → end_after p.0 p.1 ≡ Some Quit → list_all plain (ps ++ p ∷ []) ≡ true
 all_plain_last [] p on by = and_from (plain p) true (quit_is_plain p by) refl
 all_plain_last (q ∷ ps) p on by =
     let parts = and_parts (goes_on q) (list_all goes_on ps) on in
@@ -94,7 +94,7 @@ none_counted (p ∷ ps) few = go (is_shut p) few (none_counted ps)
 no_rise : (n before after : ℕ) → HasRisenBy n before after → after ≡ 0 → n ≡ 0
 no_rise n before after rise is = omega (arith, rise, is)
 
-shuts_only : (shuts : Bool) (ps : List Exchange) (before after : ℕ) → HasRisenBy (length (filter is_shut ps)) before after → (shuts ≡ false → after ≡ 0) → ShutsOnly shuts ps
+pub shuts_only : (shuts : Bool) (ps : List Exchange) (before after : ℕ) → HasRisenBy (length (filter is_shut ps)) before after → (shuts ≡ false → after ≡ 0) → ShutsOnly shuts ps
 shuts_only true ps before after rise quiet = tt
 shuts_only false ps before after rise quiet = none_counted ps (no_rise (length (filter is_shut ps)) before after rise (quiet refl))
 
@@ -154,7 +154,7 @@ own_session s file out seat seat' end p e f empty there =
     (All-contains (λ (q : ℕ × Entry). (session_of q.1 == seat.session) ≡ true) new (p, e) pass (subst (λ (l : List (ℕ × Entry)). Contains l (p, e)) is there))
 
 -- what ends a session by two numbers is a SPLIT
-is_split_of : (p : Exchange) (i j : ℕ) → end_after p.0 p.1 ≡ Some (Split i j) → is_split p ≡ true
+pub is_split_of : (p : Exchange) (i j : ℕ) → end_after p.0 p.1 ≡ Some (Split i j) → is_split p ≡ true
 is_split_of p i j by = go (ended_of p.0 p.1)
   where
     go : Ended p.0 p.1 → is_split p ≡ true
@@ -162,7 +162,7 @@ is_split_of p i j by = go (ended_of p.0 p.1)
     go (by_quit q e) = absurd cc
     go (by_none q e) = absurd cc
 
-some_counted : (ps : List Exchange) (p : Exchange) → is_split p ≡ true → 0 < length (filter is_split (ps ++ p ∷ []))
+pub some_counted : (ps : List Exchange) (p : Exchange) → is_split p ≡ true → 0 < length (filter is_split (ps ++ p ∷ []))
 some_counted [] p is = go (is_split p) is
   where
     go : (b : Bool) → b ≡ true → 0 < length (if b then p ∷ [] else [])

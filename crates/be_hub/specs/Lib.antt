@@ -2,3 +2,6 @@ pub mod Quiet
 pub mod Files
 pub mod Closing
 pub mod Transcripts
+pub mod Links
+pub mod Settling
+pub mod Serving

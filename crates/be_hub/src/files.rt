@@ -8,6 +8,7 @@ ghost use Rattle.be_hub.specs.Files.{FileServed};
 
 use crate::board::DeskBoard;
 use crate::hub::Hub;
+use crate::jobs::{Job, pairs_of};
 use crate::quiet::{FileSource, Transcript};
 use be_base::NoMemory;
 use be_desk::{Broom, Seat};
@@ -19,15 +20,6 @@ use std::alloc::{AllocError, Global};
 use std::sync::{MutexGuard, Wait};
 use std::thread;
 use std::thread::{Threads, join};
-
-/// A file and the seat that serves it.
-#[derive(Drop)]
-struct FileJob<T: Sheet<J>, J: Naming + BoxNames> {
-    seat: Seat<T, J>,
-    file: Vec<u8>,
-    // The worker's number, from 1.
-    worker: u32,
-}
 
 /// What a worker leaves of a file: its seat, what it wrote, and how the session ended.
 #[derive(Drop)]
@@ -50,16 +42,16 @@ fn serve_file<T: Sheet<J>, J: Naming + BoxNames, S: Post, R: Wait, G: Gate>(
     alloc: Global,
     hub: &Hub<T, J, S>,
     gate: &G,
-    job: FileJob<T, J>,
+    job: Job<T, J, Vec<u8>>,
 ) -> FileEnd<T, J>
     requires first { own_in (word_of job.seat) ≡ [] }
-    requires size { length job.file.items ≤ FILE_BYTES }
-    ensures { FileServed J.schema job.file.items job.seat result.seat result.transcript.items result.end }
+    requires size { length job.task.items ≤ FILE_BYTES }
+    ensures { FileServed J.schema job.task.items job.seat result.seat result.transcript.items result.end }
 {
-    let FileJob { seat, file, worker } = job;
+    let Job { seat, task, worker } = job;
     let mut board = DeskBoard::make(rt, hub, seat, Broom::make(), false);
     let mut link = Pair {
-        source: FileSource::make(alloc, file),
+        source: FileSource::make(alloc, task),
         sink: Transcript::make(alloc),
     };
     let end = serve_link(alloc, &hub.schema, &mut board, &mut link, gate, worker);
@@ -115,10 +107,10 @@ impl<T: Sheet<J> + Send + Sync, J: Naming + BoxNames + Send + Sync, S: Post + Se
         let (ends, broom) = join(
             rt,
             || -> Result<Vec<FileEnd<T, J>>, AllocError>
-                requires jobs { All (λ job. (own_in (word_of job.seat) ≡ []) × (length job.file.items ≤ FILE_BYTES)) jobs.items }
+                requires jobs { All (λ job. (own_in (word_of job.seat) ≡ []) × (length job.task.items ≤ FILE_BYTES)) jobs.items }
                 ensures count { IfOk result (λ ends. length ends.items ≡ length jobs.items) }
                 ensures ends { IfOk result (λ ends. (i : ℕ) (job : _) (end : _) → slice_get jobs.items i ≡ Some job → slice_get ends.items i ≡ Some end
-                    → FileServed J.schema job.file.items job.seat end.seat end.transcript.items end.end) }
+                    → FileServed J.schema job.task.items job.seat end.seat end.transcript.items end.end) }
             { self.serve_all(rt, alloc, jobs, gate) },
             || -> Broom
                 requires { rounds ≤ ROUNDS }
@@ -133,19 +125,19 @@ impl<T: Sheet<J> + Send + Sync, J: Naming + BoxNames + Send + Sync, S: Post + Se
         &self,
         rt: &R,
         alloc: Global,
-        jobs: Vec<FileJob<T, J>>,
+        jobs: Vec<Job<T, J, Vec<u8>>>,
         gate: &G,
     ) -> Result<Vec<FileEnd<T, J>>, AllocError>
-        requires jobs { All (λ job. (own_in (word_of job.seat) ≡ []) × (length job.file.items ≤ FILE_BYTES)) jobs.items }
+        requires jobs { All (λ job. (own_in (word_of job.seat) ≡ []) × (length job.task.items ≤ FILE_BYTES)) jobs.items }
         ensures count { IfOk result (λ ends. length ends.items ≡ length jobs.items) }
-        ensures ends { IfOk result (λ ends. (i : ℕ) (job : _) (end : _) → slice_get jobs.items i ≡ Some job → slice_get ends.items i ≡ Some end → FileServed J.schema job.file.items job.seat end.seat end.transcript.items end.end) }
+        ensures ends { IfOk result (λ ends. (i : ℕ) (job : _) (end : _) → slice_get jobs.items i ≡ Some job → slice_get ends.items i ≡ Some end → FileServed J.schema job.task.items job.seat end.seat end.transcript.items end.end) }
     {
         thread::map_vec(
             rt,
             jobs,
-            &|job: FileJob<T, J>| -> FileEnd<T, J>
-                requires { (own_in (word_of job.seat) ≡ []) × (length job.file.items ≤ FILE_BYTES) }
-                ensures { FileServed J.schema job.file.items job.seat result.seat result.transcript.items result.end }
+            &|job: Job<T, J, Vec<u8>>| -> FileEnd<T, J>
+                requires { (own_in (word_of job.seat) ≡ []) × (length job.task.items ≤ FILE_BYTES) }
+                ensures { FileServed J.schema job.task.items job.seat result.seat result.transcript.items result.end }
             { serve_file(rt, alloc, self, gate, job) },
         )
     }
@@ -156,37 +148,14 @@ fn jobs_of<T: Sheet<J>, J: Naming + BoxNames>(
     alloc: Global,
     seats: Vec<Seat<T, J>>,
     files: Vec<Vec<u8>>,
-) -> Result<Vec<FileJob<T, J>>, NoMemory>
+) -> Result<Vec<Job<T, J, Vec<u8>>>, NoMemory>
     requires count { length seats.items ≡ length files.items }
     requires first { All (λ seat. own_in (word_of seat) ≡ []) seats.items }
     requires size { All (λ file. length file.items ≤ FILE_BYTES) files.items }
     ensures seats { IfOk result (λ jobs. map (λ job. job.seat) jobs.items ≡ seats.items) }
-    ensures files { IfOk result (λ jobs. map (λ job. job.file) jobs.items ≡ files.items) }
-    ensures may { IfOk result (λ jobs. All (λ job. (own_in (word_of job.seat) ≡ []) × (length job.file.items ≤ FILE_BYTES)) jobs.items) }
+    ensures files { IfOk result (λ jobs. map (λ job. job.task) jobs.items ≡ files.items) }
+    ensures may { IfOk result (λ jobs. All (λ job. (own_in (word_of job.seat) ≡ []) × (length job.task.items ≤ FILE_BYTES)) jobs.items) }
 {
     let jobs = pairs_of(alloc, seats, files)?;
-    Ok(jobs)
-}
-
-// Each seat with its file.
-fn pairs_of<T: Sheet<J>, J: Naming + BoxNames>(
-    alloc: Global,
-    seats: Vec<Seat<T, J>>,
-    files: Vec<Vec<u8>>,
-) -> Result<Vec<FileJob<T, J>>, NoMemory>
-    requires { length seats.items ≡ length files.items }
-    ensures seats { IfOk result (λ jobs. map (λ job. job.seat) jobs.items ≡ seats.items) }
-    ensures files { IfOk result (λ jobs. map (λ job. job.file) jobs.items ≡ files.items) }
-{
-    let mut jobs = Vec::new(alloc);
-    let mut worker: u32 = 0;
-    let mut files = files.into_iter();
-    for seat in seats {
-        let Some(file) = files.next() else {
-            unreachable!();
-        };
-        worker = worker.saturating_add(1);
-        jobs.push(FileJob { seat, file, worker })?;
-    }
     Ok(jobs)
 }

@@ -1,6 +1,6 @@
 //! The search for the rows that an event satisfies.
 
-ghost use Rattle.std.specs.Prelude.{◌≡◌, ◌++◌, ◌∷◌, [], true, OnOk, OnErr, IfOk};
+ghost use Rattle.std.specs.Prelude.{◌≡◌, ◌++◌, ◌∷◌, [], true, slice_get, Some, OnOk, OnErr, IfOk};
 ghost use Rattle.std.specs.Arc.{arc_value};
 ghost use Rattle.be_shape.specs.Plain.{plain, parts_as, half_as, part_as, parts_of};
 ghost use Rattle.be_shape.specs.Ranges.{is_bounded, is_rising};
@@ -108,19 +108,27 @@ fn search_leaf(leaf: &Leaf, e: &Event, found: &mut Found) -> Result<(), NoMemory
     ensures room { KeepsRoom found.old found.new }
 {
     for place in 0..leaf.len() {
-        test(leaf.row(place), e, found)?;
+        test(leaf, place, leaf.row(place), e, found)?;
     }
     Ok(())
 }
 
-// Appends the row where the event satisfies it.
-fn test(row: &Arc<Row>, e: &Event, found: &mut Found) -> Result<(), NoMemory>
+// Appends the row at a place where the event satisfies it.
+#[tactic(auto, using(std::proofs::lemmas::Option::slice_get_within))]
+fn test(
+    leaf: &Leaf,
+    place: usize,
+    row: &Arc<Row>,
+    e: &Event,
+    found: &mut Found,
+) -> Result<(), NoMemory>
+    requires { slice_get leaf.now place ≡ Some (arc_value row.now) }
     ensures put { OnOk result (found.new.rows ≡ found.old.rows ++ satisfied e.now (arc_value row.now ∷ [])) }
     ensures refused { OnErr result (FindsSome e.now (arc_value row.now ∷ [])) }
     ensures front { BeginsWith found.new.rows found.old.rows }
     ensures room { KeepsRoom found.old found.new }
 {
-    if row.conj.satisfied_by(e) {
+    if leaf.is_met(place, e) {
         found.reserve(1)?;
         found.push_again(row)?;
     }

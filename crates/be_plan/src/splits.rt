@@ -1,18 +1,20 @@
 //! The first splits at a node.
 
-ghost use Rattle.std.specs.Prelude.{◌≡◌, ◌≤◌, ◌-◌, ◌||◌, true, not, length, nat_le};
+ghost use Rattle.std.specs.Prelude.{◌≡◌, ◌≤◌, ◌-◌, ◌||◌, true, not, length, nat_le, slice_get, Some};
 ghost use Rattle.std.specs.List.{list_all};
 ghost use Rattle.be_base.specs.declared.limits.TheConstants.{EARLY_ROWS, LEAF_ROWS};
 ghost use Rattle.be_model.specs.Lies.{row_lies};
 ghost use Rattle.be_shape.specs.Shape.{is_stuck};
 ghost use Rattle.be_shape.specs.Ranges.{is_bounded, is_rising};
 ghost use Rattle.be_shape.specs.Spots.{known_of};
+ghost use Rattle.be_shape.specs.Listed.{any_listed};
+ghost use Rattle.be_model.specs.Schemas.{numbered};
 ghost use Rattle.be_plan.specs.Splits.{enough_pass, enough_share, is_shared, any_is_shared, early_part, early_half};
 
 use be_base::{AttrNo, EARLY_ROWS, LEAF_ROWS};
-use be_model::{Hop, Pred, Schema};
+use be_model::{Hop, Pred, Row, Schema};
 use be_score::pick_attr;
-use be_shape::{Leaf, NodeRange, Spot, can_split, is_used, may_pass};
+use be_shape::{Leaf, NodeRange, RowAttrs, Spot, can_split, is_used, may_pass_at};
 
 // How many rows of the leaf may fail a test that at least 8 are to pass.
 fn spare_rows(leaf: &Leaf) -> usize
@@ -32,7 +34,7 @@ fn enough_pass(leaf: &Leaf, s: &Schema, hop: Hop, range: NodeRange) -> bool
 {
     let mut spare = spare_rows(leaf);
     for place in 0..leaf.len() {
-        if !may_pass(leaf.row(place), s, hop, range) {
+        if !may_pass_at(leaf, place, leaf.row(place), s, hop, range) {
             if spare == 0 {
                 return false;
             }
@@ -65,6 +67,69 @@ fn is_shared(preds: &[Pred], leaf: &Leaf, s: &Schema, k: &Spot) -> bool
     false
 }
 
+// Whether the attribute of this number isn't used, and at least 8 rows of the leaf have it.
+fn shares_one(x: u8, leaf: &Leaf, s: &Schema, k: &Spot) -> bool
+    requires lie { list_all (row_lies s.now) leaf.now ≡ true }
+    requires many { EARLY_ROWS ≤ length leaf.now }
+    ensures { result ≡ enough_share (known_of k.now).used leaf.now (numbered x) }
+{
+    enough_share(AttrNo(u16::from(x)), leaf, s, k)
+}
+
+fn shares_two(x: u8, y: u8, leaf: &Leaf, s: &Schema, k: &Spot) -> bool
+    requires lie { list_all (row_lies s.now) leaf.now ≡ true }
+    requires many { EARLY_ROWS ≤ length leaf.now }
+    ensures { result ≡ (enough_share (known_of k.now).used leaf.now (numbered x) || enough_share (known_of k.now).used leaf.now (numbered y)) }
+{
+    if shares_one(x, leaf, s, k) {
+        return true;
+    }
+    shares_one(y, leaf, s, k)
+}
+
+fn shares_three(x: u8, y: u8, z: u8, leaf: &Leaf, s: &Schema, k: &Spot) -> bool
+    requires lie { list_all (row_lies s.now) leaf.now ≡ true }
+    requires many { EARLY_ROWS ≤ length leaf.now }
+    ensures { result ≡ (enough_share (known_of k.now).used leaf.now (numbered x) || enough_share (known_of k.now).used leaf.now (numbered y) || enough_share (known_of k.now).used leaf.now (numbered z)) }
+{
+    if shares_two(x, y, leaf, s, k) {
+        return true;
+    }
+    shares_one(z, leaf, s, k)
+}
+
+// Whether that holds of one of the attributes.
+fn shares_any(attrs: RowAttrs, leaf: &Leaf, s: &Schema, k: &Spot) -> bool
+    requires lie { list_all (row_lies s.now) leaf.now ≡ true }
+    requires many { EARLY_ROWS ≤ length leaf.now }
+    ensures { result ≡ any_listed (enough_share (known_of k.now).used leaf.now) attrs }
+{
+    match attrs {
+        RowAttrs::Zero => false,
+        RowAttrs::One(x) => shares_one(x, leaf, s, k),
+        RowAttrs::Two(x, y) => shares_two(x, y, leaf, s, k),
+        RowAttrs::Three(x, y, z) => shares_three(x, y, z, leaf, s, k),
+        RowAttrs::Many => false,
+    }
+}
+
+// Whether at least 8 rows of the leaf have an attribute of the row, which stands at this place, that isn't used. A row of few
+// attributes isn't looked at.
+#[tactic(auto, using(be_shape::proofs::FewAttrs::any_is_listed, std::proofs::lemmas::Option::slice_get_within))]
+fn is_row_shared(place: usize, row: &Row, leaf: &Leaf, s: &Schema, k: &Spot) -> bool
+    requires at { slice_get leaf.now place ≡ Some row.now }
+    requires lie { list_all (row_lies s.now) leaf.now ≡ true }
+    requires many { EARLY_ROWS ≤ length leaf.now }
+    ensures { result ≡ is_shared (known_of k.now).used leaf.now row.now.conj }
+{
+    let attrs = leaf.attrs(place);
+    if attrs.is_many() {
+        is_shared(row.conj.preds(), leaf, s, k)
+    } else {
+        shares_any(attrs, leaf, s, k)
+    }
+}
+
 // Whether at least 8 rows of the leaf have some attribute that isn't used. Of 8 rows one is among all but the last 7.
 fn any_is_shared(leaf: &Leaf, s: &Schema, k: &Spot) -> bool
     requires lie { list_all (row_lies s.now) leaf.now ≡ true }
@@ -72,7 +137,7 @@ fn any_is_shared(leaf: &Leaf, s: &Schema, k: &Spot) -> bool
     ensures { result ≡ any_is_shared (known_of k.now).used leaf.now }
 {
     for place in 0..leaf.len() - (EARLY_ROWS - 1) {
-        if is_shared(leaf.row(place).conj.preds(), leaf, s, k) {
+        if is_row_shared(place, leaf.row(place), leaf, s, k) {
             return true;
         }
     }

@@ -1,6 +1,6 @@
 //! A row of a leaf, and children that are left without rows.
 
-ghost use Rattle.std.specs.Prelude.{◌≡◌, ◌<◌, ◌∷◌, length, slice_get, Some, IsPermutation, IfSome, OnSome, IfNone};
+ghost use Rattle.std.specs.Prelude.{◌≡◌, ◌<◌, ◌∷◌, length, IsPermutation, IfSome, OnSome, IfNone};
 ghost use Rattle.std.specs.List.{Contains};
 ghost use Rattle.std.specs.Arc.{arc_value};
 ghost use Rattle.be_shape.specs.Plain.{parts_as, half_as};
@@ -10,19 +10,6 @@ use be_model::Row;
 use be_shape::{Leaf, Node, Part};
 use std::sync::Arc;
 
-// Where the leaf has the row.
-fn place_of(leaf: &Leaf, row: &Row) -> Option<usize>
-    ensures found { IfSome result (λ place. slice_get leaf.now place ≡ Some row.now) }
-    ensures none { IfNone result (Contains leaf.now row.now → ⊥) }
-{
-    for place in 0..leaf.len() {
-        if leaf.row(place).same_as(row) {
-            return Some(place);
-        }
-    }
-    None
-}
-
 /// Takes the row out of the leaf.
 pub(crate) fn take_row(leaf: &mut Leaf, row: &Row) -> Option<Arc<Row>>
     ensures same { IfSome result (λ r. arc_value r ≡ row.now) }
@@ -30,8 +17,8 @@ pub(crate) fn take_row(leaf: &mut Leaf, row: &Row) -> Option<Arc<Row>>
     ensures none { IfNone result (leaf.new ≡ leaf.old) }
     ensures lacks { IfNone result (Contains leaf.old row.now → ⊥) }
 {
-    let place = place_of(leaf, row)?;
-    Some(leaf.take(place))
+    let place = leaf.place_of(row)?;
+    Some(leaf.pull(place))
 }
 
 /// Drops the half where it is bare.

@@ -31,9 +31,9 @@ use Rattle.be_io.proofs.WroteLemmas.{Wrote-append, Wrote-cut, Wrote-nil}
 use Rattle.be_model.specs.declared.changes.Row.{Row}
 use Rattle.be_model.specs.Schemas.{Attributes}
 use Rattle.be_server.specs.declared.status.Status.{Status}
-use Rattle.be_server.specs.declared.status.Status.TheVariants.{Done, Words, SchemaBad, LoadBad, NoMemory, ReadFault, LongFile, WriteFault, Spent, Split, Stray, Shut}
+use Rattle.be_server.specs.declared.status.Status.TheVariants.{Done, Words, SchemaBad, LoadBad, FeedBad, NoMemory, ReadFault, LongFile, WriteFault, Spent, Split, Stray, Shut}
 use Rattle.be_server.specs.Files.{ToldFile, RunFiles, run_files, FileReads, FileIsLong, IsSchemaOf, AreRowsOf, LoadsRun, AsksFor}
-use Rattle.be_server.specs.Drills.{ToldFiles, AreScripts, Holds, FirstIsLong, SomeIsLong, LoadsScripts, LoadsDrill, under, headed, log_lines, drill_text, Printed, RunsDrill, RanDrill, DrillEnds}
+use Rattle.be_server.specs.Drills.{ToldFiles, AreScripts, Holds, FirstIsLong, SomeIsLong, LoadsScripts, LoadsDrill, under, headed, log_lines, drill_text, Printed, EndsAfter, RunsDrill, RanDrill, DrillEnds}
 
 -- the files are good, and the sessions ended so
 pub drill_ran : (Kept : Type 0) (files : ToldFiles) (shelf shelf' : ℕ) (before after : SinkState) (s : Attributes) (rows : List Row) (scripts : List Text) (status : Status) → shelf' ≡ shelf → Holds files s rows scripts
@@ -53,6 +53,7 @@ drill_ran K files shelf shelf' before after s rows scripts status quiet good run
     go Words r = absurd r
     go (SchemaBad line kind) r = absurd r
     go (LoadBad line kind) r = absurd r
+    go (FeedBad line kind) r = absurd r
     go ReadFault r = absurd r
     go LongFile r = absurd r
     go Spent r = absurd r
@@ -65,6 +66,7 @@ drill_refused K files shelf shelf' before after NoMemory k l = (l, inl k)
 drill_refused K files shelf shelf' before after (SchemaBad line kind) k l = (l.0, k, l.1)
 drill_refused K files shelf shelf' before after (LoadBad line kind) k l = (l.0, k, l.1)
 drill_refused K files shelf shelf' before after Done k l = absurd l
+drill_refused K files shelf shelf' before after (FeedBad line kind) k l = absurd l
 drill_refused K files shelf shelf' before after Words k l = absurd l
 drill_refused K files shelf shelf' before after WriteFault k l = absurd l
 drill_refused K files shelf shelf' before after Spent k l = absurd l
@@ -80,6 +82,7 @@ run_files_refused files f f' NoMemory l = l
 run_files_refused files f f' (SchemaBad line kind) l = l
 run_files_refused files f f' (LoadBad line kind) l = l
 run_files_refused files f f' Done l = absurd l
+run_files_refused files f f' (FeedBad line kind) l = absurd l
 run_files_refused files f f' Words l = absurd l
 run_files_refused files f f' WriteFault l = absurd l
 run_files_refused files f f' Spent l = absurd l
@@ -98,6 +101,7 @@ scripts_refused files f f' f'' s rows status quiet is are l = go status (subst (
     go NoMemory m = m
     go (SchemaBad line kind) m = absurd m
     go (LoadBad line kind) m = absurd m
+    go (FeedBad line kind) m = absurd m
     go Done m = absurd m
     go Words m = absurd m
     go WriteFault m = absurd m
@@ -199,14 +203,36 @@ script_read content front name script scripts are holds short =
     told_of (Some None) h = absurd h
     told_of (Some (Some bytes)) h = (subst (λ (x : List ℕ). length x ≤ FILE_BYTES) h short, sym h)
 
--- a fault of the output, with a beginning of the text written
-pub drill_failed : (Kept : Type 0) (s : Attributes) (rows : List Row) (scripts : List Text) (shuts : Bool) (list : List Entry) (transcripts : List Text) (before after : SinkState) (fault : SinkFault) (status : Status)
-    → AreServed s (opening_of rows) list shuts scripts transcripts → Wrote before after (drill_text s transcripts list) (Err fault) → status ≡ status_written (Err fault) → RunsDrill Kept s rows scripts before after status
-drill_failed K s rows scripts shuts list transcripts before after fault status served wrote is = subst (RunsDrill K s rows scripts before after) (sym is) (go fault wrote)
+-- a fault of the output
+pub output_failed : (P : Result (Unit {0}) SinkFault → Type 0) (shuts : Bool) (fault : SinkFault) (status : Status) → P (Err fault) → status ≡ status_written (Err fault) → EndsAfter P shuts status
+output_failed P shuts fault status failed is = subst (EndsAfter P shuts) (sym is) (go fault failed)
   where
-    go : (f : SinkFault) → Wrote before after (drill_text s transcripts list) (Err f) → RunsDrill K s rows scripts before after (status_written (Err f))
-    go sink.Failed w = (shuts, record { list = list; transcripts = transcripts; served = served; written = w })
-    go sink.NoMemory w = inr (shuts, record { list = list; transcripts = transcripts; served = served; written = w })
+    go : (f : SinkFault) → P (Err f) → EndsAfter P shuts (status_written (Err f))
+    go sink.Failed p = p
+    go sink.NoMemory p = p
+
+-- what was printed, by how the output ended
+pub drill_ended : (Kept : Type 0) (s : Attributes) (rows : List Row) (scripts : List Text) (shuts : Bool) (list : List Entry) (transcripts : List Text) (before after : SinkState) (status : Status)
+    → AreServed s (opening_of rows) list shuts scripts transcripts → EndsAfter (Wrote before after (drill_text s transcripts list)) shuts status → RunsDrill Kept s rows scripts before after status
+drill_ended K s rows scripts shuts list transcripts before after status served ends = go status ends
+  where
+    served_as : (b : Bool) → shuts ≡ b → AreServed s (opening_of rows) list b scripts transcripts
+    served_as b is = subst (λ (x : Bool). AreServed s (opening_of rows) list x scripts transcripts) is served
+
+    go : (x : Status) → EndsAfter (Wrote before after (drill_text s transcripts list)) shuts x → RunsDrill K s rows scripts before after x
+    go Done e = record { list = list; transcripts = transcripts; served = served_as false e.0; written = e.1 }
+    go (Shut shade) e = record { list = list; transcripts = transcripts; served = served_as true e.0; written = e.1 }
+    go WriteFault e = (shuts, record { list = list; transcripts = transcripts; served = served; written = e })
+    go NoMemory e = inr (shuts, record { list = list; transcripts = transcripts; served = served; written = e })
+    go Words e = absurd e
+    go (SchemaBad line kind) e = absurd e
+    go (LoadBad line kind) e = absurd e
+    go (FeedBad line kind) e = absurd e
+    go ReadFault e = absurd e
+    go LongFile e = absurd e
+    go Spent e = absurd e
+    go (Split rift) e = absurd e
+    go (Stray stray) e = absurd e
 
 -- one more transcript behind a text
 pub headed_next : (text : Text) (n : ℕ) (t : Text) (ts : List Text) (whole : Text) → text ++ headed n (t ∷ ts) ≡ whole → (text ++ under n t) ++ headed (n + 1) ts ≡ whole

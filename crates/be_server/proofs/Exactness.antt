@@ -2,6 +2,8 @@
 use Rattle.std.proofs.Common.{◌≡◌, ◌⊎◌, inl, inr, ℕ, ◌<◌, ◌≤◌, List, [], ◌∷◌, length, map, Option, Some, None, Result, Ok, Err, refl, sym, subst, ◌∙◌, arith}
 use Rattle.be_base.specs.Text.{Text}
 use Rattle.be_base.specs.declared.limits.TheConstants.{FILE_BYTES}
+use Rattle.be_door.specs.Door.{DoorState}
+use Rattle.be_io.specs.Outside.{LinkState}
 use Rattle.be_event.specs.declared.schema_texts.SchemaFault.{SchemaFault}
 use Rattle.be_event.specs.declared.schema_texts.SchemaFault.TheVariants as schema
 use Rattle.be_event.specs.declared.schema_texts.SchemaKind.{SchemaKind}
@@ -14,63 +16,22 @@ use Rattle.be_model.specs.Schemas.{Attributes}
 use Rattle.be_table.specs.declared.faults.TableFault.TheVariants as table
 use Rattle.be_table.specs.declared.faults.TableKind.{TableKind}
 use Rattle.be_table.specs.Tables.{table_of}
-use Rattle.be_words.specs.Words.{Request, run, gen, cover, drill}
+use Rattle.be_words.specs.Words.{Request, run, gen, cover, drill, serve, heat, follow}
 use Rattle.be_server.specs.declared.status.Status.{Status}
-use Rattle.be_server.specs.declared.status.Status.TheVariants.{Done, Words, SchemaBad, LoadBad, NoMemory, ReadFault, LongFile, WriteFault, Spent, Split, Stray, Shut}
+use Rattle.be_server.specs.declared.status.Status.TheVariants.{Done, Words, SchemaBad, LoadBad, FeedBad, NoMemory, ReadFault, LongFile, WriteFault, Spent, Split, Stray, Shut}
 use Rattle.be_server.specs.Exact.{IsFaultless, FileIsRefused, ToldAs, ToldLong, LoadIsGood, SchemaDecides, LoadDecides, AllIsDone, EndsDrill, ScriptDecides, ScriptsDecide, IsExact, EndsExactly}
 use Rattle.be_server.specs.Files.{ToldFile, RunFiles, run_files, FileReads, FileIsLong, IsSchemaOf, IfLoads, TableReads, AreRowsOf, SchemaIsBad, LoadIsBad, OneIsLong}
 use Rattle.be_server.specs.Covers.{CoverEnds}
-use Rattle.be_server.specs.Drills.{ToldFiles, AreScripts, FirstIsLong, SomeIsLong, RanDrill, drill_files, DrillEnds}
+use Rattle.be_server.specs.Drills.{ToldFiles, AreScripts, FirstIsLong, SomeIsLong, Holds, RanDrill, drill_files, DrillEnds}
 use Rattle.be_server.specs.Generated.{GenEnds}
-use Rattle.be_server.specs.Promise.{CommandState, RunEnds, Ends}
-
--- what is told of a file
-told : (file : ToldFile) (text : List ℕ) (P : List ℕ → Type 0) → file ≡ Some (Some text) → HoldsFile file P → P text
-told file text P e h = subst (λ (o : ToldFile). HoldsFile o P) e h
-
-gone : (file : ToldFile) (P : List ℕ → Type 0) → file ≡ Some None → HoldsFile file P → ⊥
-gone file P e h = subst (λ (o : ToldFile). HoldsFile o P) e h
-
-too_long : (text : List ℕ) → length text ≤ FILE_BYTES → FILE_BYTES < length text → ⊥
-too_long text a b = omega arith
-
--- a file is read as one thing
-one_reading : {A : Type 0} (reader : List ℕ → A) (file : ToldFile) (a b : A) → FileReads reader file a → ToldAs reader file b → a ≡ b
-one_reading reader file a b f t =
-    let read = told file t.0 (λ x. (length x ≤ FILE_BYTES) × (reader x ≡ a)) t.1 f in
-    sym read.1 ∙ t.3
-
-not_long : {A : Type 0} (reader : List ℕ → A) (file : ToldFile) (a : A) → FileReads reader file a → ToldLong file → ⊥
-not_long reader file a f t =
-    let read = told file t.0 (λ x. (length x ≤ FILE_BYTES) × (reader x ≡ a)) t.1 f in
-    too_long t.0 read.0 t.2
-
-not_gone : {A : Type 0} (reader : List ℕ → A) (file : ToldFile) (a : A) → FileReads reader file a → file ≡ Some None → ⊥
-not_gone reader file a f none = gone file (λ x. (length x ≤ FILE_BYTES) × (reader x ≡ a)) none f
-
-not_short : {A : Type 0} (reader : List ℕ → A) (file : ToldFile) (a : A) → FileIsLong file → ToldAs reader file a → ⊥
-not_short reader file a f t = too_long t.0 t.2 (told file t.0 (λ x. FILE_BYTES < length x) t.1 f)
-
-long_stays : (file : ToldFile) → FileIsLong file → file ≡ Some None → ⊥
-long_stays file f none = gone file (λ x. FILE_BYTES < length x) none f
-
--- one schema
-same_schema : (file : ToldFile) (s t : Attributes) → FileReads schema_of file (Ok s) → ToldAs schema_of file (Ok t) → s ≡ t
-same_schema file s t f told_as = let e : Ok s ≡ Ok t = one_reading schema_of file (Ok s) (Ok t) f told_as in cc
-
-schema_good : (file : ToldFile) (s : Attributes) (before after : CommandState) (status : Status) → FileReads schema_of file (Ok s) → SchemaDecides file before after status
-schema_good file s before after status f = record {
-  bad = λ line kind t. let clash : Ok s ≡ Err (schema.Line line kind) = one_reading schema_of file (Ok s) (Err (schema.Line line kind)) f t in absurd cc;
-  long = λ t. absurd (not_long schema_of file (Ok s) f t);
-  missing = λ none. absurd (not_gone schema_of file (Ok s) f none);
-}
-
-load_good : (s : Attributes) (file : ToldFile) (rows : List Row) (before after : CommandState) (status : Status) → FileReads (table_of s) file (Ok rows) → LoadDecides s file before after status
-load_good s file rows before after status f = record {
-  bad = λ line kind t. let clash : Ok rows ≡ Err (table.Line line kind) = one_reading (table_of s) file (Ok rows) (Err (table.Line line kind)) f t in absurd cc;
-  long = λ t. absurd (not_long (table_of s) file (Ok rows) f t);
-  missing = λ none. absurd (not_gone (table_of s) file (Ok rows) f none);
-}
+use Rattle.be_server.specs.Promise.{CommandState, RunEnds}
+use Rattle.be_server.specs.Commands.{Ends}
+use Rattle.be_server.specs.Follows.{follow_files}
+use Rattle.be_server.specs.Heats.{RanHeat, HeatEnds}
+use Rattle.be_server.specs.Serves.{AreQuiet, EndsServe, RanServe, ServeEnds}
+use Rattle.be_server.proofs.ServeEnded.{serve_quiet}
+use Rattle.be_server.proofs.FollowExact.{exact_follow, follow_refused}
+use Rattle.be_server.proofs.ToldFiles.{told, gone, too_long, one_reading, not_long, not_gone, not_short, long_stays, same_schema, schema_good, load_good}
 
 -- the rows of a load file that is named
 rows_named : (s : Attributes) (load : Option ToldFile) (file : ToldFile) (rows : List Row) → AreRowsOf s load rows → load ≡ Some file → FileReads (table_of s) file (Ok rows)
@@ -168,6 +129,7 @@ exact_run : (Untouched : Type 0) (files : RunFiles) (before after : CommandState
 exact_run U files before after Done (_, inl r) = exact_served files before after Done r.schema r.rows r.is_schema r.are_rows (λ quiet. inl refl)
 exact_run U files before after Done (_, inr r) = exact_served files before after Done r.schema r.rows r.is_schema r.are_rows (λ quiet. inl refl)
 exact_run U files before after Words r = absurd r
+exact_run U files before after (FeedBad l k) r = absurd r
 exact_run U files before after (SchemaBad l k) r = exact_schema_bad files before after l k r.2
 exact_run U files before after (LoadBad l k) r = exact_load_bad files before after l k r.2
 exact_run U files before after NoMemory r = exact_refused files before after NoMemory (inr (refl, r.0)) (λ quiet. inr refl)
@@ -227,10 +189,18 @@ scripts_long (file ∷ files) before after (inr f) =
     (script_good file f.0 before after LongFile f.1, λ text told_as. scripts_long files before after f.2)
 
 -- where the files are good
+exact_held : (files : ToldFiles) (before after : CommandState) (status : Status) (s : Attributes) (rows : List Row) (scripts : List (List ℕ)) → Holds files s rows scripts → (IsFaultless before after → EndsDrill status)
+    → IsExact files.run before after status (ScriptsDecide files.scripts before after status)
+exact_held files before after status s rows scripts good ends =
+    exact_served files.run before after status s rows good.is_schema good.are_rows (scripts_good files.scripts scripts before after status good.are_scripts ends)
+
 exact_ran : (Kept : Type 0) (files : ToldFiles) (before after : CommandState) (status : Status) → RanDrill Kept files before.link.sink after.link.sink status → (IsFaultless before after → EndsDrill status)
     → IsExact files.run before after status (ScriptsDecide files.scripts before after status)
-exact_ran K files before after status r ends =
-    exact_served files.run before after status r.schema r.rows r.good.is_schema r.good.are_rows (scripts_good files.scripts r.scripts before after status r.good.are_scripts ends)
+exact_ran K files before after status r ends = exact_held files before after status r.schema r.rows r.scripts r.good ends
+
+exact_counted : (Kept : Type 0) (files : ToldFiles) (before after : CommandState) (status : Status) → RanHeat Kept files before.link.sink after.link.sink status → (IsFaultless before after → EndsDrill status)
+    → IsExact files.run before after status (ScriptsDecide files.scripts before after status)
+exact_counted K files before after status r ends = exact_held files before after status r.schema r.rows r.scripts r.good ends
 
 exact_drill_long : (files : ToldFiles) (before after : CommandState) → SomeIsLong files → IsExact files.run before after LongFile (ScriptsDecide files.scripts before after LongFile)
 exact_drill_long files before after (inl long) = exact_long files.run before after long
@@ -240,6 +210,7 @@ exact_drill : (Kept : Type 0) (files : ToldFiles) (before after : CommandState) 
     → IsExact files.run before after status (ScriptsDecide files.scripts before after status)
 exact_drill K files before after Done r = exact_ran K files before after Done r.1 (λ quiet. tt)
 exact_drill K files before after Words r = absurd r.1.runs
+exact_drill K files before after (FeedBad l k) r = absurd r.1.runs
 exact_drill K files before after (SchemaBad l k) r = exact_schema_bad files.run before after l k r.2
 exact_drill K files before after (LoadBad l k) r = exact_load_bad files.run before after l k r.2
 exact_drill K files before after NoMemory r = exact_refused files.run before after NoMemory (inr (refl, r.0)) (scripts_refused files.scripts before after NoMemory (inr (refl, r.0)) (λ quiet. tt))
@@ -251,19 +222,69 @@ exact_drill K files before after (Split rift) r = exact_ran K files before after
 exact_drill K files before after (Stray stray) r = exact_ran K files before after (Stray stray) r.1 (λ quiet. tt)
 exact_drill K files before after (Shut shade) r = exact_ran K files before after (Shut shade) r.1 (λ quiet. tt)
 
-pub exact_ends : (c : Option Request) (InputKept OutKept : Type 0) (content : Text → ToldFile) (before after : CommandState) (status : Status)
-    → Ends c InputKept OutKept content before after status → EndsExactly c content before after status
-exact_ends None I O content before after status e = tt
-exact_ends (Some (run schema load)) I O content before after status e = exact_run (I × O) (run_files content schema load) before after status e
-exact_ends (Some (gen number subs events)) I O content before after status e = exact_gen O number subs events before.link.sink after.link.sink status e.2
-exact_ends (Some (cover schema file name)) I O content before after status e = exact_cover O (run_files content schema (Some file)) name before after status e.1
-exact_ends (Some (drill schema load rounds files)) I O content before after status e = exact_drill O (drill_files content schema load files) before after status e.1
+exact_heat : (Kept : Type 0) (files : ToldFiles) (before after : CommandState) (status : Status) → HeatEnds Kept files before.shelf after.shelf before.link.sink after.link.sink status
+    → IsExact files.run before after status (ScriptsDecide files.scripts before after status)
+exact_heat K files before after Done r = exact_counted K files before after Done r.1 (λ quiet. tt)
+exact_heat K files before after Words r = absurd r.1.runs
+exact_heat K files before after (SchemaBad l k) r = exact_schema_bad files.run before after l k r.2
+exact_heat K files before after (LoadBad l k) r = exact_load_bad files.run before after l k r.2
+exact_heat K files before after (FeedBad l k) r = absurd r.1.runs
+exact_heat K files before after NoMemory r = exact_refused files.run before after NoMemory (inr (refl, r.0)) (scripts_refused files.scripts before after NoMemory (inr (refl, r.0)) (λ quiet. tt))
+exact_heat K files before after ReadFault r = exact_refused files.run before after ReadFault (inl (refl, r.0)) (scripts_refused files.scripts before after ReadFault (inl (refl, r.0)) (λ quiet. absurd (quiet.shelf r.0)))
+exact_heat K files before after LongFile r = exact_drill_long files before after r.2
+exact_heat K files before after WriteFault r = exact_counted K files before after WriteFault r.1 (λ quiet. absurd (quiet.sink r.1.runs.1.written.1))
+exact_heat K files before after Spent r = absurd r.1.runs
+exact_heat K files before after (Split rift) r = exact_counted K files before after (Split rift) r.1 (λ quiet. tt)
+exact_heat K files before after (Stray stray) r = exact_counted K files before after (Stray stray) r.1 (λ quiet. tt)
+exact_heat K files before after (Shut shade) r = exact_counted K files before after (Shut shade) r.1 (λ quiet. tt)
+
+module _ {L : Type 0} (told : L → LinkState) (door door' : DoorState L) where
+  abbrev Due : CommandState → CommandState → Status → Type 0
+  Due before after status = IsFaultless before after → AreQuiet door door' before.link.sink after.link.sink → EndsServe status
+
+  exact_ran_serve : (Kept : Type 0) (files : RunFiles) (port seats links : ℕ) (before after : CommandState) (status : Status)
+      → RanServe told Kept files port seats links door door' before.link.sink after.link.sink status → IsExact files before after status (Due before after status)
+  exact_ran_serve K files port seats links before after status r =
+      exact_served files before after status r.schema r.rows r.is_schema r.are_rows
+      (λ quiet sound. serve_quiet told K r.schema r.rows port seats links door door' before.link.sink after.link.sink status r.runs sound)
+
+  exact_serve : (Kept : Type 0) (files : RunFiles) (port seats links : ℕ) (before after : CommandState) (status : Status)
+      → ServeEnds told Kept files port seats links before.shelf after.shelf door door' before.link.sink after.link.sink status → IsExact files before after status (Due before after status)
+  exact_serve K files port seats links before after (SchemaBad l k) r = exact_schema_bad files before after l k r.3
+  exact_serve K files port seats links before after (LoadBad l k) r = exact_load_bad files before after l k r.3
+  exact_serve K files port seats links before after (FeedBad l k) r = exact_ran_serve K files port seats links before after (FeedBad l k) r.1
+  exact_serve K files port seats links before after NoMemory r = exact_refused files before after NoMemory (inr (refl, r.0)) (λ quiet sound. tt)
+  exact_serve K files port seats links before after ReadFault (inl r) = exact_refused files before after ReadFault (inl (refl, r.0)) (λ quiet sound. absurd (quiet.shelf r.0))
+  exact_serve K files port seats links before after ReadFault (inr r) = exact_ran_serve K files port seats links before after ReadFault r.1
+  exact_serve K files port seats links before after LongFile r = exact_long files before after r.3
+  exact_serve K files port seats links before after Done r = exact_ran_serve K files port seats links before after Done r.1
+  exact_serve K files port seats links before after Words r = exact_ran_serve K files port seats links before after Words r.1
+  exact_serve K files port seats links before after WriteFault r = exact_ran_serve K files port seats links before after WriteFault r.1
+  exact_serve K files port seats links before after Spent r = exact_ran_serve K files port seats links before after Spent r.1
+  exact_serve K files port seats links before after (Split rift) r = exact_ran_serve K files port seats links before after (Split rift) r.1
+  exact_serve K files port seats links before after (Stray stray) r = exact_ran_serve K files port seats links before after (Stray stray) r.1
+  exact_serve K files port seats links before after (Shut shade) r = exact_ran_serve K files port seats links before after (Shut shade) r.1
+
+  pub exact_ends : (c : Option Request) (InputKept OutKept : Type 0) (content : Text → ToldFile) (before after : CommandState) (status : Status)
+      → Ends told door door' c InputKept OutKept content before after status → EndsExactly door door' c content before after status
+  exact_ends None I O content before after status e = tt
+  exact_ends (Some (run schema load)) I O content before after status e = exact_run (I × O) (run_files content schema load) before after status e
+  exact_ends (Some (gen number subs events)) I O content before after status e = exact_gen O number subs events before.link.sink after.link.sink status e.2
+  exact_ends (Some (cover schema file name)) I O content before after status e = exact_cover O (run_files content schema (Some file)) name before after status e.1
+  exact_ends (Some (drill schema load rounds files)) I O content before after status e = exact_drill O (drill_files content schema load files) before after status e.1
+  exact_ends (Some (serve schema load port seats links)) I O content before after status e = exact_serve O (run_files content schema load) port seats links before after status e.1
+  exact_ends (Some (heat schema rounds files)) I O content before after status e = exact_heat O (drill_files content schema None files) before after status e.1
+  exact_ends (Some (follow schema file)) I O content before after status e = exact_follow (I × O) (follow_files content schema file) before after status e
 
 -- nothing was done for want of memory
-pub exact_nothing : (c : Option Request) (content : Text → ToldFile) (state : CommandState) → EndsExactly c content state state NoMemory
-exact_nothing None content state = tt
-exact_nothing (Some (run schema load)) content state = exact_refused (run_files content schema load) state state NoMemory (inr (refl, refl)) (λ quiet. inr refl)
-exact_nothing (Some (gen number subs events)) content state = λ quiet. inr refl
-exact_nothing (Some (cover schema file name)) content state = exact_refused (run_files content schema (Some file)) state state NoMemory (inr (refl, refl)) (λ quiet. inr refl)
-exact_nothing (Some (drill schema load rounds files)) content state =
+pub exact_nothing : {L : Type 0} (door door' : DoorState L) (c : Option Request) (content : Text → ToldFile) (state : CommandState) → EndsExactly door door' c content state state NoMemory
+exact_nothing door door' None content state = tt
+exact_nothing door door' (Some (run schema load)) content state = exact_refused (run_files content schema load) state state NoMemory (inr (refl, refl)) (λ quiet. inr refl)
+exact_nothing door door' (Some (gen number subs events)) content state = λ quiet. inr refl
+exact_nothing door door' (Some (cover schema file name)) content state = exact_refused (run_files content schema (Some file)) state state NoMemory (inr (refl, refl)) (λ quiet. inr refl)
+exact_nothing door door' (Some (drill schema load rounds files)) content state =
     exact_refused (run_files content schema load) state state NoMemory (inr (refl, refl)) (scripts_refused (map content files) state state NoMemory (inr (refl, refl)) (λ quiet. tt))
+exact_nothing door door' (Some (serve schema load port seats links)) content state = exact_refused (run_files content schema load) state state NoMemory (inr (refl, refl)) (λ quiet sound. tt)
+exact_nothing door door' (Some (heat schema rounds files)) content state =
+    exact_refused (run_files content schema None) state state NoMemory (inr (refl, refl)) (scripts_refused (map content files) state state NoMemory (inr (refl, refl)) (λ quiet. tt))
+exact_nothing door door' (Some (follow schema file)) content state = follow_refused (follow_files content schema file) state state NoMemory (inr (refl, refl)) (λ quiet. inr refl)

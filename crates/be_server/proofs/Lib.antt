@@ -8,3 +8,8 @@ pub mod ScriptSteps
 pub mod CountedReplies
 pub mod CoverEnded
 pub mod DrillEnded
+pub mod ServeEnded
+pub mod HeatEnded
+pub mod FollowEnded
+pub mod FollowExact
+pub mod ToldFiles

@@ -96,6 +96,14 @@ pub record Printed (s : Attributes) (rows : List Row) (scripts : List Text) (shu
   pub served : AreServed s (opening_of rows) list shuts scripts transcripts
   pub written : Wrote before after (drill_text s transcripts list) result
 
+-- how the output ended, where P says what was written by whether it was refused
+abbrev pub EndsAfter : (Result (Unit {0}) SinkFault → Type 0) → (shuts : Bool) → Status → Type 0
+EndsAfter P shuts Done = (shuts ≡ false) × P (Ok tt)
+EndsAfter P shuts (Shut shade) = (shuts ≡ true) × P (Ok tt)
+EndsAfter P shuts WriteFault = P (Err sink.Failed)
+EndsAfter P shuts NoMemory = P (Err sink.NoMemory)
+EndsAfter P shuts _ = ⊥
+
 -- how the sessions may end. Kept says that the output is as it was
 abbrev pub RunsDrill : Type 0 → Attributes → List Row → List Text → SinkState → SinkState → Status → Type 0
 RunsDrill Kept s rows scripts before after Done = Printed s rows scripts false before after (Ok tt)

@@ -7,3 +7,7 @@ pub mod Sums
 pub mod Generated
 pub mod Covers
 pub mod Drills
+pub mod Serves
+pub mod Heats
+pub mod Follows
+pub mod Commands

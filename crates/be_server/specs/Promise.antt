@@ -1,4 +1,4 @@
--- The promise of `run`, and of each command: for each way in which it may end, what was read, what was written, and which call failed.
+-- The promise of `run`: for each way in which it may end, what was read, what was written, and which call failed.
 use Rattle.std.specs.Prelude.{◌≡◌, ℕ, ◌++◌, ◌⊎◌, Bool, true, false, not, List, [], ◌∷◌, Option, Some, None}
 use Rattle.be_base.specs.Text.{Text}
 use Rattle.be_base.specs.declared.limits.TheConstants.{SOURCE_BYTES}
@@ -20,13 +20,9 @@ use Rattle.be_transcript.specs.LinesRead.{ReadToEnd, ReadInPart, ReadFirstLines}
 use Rattle.be_session.specs.declared.serve.SessionEnd.{SessionEnd}
 use Rattle.be_session.specs.declared.serve.SessionEnd.TheVariants as ends
 use Rattle.be_session.specs.Served.{Leaves, NoReadFailed, NoWriteFailed}
-use Rattle.be_words.specs.Words.{Request, run, gen, cover, drill}
 use Rattle.be_server.specs.declared.status.Status.{Status}
-use Rattle.be_server.specs.declared.status.Status.TheVariants.{Done, Words, SchemaBad, LoadBad, NoMemory, ReadFault, LongFile, WriteFault, Spent, Split, Stray, Shut}
+use Rattle.be_server.specs.declared.status.Status.TheVariants.{Done, Words, SchemaBad, LoadBad, FeedBad, NoMemory, ReadFault, LongFile, WriteFault, Spent, Split, Stray, Shut}
 use Rattle.be_server.specs.Files.{ToldFile, RunFiles, run_files, IsSchemaOf, AreRowsOf, SchemaIsBad, LoadIsBad, OneIsLong}
-use Rattle.be_server.specs.Generated.{GenEnds}
-use Rattle.be_server.specs.Covers.{CoverEnds}
-use Rattle.be_server.specs.Drills.{drill_files, DrillEnds}
 
 -- the last line alone is a QUIT, or none is
 abbrev pub QuitsAtEnd : Bool → Attributes → List TextLine → Type 0
@@ -137,20 +133,7 @@ RunEnds Untouched files before after WriteFault = (after.shelf ≡ before.shelf)
 RunEnds Untouched files before after Spent = (after.shelf ≡ before.shelf) × ServedWith Untouched files before.link after.link ends.Spent
 RunEnds Untouched files before after NoMemory = (after.shelf ≡ before.shelf) × (Untouched ⊎ ServedWith Untouched files before.link after.link ends.NoMemory)
 RunEnds Untouched files before after Words = ⊥
+RunEnds Untouched files before after (FeedBad line kind) = ⊥
 RunEnds Untouched files before after (Split rift) = ⊥
 RunEnds Untouched files before after (Stray stray) = ⊥
 RunEnds Untouched files before after (Shut shade) = ⊥
-
--- how the program ends, by what its words ask for, over files of this content. InputKept and OutKept say that the input and the
--- output are as they were. Words without a reading touch nothing, and `gen`, `cover` and `drill` leave the input
-abbrev pub Ends : Option Request → (InputKept OutKept : Type 0) → (Text → ToldFile) → CommandState → CommandState → Status → Type 0
-Ends None InputKept OutKept content before after status =
-    ((status ≡ Words) ⊎ (status ≡ NoMemory)) × (after.shelf ≡ before.shelf) × (InputKept × OutKept)
-Ends (Some (run schema load)) InputKept OutKept content before after status =
-    RunEnds (InputKept × OutKept) (run_files content schema load) before after status
-Ends (Some (gen number subs events)) InputKept OutKept content before after status =
-    (after.shelf ≡ before.shelf) × InputKept × GenEnds OutKept number subs events before.link.sink after.link.sink status
-Ends (Some (cover schema file name)) InputKept OutKept content before after status =
-    InputKept × CoverEnds OutKept (run_files content schema (Some file)) name before.shelf after.shelf before.link.sink after.link.sink status
-Ends (Some (drill schema load rounds files)) InputKept OutKept content before after status =
-    InputKept × DrillEnds OutKept (drill_files content schema load files) before.shelf after.shelf before.link.sink after.link.sink status

@@ -6,21 +6,27 @@ use Rattle.be_io.specs.declared.faults.ShelfFault.{ShelfFault}
 use Rattle.be_io.specs.declared.faults.ShelfFault.TheVariants as shelf
 use Rattle.be_desk.specs.Rifts.{numbers_of}
 use Rattle.be_event.specs.Declarations.{kind_name}
+use Rattle.be_follow.specs.Faults as feeds
+use Rattle.be_follow.specs.declared.faults.FeedFault.{FeedFault}
+use Rattle.be_follow.specs.declared.faults.FeedFault.TheVariants as feed
 use Rattle.be_hub.specs.declared.close.CloseFault.{CloseFault}
 use Rattle.be_hub.specs.declared.close.CloseFault.TheVariants as close
+use Rattle.be_hub.specs.declared.serving.ServeFault.{ServeFault}
+use Rattle.be_hub.specs.declared.serving.ServeFault.TheVariants as serving
 use Rattle.be_session.specs.declared.serve.SessionEnd.{SessionEnd}
 use Rattle.be_session.specs.declared.serve.SessionEnd.TheVariants as ends
 use Rattle.be_table.specs.Faults as tables
 use Rattle.be_table.specs.declared.faults.TableFault.{TableFault}
 use Rattle.be_table.specs.declared.faults.TableFault.TheVariants as table
 use Rattle.be_server.specs.declared.status.Status.{Status}
-use Rattle.be_server.specs.declared.status.Status.TheVariants.{Done, Words, SchemaBad, LoadBad, NoMemory, ReadFault, LongFile, WriteFault, Spent, Split, Stray, Shut}
+use Rattle.be_server.specs.declared.status.Status.TheVariants.{Done, Words, SchemaBad, LoadBad, FeedBad, NoMemory, ReadFault, LongFile, WriteFault, Spent, Split, Stray, Shut}
 
 abbrev pub code_of : Status → ℕ
 code_of Done = 0
 code_of Words = 2
 code_of (SchemaBad line kind) = 3
 code_of (LoadBad line kind) = 3
+code_of (FeedBad line kind) = 3
 code_of ReadFault = 4
 code_of LongFile = 4
 code_of WriteFault = 5
@@ -36,6 +42,7 @@ status_text Done = []
 status_text Words = codes "words refused"
 status_text (SchemaBad line kind) = codes "schema line " ++ decimal line ++ codes ": " ++ kind_name kind
 status_text (LoadBad line kind) = codes "load line " ++ decimal line ++ codes ": " ++ tables.kind_name kind
+status_text (FeedBad line kind) = codes "feed line " ++ decimal line ++ codes ": " ++ feeds.kind_name kind
 status_text NoMemory = codes "out of memory"
 status_text ReadFault = codes "read fault"
 status_text LongFile = codes "file over 67108864 bytes"
@@ -74,3 +81,15 @@ abbrev pub status_of_close : CloseFault → Status
 status_of_close (close.Split rift) = Split rift
 status_of_close (close.Stray stray) = Stray stray
 status_of_close close.NoMemory = NoMemory
+
+-- the same where the links of a door were to be served
+abbrev pub status_of_serve : ServeFault → Status
+status_of_serve serving.Failed = ReadFault
+status_of_serve (serving.Split rift) = Split rift
+status_of_serve (serving.Stray stray) = Stray stray
+status_of_serve serving.NoMemory = NoMemory
+
+-- the status where a feed has a fault, or memory was wanting to it
+abbrev pub status_of_feed : FeedFault → Status
+status_of_feed (feed.Bad line kind) = FeedBad line kind
+status_of_feed (feed.NoMemory taken) = NoMemory

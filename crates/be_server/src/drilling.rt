@@ -88,8 +88,8 @@ fn run_drill<R: Threads + Wait + Sync, K: Sink, G: Gate + Sync>(
     }
 }
 
-// Makes the mail of the seats, and serves.
-fn mailed<S: Post + Send + Sync, R: Threads + Wait + Sync, G: Gate + Sync>(
+/// Makes the mail of the seats, and serves.
+pub fn mailed<S: Post + Send + Sync, R: Threads + Wait + Sync, G: Gate + Sync>(
     rt: &R,
     alloc: Global,
     schema: &Arc<Schema>,

@@ -45,7 +45,11 @@ pub fn load_files<F: Shelf>(
 }
 
 // Reads the schema in the file of this name.
-fn load_schema<F: Shelf>(alloc: Global, shelf: &mut F, name: &str) -> Result<Schema, Status>
+pub(crate) fn load_schema<F: Shelf>(
+    alloc: Global,
+    shelf: &mut F,
+    name: &str,
+) -> Result<Schema, Status>
     ensures loads { LoadsSchema (F.content shelf.old name.now) (F.read_faults shelf.old) (F.read_faults shelf.new) result }
     ensures asked { AsksFor (name.now ∷ []) (F.asked shelf.old) (F.asked shelf.new) }
     ensures read { OnOk result (F.asked shelf.new ≡ F.asked shelf.old ++ name.now ∷ []) }

@@ -10,7 +10,7 @@ ghost use Rattle.be_hub.specs.Transcripts.{AreServed};
 ghost use Rattle.be_io.specs.Outside.{sink_state};
 ghost use Rattle.be_io.specs.Sink.{Wrote};
 ghost use Rattle.be_model.specs.declared.changes.Row.{Row};
-ghost use Rattle.be_server.specs.Drills.{RunsDrill, under, headed, log_text};
+ghost use Rattle.be_server.specs.Drills.{EndsAfter, RunsDrill, under, headed, log_text};
 
 use crate::generated::status_of;
 use crate::status::Status;
@@ -32,7 +32,14 @@ pub fn write_drill<K: Sink>(alloc: Global, schema: &Schema, drilled: Drilled, ou
     let Ok(text) = text_of_log(alloc, schema, &drilled.log) else {
         return Status::NoMemory;
     };
-    match write_all_of(out, drilled.transcripts.as_slice(), text.as_slice()) {
+    write_behind(drilled, text.as_slice(), out)
+}
+
+/// Writes what the sessions were answered, and this text behind it.
+pub fn write_behind<K: Sink>(drilled: Drilled, text: &[u8], out: &mut K) -> Status
+    ensures { EndsAfter (λ written. Wrote (sink_state K.Sink out.old) (sink_state K.Sink out.new) (headed 1 (map (λ t. t.items) drilled.transcripts.items) ++ text.now) written) (is_some drilled.shade) result }
+{
+    match write_all_of(out, drilled.transcripts.as_slice(), text) {
         Ok(()) => match drilled.shade {
             None => Status::Done,
             Some(shade) => Status::Shut(shade),
@@ -41,8 +48,8 @@ pub fn write_drill<K: Sink>(alloc: Global, schema: &Schema, drilled: Drilled, ou
     }
 }
 
-// The list, a change a line, under its length.
-fn text_of_log(alloc: Global, schema: &Schema, log: &ChangeLog) -> Result<Vec<u8>, NoMemory>
+/// The list, a change a line, under its length.
+pub fn text_of_log(alloc: Global, schema: &Schema, log: &ChangeLog) -> Result<Vec<u8>, NoMemory>
     requires { all_lie schema.now log.now.list ≡ true }
     ensures { IfOk result (λ text. text.items ≡ log_text schema.now log.now.list) }
 {

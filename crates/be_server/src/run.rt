@@ -29,7 +29,7 @@ use std::sync::Arc;
 const WORKER: u32 = 1;
 
 // Nobody else changes the list of a run, so its session never ends by a SPLIT.
-fn status_of(end: SessionEnd) -> Status
+pub(crate) fn status_of(end: SessionEnd) -> Status
     requires { is_some (status_of end) ≡ true }
     ensures { status_of end ≡ Some result }
 {

@@ -1,11 +1,13 @@
 //! How the program ends.
 
 ghost use Rattle.std.specs.Prelude.{◌≡◌, Some};
-ghost use Rattle.be_server.specs.Status.{code_of, status_text, status_of_shelf, status_of_schema, status_of_table, status_of_close};
+ghost use Rattle.be_server.specs.Status.{code_of, status_text, status_of_shelf, status_of_schema, status_of_table, status_of_feed, status_of_close, status_of_serve};
 
+use be_base::NoMemory;
 use be_desk::{Rift, Stray};
 use be_event::{SchemaFault, SchemaKind};
-use be_hub::CloseFault;
+use be_follow::{FeedFault, FeedKind};
+use be_hub::{CloseFault, ServeFault};
 use be_io::ShelfFault;
 use be_published::Shade;
 use be_table::{TableFault, TableKind};
@@ -22,6 +24,8 @@ pub enum Status {
     SchemaBad { line: u64, kind: SchemaKind },
     /// The first faulty line of the load file, from 1.
     LoadBad { line: u64, kind: TableKind },
+    /// The first faulty line of the feed, from 1.
+    FeedBad { line: u64, kind: FeedKind },
     NoMemory,
     ReadFault,
     /// A file is over the limit.
@@ -71,6 +75,27 @@ impl From<TableFault> for Status {
     }
 }
 
+impl From<FeedFault> for Status {
+    ghost from_gives = { λ fault status. status ≡ status_of_feed fault };
+
+    fn from(fault: FeedFault) -> Status {
+        match fault {
+            FeedFault::Bad { line, kind } => Status::FeedBad { line, kind },
+            FeedFault::NoMemory { .. } => Status::NoMemory,
+        }
+    }
+}
+
+impl From<NoMemory> for Status {
+    ghost use Rattle.be_server.specs.declared.status.Status.TheVariants.{NoMemory};
+
+    ghost from_gives = { λ _ status. status ≡ NoMemory };
+
+    fn from(_: NoMemory) -> Status {
+        Status::NoMemory
+    }
+}
+
 impl From<CloseFault> for Status {
     ghost from_gives = { λ fault status. status ≡ status_of_close fault };
 
@@ -83,6 +108,19 @@ impl From<CloseFault> for Status {
     }
 }
 
+impl From<ServeFault> for Status {
+    ghost from_gives = { λ fault status. status ≡ status_of_serve fault };
+
+    fn from(fault: ServeFault) -> Status {
+        match fault {
+            ServeFault::Failed => Status::ReadFault,
+            ServeFault::Split(rift) => Status::Split(rift),
+            ServeFault::Stray(stray) => Status::Stray(stray),
+            ServeFault::NoMemory => Status::NoMemory,
+        }
+    }
+}
+
 impl Status {
     /// The exit code of the process.
     pub fn code(&self) -> u8
@@ -91,7 +129,7 @@ impl Status {
         match self {
             Status::Done => 0,
             Status::Words => 2,
-            Status::SchemaBad { .. } | Status::LoadBad { .. } => 3,
+            Status::SchemaBad { .. } | Status::LoadBad { .. } | Status::FeedBad { .. } => 3,
             Status::ReadFault | Status::LongFile => 4,
             Status::WriteFault => 5,
             Status::NoMemory => 6,
@@ -112,6 +150,7 @@ impl fmt::Display for Status {
             Status::Words => write!(f, "words refused"),
             Status::SchemaBad { line, kind } => write!(f, "schema line {line}: {kind}"),
             Status::LoadBad { line, kind } => write!(f, "load line {line}: {kind}"),
+            Status::FeedBad { line, kind } => write!(f, "feed line {line}: {kind}"),
             Status::NoMemory => write!(f, "out of memory"),
             Status::ReadFault => write!(f, "read fault"),
             Status::LongFile => write!(f, "file over 67108864 bytes"),

@@ -101,7 +101,7 @@ letters_in_part (Some box) s p out b b' without g = (g.0, [], g.1, g.2, g.3, rec
 tied_in_part : (p : Exchange) (b b' : BoardState) → b.counts.empties ≤ b'.counts.empties → Tied (p ∷ []) (p ∷ []) b.counts b'.counts → Tied (p ∷ []) [] b.counts b'.counts
 tied_in_part p b b' falls t = record { reads = t.reads; shuts = t.shuts; splits = t.splits; empties = risen_none b.counts.empties b'.counts.empties falls }
 
-cut_text : (bytes : List ℕ) (fault : SinkFault) (before after : SinkState) → Wrote before after bytes (Err fault) → (k : ℕ) × WroteInPart bytes fault (take k bytes) before after
+pub cut_text : (bytes : List ℕ) (fault : SinkFault) (before after : SinkState) → Wrote before after bytes (Err fault) → (k : ℕ) × WroteInPart bytes fault (take k bytes) before after
 cut_text bytes Failed before after w =
     (w.0.0, record { once = inr w.2; written = w.0.2; missing = drop w.0.0 bytes; some = omega (arith, length-drop w.0.0 bytes, w.0.1); is_text = sym (take-append-drop w.0.0 bytes); refused = w.1 })
 cut_text bytes NoMemory before after w =

@@ -56,7 +56,7 @@ lines_on start unread b bytes unread' a ended done g (inr n) =
     none_after (b ∷ x) y e = absurd cc
 
 -- the same, where it is told
-lines_on_told : (start before after : Option (List ℕ)) (unread unread' : List ℕ) (line : TextLine) (ended : Bool) (done : List TextLine)
+pub lines_on_told : (start before after : Option (List ℕ)) (unread unread' : List ℕ) (line : TextLine) (ended : Bool) (done : List TextLine)
     → WhereTold start before (λ b a. LinesGoOn false b unread a done)
     → WhereTold before after (λ b a. IsFirstLine line ended (unread ++ b) (unread' ++ a))
     → WhereTold start after (λ b a. LinesGoOn ended b unread' a (done ++ line ∷ []))
@@ -194,7 +194,7 @@ first_lines (Some s) (Some a) false unread done few g = record {
 }
 
 -- what the reader took since the first line is what the source gave since
-within : (r r' a b c : ℕ) → RisesBy r a b → TakesAlike r r' b c → r' ≤ SOURCE_BYTES → TakesWithin a c
+pub within : (r r' a b c : ℕ) → RisesBy r a b → TakesAlike r r' b c → r' ≤ SOURCE_BYTES → TakesWithin a c
 within r r' a b c p q bound = (r', bound, rises-along a b c r q.0 r' p q.2 q.1)
 
 pub spent : (a c r : ℕ) → RisesBy r a c → r ≡ SOURCE_BYTES → HasRisenBy SOURCE_BYTES a c

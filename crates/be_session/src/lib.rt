@@ -17,4 +17,7 @@ mod texts;
 mod turns;
 
 pub use requests::{Refusal, Request, Subscription, read_line};
+pub use saying::say;
 pub use serve::{SessionEnd, serve_link};
+pub use short::Short;
+pub use texts::{Naming, write_names};

@@ -1,6 +1,8 @@
 -- The rows of a leaf whose places are no blanks.
-use Rattle.std.proofs.Common.{◌≡◌, ℕ, ◌<◌, zero, suc, arith, slice_get, get_or, sym, true, List, [], ◌∷◌, ◌++◌, length, Option, Some, None, IsSome, refl, ap}
-use Rattle.std.specs.List.{remove}
+use Rattle.std.proofs.Common.{◌≡◌, ℕ, ◌<◌, zero, suc, arith, slice_get, get_or, sym, subst, ◌∙◌, map, Bool, not, true, false, List, [], ◌∷◌, ◌++◌, length, Option, Some, None, IsSome, refl, ap}
+use Rattle.std.specs.Prelude.{IsPermutation}
+use Rattle.std.specs.List.{remove, list_any}
+use Rattle.std.proofs.lemmas.List.Sorted.{IsPermutation-map, list_any-IsPermutation}
 use Rattle.be_model.specs.declared.changes.Row.{Row}
 use Rattle.be_shape.specs.Leaves.{rows_of_places, are_rows}
 
@@ -53,3 +55,32 @@ are_rows_taken [] (suc i) h = refl
 are_rows_taken (Some row ∷ places) zero h = h
 are_rows_taken (Some row ∷ places) (suc i) h = are_rows_taken places i h
 are_rows_taken (None ∷ places) i h = absurd (cc)
+
+-- a row less, and the others in another order
+abbrev is_blank : Option Row → Bool
+is_blank (Some row) = false
+is_blank None = true
+
+abbrev row_or : Row → Option Row → Row
+row_or d (Some row) = row
+row_or d None = d
+
+no_blank : (places : List (Option Row)) → are_rows places ≡ not (list_any is_blank places)
+no_blank [] = refl
+no_blank (Some row ∷ places) = no_blank places
+no_blank (None ∷ places) = refl
+
+rows_as : (d : Row) (places : List (Option Row)) → are_rows places ≡ true → rows_of_places places ≡ map (row_or d) places
+rows_as d [] h = refl
+rows_as d (Some row ∷ places) h = ap (λ rows. row ∷ rows) (rows_as d places h)
+rows_as d (None ∷ places) h = absurd (cc)
+
+pub are_rows_pulled : (places rest : List (Option Row)) (k : Option Row) (row : Row) → k ≡ Some row → are_rows places ≡ true → IsPermutation places (k ∷ rest) → are_rows rest ≡ true
+are_rows_pulled places rest k row e h p =
+    sym (ap (λ z. are_rows (z ∷ rest)) e) ∙ no_blank (k ∷ rest) ∙ ap not (sym (list_any-IsPermutation is_blank places (k ∷ rest) p)) ∙ sym (no_blank places) ∙ h
+
+pub rows_pulled : (places rest : List (Option Row)) (k : Option Row) (row : Row) → k ≡ Some row → are_rows places ≡ true → IsPermutation places (k ∷ rest) → IsPermutation (rows_of_places places) (row ∷ rows_of_places rest)
+rows_pulled places rest k row e h p =
+    let q : IsPermutation (map (row_or row) places) (map (row_or row) (k ∷ rest)) = IsPermutation-map (row_or row) places (k ∷ rest) p in
+    let is : map (row_or row) (k ∷ rest) ≡ row ∷ rows_of_places rest = ap (λ z. row_or row z ∷ map (row_or row) rest) e ∙ ap (λ rows. row ∷ rows) (sym (rows_as row rest (are_rows_pulled places rest k row e h p))) in
+    subst (λ xs. IsPermutation xs (row ∷ rows_of_places rest)) (sym (rows_as row places h)) (subst (λ xs. IsPermutation (map (row_or row) places) xs) is q)

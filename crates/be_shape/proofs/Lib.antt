@@ -1,3 +1,6 @@
+pub mod TwoTests
+pub mod ToldSpans
+pub mod FewAttrs
 pub mod LeafRows
 pub mod Plains
 pub mod WholeRanges

@@ -1,4 +1,7 @@
 pub mod Leaves
+pub mod Glances
+pub mod Listed
+pub mod Held
 pub mod Plain
 pub mod Shape
 pub mod Search

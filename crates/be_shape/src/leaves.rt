@@ -1,61 +1,29 @@
 //! Rows that stand together.
 
-ghost use Rattle.std.specs.Prelude.{◌≡◌, ◌<◌, [], ◌∷◌, ◌++◌, length, slice_get, Some, None, IsSome, OnOk, OnErr, IfErr};
-ghost use Rattle.std.specs.List.{remove};
+ghost use Rattle.std.specs.Prelude.{◌≡◌, ◌↔◌, ◌<◌, true, IsTrue, [], ◌∷◌, ◌++◌, length, slice_get, Some, option_map, IsSome, IsPermutation, IfSome, IfNone, OnOk, OnErr, IfErr};
+ghost use Rattle.std.specs.List.{Contains, remove};
+ghost use Rattle.be_model.specs.Hulls.{span_in};
+ghost use Rattle.be_model.specs.Lies.{row_lies};
+ghost use Rattle.be_model.specs.Rows.{has};
+ghost use Rattle.be_shape.specs.Listed.{attrs_of};
 ghost use Rattle.std.specs.Arc.{arc_value};
+ghost use Rattle.be_model.specs.Matching.{satisfies};
 
-use be_model::{Row, RowList};
+use crate::hints::Hints;
+use crate::listings::RowAttrs;
+use crate::places::{Kept, low_part};
+use be_base::AttrNo;
+use be_model::{Event, Row, RowList, Schema};
 use smallvec::SmallVec;
 use std::alloc::Global;
 use std::marker::Model;
 use std::sync::Arc;
 
-// A place of a leaf: a row, or a blank where the leaf ends.
-#[derive(Drop)]
-struct Kept {
-    row: Option<Arc<Row>>,
-}
-
-impl Model for Kept {
-    ghost use Rattle.std.specs.Prelude.{Option, option_map};
-    ghost use Rattle.std.specs.Arc.{arc_value};
-    ghost use Rattle.be_model.specs.declared.changes.Row.{Row};
-
-    ghost Value = { Option Row };
-
-    ghost view = { λ k. option_map (λ a. arc_value a) k.row };
-}
-
-impl Default for Kept {
-    fn default() -> Kept
-        ensures { result ≡ None }
-    {
-        Kept { row: None }
-    }
-}
-
-impl Kept {
-    fn of(row: Arc<Row>) -> Kept
-        ensures { result ≡ Some (arc_value row) }
-    {
-        Kept { row: Some(row) }
-    }
-
-    fn into_row(self) -> Arc<Row>
-        requires { IsSome self }
-        ensures { self ≡ Some (arc_value result) }
-    {
-        match self.row {
-            Some(row) => row,
-            None => unreachable!(),
-        }
-    }
-}
-
 /// Rows in some order, of which 17 stand in place.
 #[derive(Drop)]
 pub struct Leaf {
     places: SmallVec<Kept, 17>,
+    hints: Hints,
 }
 
 impl Model for Leaf {
@@ -78,6 +46,7 @@ impl Leaf {
     {
         Leaf {
             places: SmallVec::new(alloc),
+            hints: Hints::none(alloc),
         }
     }
 
@@ -88,17 +57,80 @@ impl Leaf {
         self.places.len()
     }
 
-    /// The row at a place, from 0.
+    // What stands at a place.
     #[tactic(auto, using(crate::proofs::LeafRows::rows_length))]
+    fn kept(&self, place: usize) -> &Kept
+        requires { place < length self.now }
+        ensures at { slice_get self.now place ≡ result.now }
+        ensures row { IsSome result.now }
+    {
+        &self.places.as_slice()[place]
+    }
+
+    /// The row at a place, from 0.
     pub fn row(&self, place: usize) -> &Arc<Row>
         requires { place < length self.now }
         ensures { slice_get self.now place ≡ Some (arc_value result.now) }
     {
-        let kept = &self.places.as_slice()[place];
-        match &kept.row {
-            Some(row) => row,
-            None => unreachable!(),
+        self.kept(place).row()
+    }
+
+    /// Whether the event satisfies the row at a place. The row is looked at only where two tests of it are met and don't say all.
+    pub fn is_met(&self, place: usize, e: &Event) -> bool
+        requires { place < length self.now }
+        ensures { option_map (λ row. satisfies e.now row.conj) (slice_get self.now place) ≡ Some result }
+    {
+        self.kept(place).is_met(e)
+    }
+
+    /// The span on the attribute of the row at a place. The row is looked at only where no test of it is on the attribute.
+    pub fn span(&self, place: usize, s: &Schema, a: AttrNo) -> Option<(i64, i64)>
+        requires place { place < length self.now }
+        requires lies { option_map (row_lies s.now) (slice_get self.now place) ≡ Some true }
+        ensures { option_map (λ row. span_in s.now a row.conj) (slice_get self.now place) ≡ Some result }
+    {
+        self.kept(place).span(s, a)
+    }
+
+    /// The attributes of the row at a place.
+    pub fn attrs(&self, place: usize) -> RowAttrs
+        requires { place < length self.now }
+        ensures { option_map (λ row. attrs_of row.conj) (slice_get self.now place) ≡ Some result }
+    {
+        self.kept(place).attrs()
+    }
+
+    /// Whether the row at a place has a predicate on the attribute. The row is looked at only where its attributes aren't few.
+    pub fn has_attr(&self, place: usize, a: AttrNo) -> bool
+        requires { place < length self.now }
+        ensures { option_map (λ row. has a row) (slice_get self.now place) ≡ Some result }
+    {
+        self.kept(place).has_attr(a)
+    }
+
+    // Whether the row stands at a place.
+    fn has_at(&self, place: usize, row: &Row) -> bool
+        requires { place < length self.now }
+        ensures { IsTrue result ↔ (slice_get self.now place ≡ Some row.now) }
+    {
+        self.kept(place).low_part() == low_part(row.id) && self.row(place).same_as(row)
+    }
+
+    /// Where the row stands. A row whose id has another lower half isn't looked at.
+    pub fn place_of(&self, row: &Row) -> Option<usize>
+        ensures found { IfSome result (λ place. slice_get self.now place ≡ Some row.now) }
+        ensures none { IfNone result (Contains self.now row.now → ⊥) }
+    {
+        let guess = self.hints.guess(low_part(row.id));
+        if guess < self.len() && self.has_at(guess, row) {
+            return Some(guess);
         }
+        for place in 0..self.len() {
+            if self.has_at(place, row) {
+                return Some(place);
+            }
+        }
+        None
     }
 
     /// Takes the row at a place out. It takes no memory.
@@ -111,6 +143,18 @@ impl Leaf {
         self.places.remove(place).into_row()
     }
 
+    /// Takes the row at a place out, and puts the last one in its place. It takes no memory.
+    #[tactic(auto, using(crate::proofs::LeafRows::rows_length))]
+    pub fn pull(&mut self, place: usize) -> Arc<Row>
+        requires { place < length self.old }
+        ensures row { slice_get self.old place ≡ Some (arc_value result) }
+        ensures rest { IsPermutation self.old (arc_value result ∷ self.new) }
+    {
+        let row = self.places.swap_remove(place).into_row();
+        self.hints.note_at(self.places.as_slice(), place);
+        row
+    }
+
     /// Puts a row last, or hands it back where memory is wanting. Up to 17 rows take none.
     #[tactic(auto, using(crate::proofs::LeafRows::rows_length, crate::proofs::LeafRows::rows_put, crate::proofs::LeafRows::are_rows_put))]
     pub fn push(&mut self, row: Arc<Row>) -> Result<(), Arc<Row>>
@@ -120,7 +164,9 @@ impl Leaf {
     {
         match self.places.reserve(1) {
             Ok(()) => {
+                let low = low_part(row.id);
                 self.places.push_reserved(Kept::of(row));
+                self.hints.note_last(self.places.as_slice(), low);
                 Ok(())
             }
             Err(_) => Err(row),

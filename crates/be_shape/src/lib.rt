@@ -6,10 +6,14 @@
 #![tactic(auto)]
 
 mod counts;
+mod glances;
+mod hints;
 mod laws;
 mod leaves;
+mod listings;
 mod looks;
 mod nodes;
+mod places;
 mod ranges;
 mod spots;
 mod swaps;
@@ -21,9 +25,10 @@ pub use laws::{
     rows_are_found, rows_are_of_leaves,
 };
 pub use leaves::Leaf;
+pub use listings::RowAttrs;
 pub use looks::{
     can_split, count_passing, fits_a_half, has_attr, is_inside, is_stuck, is_used, is_used_on,
-    may_pass, takes,
+    may_pass, may_pass_at, takes,
 };
 pub use nodes::{Node, Part};
 pub use ranges::{NodeRange, holds_value, lower_range, upper_range, whole_range};

@@ -1,6 +1,6 @@
 //! What a row may do at a node.
 
-ghost use Rattle.std.specs.Prelude.{◌≡◌, ◌<◌, ◌&&◌, ◌||◌, true, []};
+ghost use Rattle.std.specs.Prelude.{◌≡◌, ◌<◌, ◌&&◌, ◌||◌, true, [], slice_get, Some};
 ghost use Rattle.be_model.specs.declared.paths.Hop.TheVariants.{Low, High};
 ghost use Rattle.std.specs.List.{count_by, list_all};
 ghost use Rattle.be_model.specs.Lies.{row_lies};
@@ -62,6 +62,45 @@ pub fn may_pass(row: &Row, s: &Schema, hop: Hop, range: NodeRange) -> bool
         Hop::Part(a) => has_attr(row, a),
         Hop::Low => is_inside(row, s, lower_range(range)),
         Hop::High => is_inside(row, s, upper_range(range)),
+    }
+}
+
+// Whether the row at a place of the leaf has its span inside the range.
+#[tactic(auto, using(std::proofs::lemmas::Option::slice_get_within))]
+fn is_inside_at(leaf: &Leaf, place: usize, row: &Row, s: &Schema, range: NodeRange) -> bool
+    requires at { slice_get leaf.now place ≡ Some row.now }
+    requires lies { row_lies s.now row.now ≡ true }
+    ensures { result ≡ spans_inside s.now range row.now }
+{
+    match range {
+        None => true,
+        Some((a, ends)) => match leaf.span(place, s, a) {
+            Some(span) => ends.0 <= span.0 && span.1 <= ends.1,
+            None => false,
+        },
+    }
+}
+
+/// Whether the row, which stands at this place of the leaf, may stand below the step. Mostly the row isn't looked at.
+#[tactic(auto, using(std::proofs::lemmas::Option::slice_get_within))]
+pub fn may_pass_at(
+    leaf: &Leaf,
+    place: usize,
+    row: &Row,
+    s: &Schema,
+    hop: Hop,
+    range: NodeRange,
+) -> bool
+    requires at { slice_get leaf.now place ≡ Some row.now }
+    requires lies { row_lies s.now row.now ≡ true }
+    requires bounded { is_bounded range ≡ true }
+    requires rising { is_rising range ≡ true }
+    ensures { result ≡ may_pass s.now hop range row.now }
+{
+    match hop {
+        Hop::Part(a) => leaf.has_attr(place, a),
+        Hop::Low => is_inside_at(leaf, place, row, s, lower_range(range)),
+        Hop::High => is_inside_at(leaf, place, row, s, upper_range(range)),
     }
 }
 

@@ -4,3 +4,4 @@ pub mod Classes
 pub mod Stepping
 pub mod Ending
 pub mod Parsed
+pub mod Unknown

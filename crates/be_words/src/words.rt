@@ -1,14 +1,17 @@
 //! What the words after the program's name ask for.
 
-ghost use Rattle.std.specs.Prelude.{◌≡◌, map, option_map, ◌≤◌, IfOk, IfSome};
+ghost use Rattle.std.specs.Prelude.{◌≡◌, map, option_map, ◌<◌, ◌≤◌, IfOk, IfSome, length};
 ghost use Rattle.be_base.specs.Readers.{now_of};
-ghost use Rattle.be_words.specs.Words.{IsAnswerTo, words_of, plain_request, request_of, run_of, gen_of, cover_of, drill_of, count_within, IsWithin};
+ghost use Rattle.be_words.specs.Words.{IsAnswerTo, words_of, plain_request, plain_sessions, request_of, run_of, gen_of, cover_of, follow_of, drill_of, heat_of, serve_of, sessions_of, once_loaded, count_within, count_from_one, IsWithin};
 
 use crate::arguments::{LOAD, WORD, read_arguments, values_of};
 use be_base::{
-    GENERATED_EVENTS, GENERATED_SUBSCRIPTIONS, Name, NoMemory, ROUNDS, SEATS, read_count,
+    GENERATED_EVENTS, GENERATED_SUBSCRIPTIONS, LINKS, Name, NoMemory, ROUNDS, SEATS, read_count,
 };
 use std::alloc::Global;
+
+/// Ports are numbered from 1.
+const PORTS: u64 = 65535;
 
 /// What the words ask for.
 #[derive(Debug, Drop, PartialEq, Eq)]
@@ -37,6 +40,33 @@ pub enum Request<'a> {
         rounds: u64,
         files: Vec<&'a str>,
     },
+    /// As a drill, with counts of what the answered events ask for.
+    Heat {
+        schema: &'a str,
+        rounds: u64,
+        files: Vec<&'a str>,
+    },
+    /// So many links of this port, served by workers of so many seats.
+    Serve {
+        schema: &'a str,
+        load: Option<&'a str>,
+        port: u16,
+        seats: u32,
+        links: u64,
+    },
+    /// Events answered from the list of changes in this file, which another server wrote.
+    Follow {
+        schema: &'a str,
+        file: &'a str,
+    },
+}
+
+// What `drill` and `heat` take: the schema's file, the maintainer's calls, and the sessions' files.
+#[derive(Drop)]
+struct Sessions<'a> {
+    schema: &'a str,
+    rounds: u64,
+    files: Vec<&'a str>,
 }
 
 /// Why there is no request.
@@ -101,14 +131,21 @@ fn cover_of<'a>(words: &[&'a str], loads: &[&'a str]) -> Option<Request<'a>>
     }
 }
 
-// `drill SCHEMA ROUNDS FILE..`, with one `--load FILE` or none.
-fn drill_of<'a>(
-    alloc: Global,
-    words: &[&'a str],
-    loads: &[&'a str],
-) -> Result<Option<Request<'a>>, NoMemory>
-    ensures request { IfOk result (λ request. option_map plain_request request ≡ drill_of (map now_of words.now) (map now_of loads.now)) }
-    ensures within { IfOk result (λ request. IfSome request IsWithin) }
+// `follow SCHEMA FILE`.
+fn follow_of<'a>(words: &[&'a str], loads: &[&'a str]) -> Option<Request<'a>>
+    ensures request { option_map plain_request result ≡ follow_of (map now_of words.now) (map now_of loads.now) }
+    ensures within { IfSome result IsWithin }
+{
+    match (words, loads) {
+        ([schema, file], []) => Some(Request::Follow { schema, file }),
+        _ => None,
+    }
+}
+
+// `SCHEMA ROUNDS FILE..`.
+fn sessions_of<'a>(alloc: Global, words: &[&'a str]) -> Result<Option<Sessions<'a>>, NoMemory>
+    ensures sessions { IfOk result (λ found. option_map plain_sessions found ≡ sessions_of (map now_of words.now)) }
+    ensures within { IfOk result (λ found. IfSome found (λ s. (s.rounds ≤ ROUNDS) × (0 < length s.files.items) × (length s.files.items ≤ SEATS))) }
 {
     let [schema, rounds, files @ ..] = words else {
         return Ok(None);
@@ -119,19 +156,99 @@ fn drill_of<'a>(
     if files.is_empty() || files.len() > SEATS as usize {
         return Ok(None);
     }
-    let load = match loads {
-        [] => None,
-        [load] => Some(*load),
-        _ => return Ok(None),
-    };
     let mut own = Vec::new(alloc);
     own.extend_from_slice(files)?;
-    Ok(Some(Request::Drill {
+    Ok(Some(Sessions {
         schema,
-        load,
         rounds,
         files: own,
     }))
+}
+
+// FILE of `--load`, which stands once or not at all.
+fn once_loaded<'a>(loads: &[&'a str]) -> Option<Option<&'a str>>
+    ensures { option_map (λ load. option_map now_of load) result ≡ once_loaded (map now_of loads.now) }
+{
+    match loads {
+        [] => Some(None),
+        [load] => Some(Some(*load)),
+        _ => None,
+    }
+}
+
+// `drill SCHEMA ROUNDS FILE..`, with one `--load FILE` or none.
+fn drill_of<'a>(
+    alloc: Global,
+    words: &[&'a str],
+    loads: &[&'a str],
+) -> Result<Option<Request<'a>>, NoMemory>
+    ensures request { IfOk result (λ request. option_map plain_request request ≡ drill_of (map now_of words.now) (map now_of loads.now)) }
+    ensures within { IfOk result (λ request. IfSome request IsWithin) }
+{
+    let Some(load) = once_loaded(loads) else {
+        return Ok(None);
+    };
+    match sessions_of(alloc, words)? {
+        Some(
+            Sessions {
+                schema,
+                rounds,
+                files,
+            },
+        ) => Ok(Some(Request::Drill {
+            schema,
+            load,
+            rounds,
+            files,
+        })),
+        None => Ok(None),
+    }
+}
+
+// `heat SCHEMA ROUNDS FILE..`.
+fn heat_of<'a>(
+    alloc: Global,
+    words: &[&'a str],
+    loads: &[&'a str],
+) -> Result<Option<Request<'a>>, NoMemory>
+    ensures request { IfOk result (λ request. option_map plain_request request ≡ heat_of (map now_of words.now) (map now_of loads.now)) }
+    ensures within { IfOk result (λ request. IfSome request IsWithin) }
+{
+    if !loads.is_empty() {
+        return Ok(None);
+    }
+    match sessions_of(alloc, words)? {
+        Some(
+            Sessions {
+                schema,
+                rounds,
+                files,
+            },
+        ) => Ok(Some(Request::Heat {
+            schema,
+            rounds,
+            files,
+        })),
+        None => Ok(None),
+    }
+}
+
+// `serve SCHEMA PORT SEATS LINKS`, with one `--load FILE` or none.
+fn serve_of<'a>(words: &[&'a str], loads: &[&'a str]) -> Option<Request<'a>>
+    ensures request { option_map plain_request result ≡ serve_of (map now_of words.now) (map now_of loads.now) }
+    ensures within { IfSome result IsWithin }
+{
+    let load = once_loaded(loads)?;
+    let [schema, port, seats, links] = words else {
+        return None;
+    };
+    Some(Request::Serve {
+        schema,
+        load,
+        port: count_from_one(PORTS, port)? as u16,
+        seats: count_from_one(SEATS as u64, seats)? as u32,
+        links: count_from_one(LINKS, links)?,
+    })
 }
 
 // A count of this number at most.
@@ -141,6 +258,15 @@ fn count_within(most: u64, word: &str) -> Option<u64>
 {
     let count = read_count(word.as_bytes())?;
     if count <= most { Some(count) } else { None }
+}
+
+// A count from 1 to this number.
+fn count_from_one(most: u64, word: &str) -> Option<u64>
+    ensures count { result ≡ count_from_one most word.now }
+    ensures within { IfSome result (λ count. (0 < count) × (count ≤ most)) }
+{
+    let count = count_within(most, word)?;
+    if count >= 1 { Some(count) } else { None }
 }
 
 /// Reads the words after the program's name.
@@ -175,6 +301,9 @@ fn request_of<'a>(
         "gen" => Ok(gen_of(words, loads)),
         "cover" => Ok(cover_of(words, loads)),
         "drill" => drill_of(alloc, words, loads),
+        "serve" => Ok(serve_of(words, loads)),
+        "heat" => heat_of(alloc, words, loads),
+        "follow" => Ok(follow_of(words, loads)),
         _ => Ok(None),
     }
 }

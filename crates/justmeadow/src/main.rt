@@ -1,17 +1,16 @@
-//! The program: real input, output and files for the one call that does the work.
+//! The program: real input, output, files and connections for the one call that does the work.
 #![tactic(auto)]
 
-use be_io::{FileShelf, MemSink, MemSource, NoDoor, NoGate, Pair, StdinSource, StdoutSink};
+use be_door::{TcpDoor, TcpLink};
+use be_io::{FileShelf, NoGate, StdinSource, StdoutSink};
 use be_server::{Status, be_main};
 use std::alloc::Global;
+use std::net::{Net, TcpListener, TcpStream};
 use std::process::ExitCode;
 use std::rt::{Env, Files};
 use std::sync::Wait;
 use std::thread::Threads;
 use std::{env, io};
-
-/// A peer of the door. No door of the program gives one out yet.
-type Peer = Pair<MemSource, MemSink>;
 
 /// The words after the program's name.
 fn read_words(rt: &(impl Env + Alloc<A = Global>)) -> io::Result<Vec<String>> {
@@ -20,24 +19,23 @@ fn read_words(rt: &(impl Env + Alloc<A = Global>)) -> io::Result<Vec<String>> {
     Ok(words.collect(rt.alloc())?)
 }
 
-/// Does what the words ask, over the real input, output and files.
-fn serve<R: Threads + Wait + Sync + Files + Input + Print>(
-    rt: &R,
-    alloc: Global,
-    words: &[String],
-) -> Status {
+/// Does what the words ask, over the real input, output, files and connections.
+fn serve<
+    R: Threads
+        + Wait
+        + Sync
+        + Files
+        + Input
+        + Print
+        + Net<Listener = TcpListener, Stream = TcpStream>
+        + Copy,
+>(rt: &R, alloc: Global, words: &[String]) -> Status {
     let mut shelf = FileShelf::make(rt, alloc);
     let mut input = StdinSource::make(rt);
     let mut out = StdoutSink::make(rt);
-    be_main::<_, _, _, _, Peer, _, _>(
-        rt,
-        alloc,
-        words,
-        &mut shelf,
-        &mut input,
-        &mut out,
-        &mut NoDoor::make(),
-        &NoGate,
+    let mut door = TcpDoor::make(*rt, alloc);
+    be_main::<_, _, _, _, TcpLink<R>, _, _>(
+        rt, alloc, words, &mut shelf, &mut input, &mut out, &mut door, &NoGate,
     )
 }
 

@@ -1,4 +1,4 @@
-//! A hub over two trees, whose workers serve files. Which history and which mailboxes it has is picked where these were made.
+//! A hub over two trees, whose searches are counted, and whose workers serve files. Which history and which mailboxes it has is picked where these were made.
 
 ghost use Rattle.std.specs.Prelude.{◌≡◌, ℕ, [], length, map, slice_get, Some, All, IfSome};
 ghost use Rattle.std.specs.Arc.{arc_value};
@@ -20,10 +20,13 @@ use be_published::{Naming, Opened, Page, Sheet};
 use be_tree::BeTree;
 use std::alloc::Global;
 use std::marker::Brand;
+use std::sync::atomic::{AtomicU64, Ordering};
 use std::sync::{Arc, Wait};
 use std::thread::Threads;
+use worked_indexes::Tallied;
 
-/// The transcripts of the files, parted by ` || `, how often the maintainer was called, and how many changes the list has at its end.
+/// The transcripts of the files, parted by ` || `, how often the maintainer was called, how many changes the list has at its end,
+/// and how many searches the trees were asked for.
 pub fn served<R: Threads + Wait + Sync>(
     rt: &R,
     alloc: Global,
@@ -60,11 +63,20 @@ fn begun<S: Post + Send + Sync, J: Naming + BoxNames + Send + Sync, R: Threads +
     requires seats { length mail ≡ length script.files.items }
     requires passes { passes.items ≡ map (new_passes mail) (range_with_len 0 (length script.files.items)) }
 {
-    let a = BeTree::make(alloc, Arc::try_clone(schema).ok()?);
-    let b = BeTree::make(alloc, Arc::try_clone(schema).ok()?);
-    let kept = Arc::try_clone(schema).ok()?;
+    let finds = Arc::new(alloc, AtomicU64::new(0)).ok()?;
+    let a = Tallied {
+        index: BeTree::make(alloc, again(schema)?),
+        finds: Arc::try_clone(&finds).ok()?,
+    };
+    let b = Tallied {
+        index: BeTree::make(alloc, again(schema)?),
+        finds: Arc::try_clone(&finds).ok()?,
+    };
+    let kept = again(schema)?;
     let seats = script.files.len() as u32;
-    let made = make_hub::<BeTree, J, S, R>(rt, alloc, kept, opened, a, b, seats, mail, passes);
+    let made = make_hub::<Tallied<BeTree>, J, S, R>(
+        rt, alloc, kept, opened, a, b, seats, mail, passes,
+    );
     let Ok((hub, seats)) = made else {
         return None;
     };
@@ -75,7 +87,15 @@ fn begun<S: Post + Send + Sync, J: Naming + BoxNames + Send + Sync, R: Threads +
     let text = run_text(alloc, &run);
     let changes = changes_of(rt, alloc, hub, run)?;
     let text = text?;
-    format!(in alloc; "{text} | {changes}").ok()
+    let searches = finds.load(Ordering::SeqCst);
+    format!(in alloc; "{text} | {changes} | {searches}").ok()
+}
+
+// One more owner of the schema.
+fn again(schema: &Arc<Schema>) -> Option<Arc<Schema>>
+    ensures { IfSome result (λ s. arc_value s ≡ arc_value schema.now) }
+{
+    Arc::try_clone(schema).ok()
 }
 
 fn served_by<

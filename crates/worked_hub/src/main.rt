@@ -1,6 +1,6 @@
 //! Serves files by workers over one hub. A line of the input is how many calls the maintainer makes, and the files, parted by
 //! ` || `, of which each has lines parted by `; `. Each line of the output is the same with the transcripts, the calls
-//! that the maintainer made, and how many changes the list has when the hub is closed. Where there is more than
+//! that the maintainer made, how many changes the list has when the hub is closed, and how many searches its trees were asked for. Where there is more than
 //! one file, the numbers of changes depend on the schedule, and each is printed as `n`. The rows stand in `stdin`, and with their
 //! transcripts, worked by hand from the rules, in `stdout`; the gate compares.
 #![tactic(auto)]

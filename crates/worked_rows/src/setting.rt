@@ -2,7 +2,8 @@
 
 ghost use Rattle.std.specs.Prelude.{◌<◌};
 
-use be_io::{MemShelf, MemSink, MemSource, NoDoor, NoGate, Pair, Shelf, Sink, Source};
+use be_door::{Metered, NoDoor};
+use be_io::{MemShelf, MemSink, MemSource, NoGate, Pair, Shelf, Sink, Source};
 use be_server::{Status, be_main};
 use std::alloc::Global;
 use std::sync::Wait;
@@ -146,8 +147,8 @@ fn call_over<R: Threads + Wait + Sync, K: Sink>(
     out: &mut K,
 ) -> Option<Status> {
     let words = strings(alloc, words)?;
-    let mut door = NoDoor::make();
-    Some(be_main::<_, _, _, _, Peer, _, _>(
+    let mut door: NoDoor<Peer> = NoDoor::make(alloc);
+    Some(be_main::<_, _, _, _, Metered<Peer>, _, _>(
         rt,
         alloc,
         words.as_slice(),

@@ -9,7 +9,6 @@ mod counting;
 mod gate;
 mod serving;
 mod sessions;
-mod tally;
 
 use be_base::NoMemory;
 use be_event::read_schema;

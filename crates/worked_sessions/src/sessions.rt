@@ -5,7 +5,6 @@ ghost use Rattle.std.specs.Prelude.{◌≡◌, [], true};
 use crate::counting::CountingBoard;
 use crate::gate::CountingGate;
 use crate::serving::{Setting, WORKER, serve};
-use crate::tally::Tally;
 use be_base::NoMemory;
 use be_board::{BalkyBoard, LocalBoard};
 use be_change::ChangeLog;
@@ -15,6 +14,7 @@ use be_session::SessionEnd;
 use std::alloc::Global;
 use std::sync::Arc;
 use std::sync::atomic::{AtomicU64, Ordering};
+use worked_indexes::Tallied;
 
 // How a session ended, how often the board was asked to leave, and tended, and how often the gate was called before and after a
 // line, each time in its turn.
@@ -61,7 +61,7 @@ pub fn counted(alloc: Global, schema: &Arc<Schema>, lines: &str) -> Result<Strin
         refused_leaves: 0,
     };
     let finds = Arc::new(alloc, AtomicU64::new(0)).map_err(|_| NoMemory)?;
-    let index = Tally {
+    let index = Tallied {
         index: ListIndex::make(alloc, Arc::try_clone(schema)?),
         finds: Arc::try_clone(&finds)?,
     };

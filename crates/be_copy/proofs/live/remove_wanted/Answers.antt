@@ -1,9 +1,11 @@
 -- Each turn takes out one row that is wanted.
-use Rattle.std.proofs.Common.{◌≡◌, ℕ, not, filter, find, length, sym, ap, ◌∙◌, subst, arith}
+use Rattle.std.proofs.Common.{◌≡◌, ℕ, ◌==◌, not, filter, find, length, sym, ap, ◌∙◌, subst, arith}
 use Rattle.std.specs.Arc.{arc_value}
 use Rattle.be_model.specs.declared.changes.Row.{Row}
 use Rattle.be_model.specs.Rows.{id_of}
 use Rattle.be_model.specs.ByIds.{without_id}
+use Rattle.be_index.specs.Promise.{IsMap}
+use Rattle.be_index.proofs.Maps.{filtered_map}
 use Rattle.be_copy.specs.Registers.{AreOfList}
 use Rattle.be_copy.specs.Wanted.{wants}
 use Rattle.be_copy.proofs.Firsts.{fewer, listed_without, left_without, only_at, none_goes, unmapped}
@@ -26,7 +28,8 @@ loop-row-preserved g c =
     let there = c.in-Some.ensures.there in record {
       filed = c.drop_row.ensures.filed;
       listed = subst (AreOfList c.args.log.now.list) (sym gone) (listed_without c.args.log.now.list rows (id_of row) is.listed);
-      left = ap (filter (λ (r : ℕ × Row). not (wants w r))) gone ∙ left_without (wants w) rows (id_of row) c.in-Some.ensures.map.rising (only_at (wants w) rows (id_of row) row there.there there.wanted) ∙ is.left;
+      map = subst IsMap (sym gone) (filtered_map (λ r. not (r.0 == id_of row)) rows is.map);
+      left = ap (filter (λ (r : ℕ × Row). not (wants w r))) gone ∙ left_without (wants w) rows (id_of row) is.map.rising (only_at (wants w) rows (id_of row) row there.there there.wanted) ∙ is.left;
       schema = c.drop_row.ensures.schema ∙ is.schema;
       bounded = c.drop_row.ensures.bounded ∙ is.bounded;
     }

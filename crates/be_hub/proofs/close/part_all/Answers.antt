@@ -4,7 +4,7 @@ use Rattle.std.proofs.lemmas.List.{map-append}
 use Rattle.std.proofs.lemmas.List.Elements.{All-nil, All-push}
 use Rattle.be_desk.specs.Seats.{SeatState}
 use Rattle.be_hub.specs.Closing.{IsShown}
-use Rattle.be_hub.proofs.Jobs.{gone_through}
+use Rattle.be_hub.proofs.Pairs.{gone_through}
 use Rattle.be_hub.proofs.Closing.{was_pushed}
 use Rattle.be_hub.proofs.close.part_all.Goals as goal
 

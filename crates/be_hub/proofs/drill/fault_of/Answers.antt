@@ -1,6 +1,6 @@
 use Rattle.std.proofs.Common.{◌≡◌, None, Some, find, rules, arith}
 use Rattle.be_hub.specs.Files.{is_split_end}
-use Rattle.be_hub.proofs.Served.{all_read, none_mapped, split_counted}
+use Rattle.be_hub.proofs.FilesClosed.{all_read, none_mapped, split_counted}
 use Rattle.be_hub.proofs.drill.fault_of.Goals as goal
 
 pub returns-in-Some : goal.returns-in-Some

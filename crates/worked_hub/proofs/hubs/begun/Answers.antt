@@ -8,7 +8,7 @@ use Rattle.be_desk.specs.Seats.{word_of, first_seat}
 use Rattle.be_mail.specs.Mailbox.{ForEachState}
 use Rattle.be_mail.specs.Passes.{new_passes}
 use Rattle.be_hub.proofs.Ends.{at_its_place}
-use Rattle.be_hub.proofs.Jobs.{get_map}
+use Rattle.be_hub.proofs.Pairs.{get_map}
 use Rattle.worked_hub.proofs.hubs.begun.Goals as goal
 
 pub served_by-requires-clause-count : goal.served_by-requires-clause-count

@@ -6,7 +6,7 @@ use Rattle.std.proofs.lemmas.List.FromFn.{length-map-range_with_len}
 use Rattle.be_board.specs.Word.{own_in}
 use Rattle.be_desk.specs.Seats.{first_seat, word_of}
 use Rattle.be_hub.proofs.Ends.{all_back}
-use Rattle.be_hub.proofs.Served.{ends_are, places, are_served, none_is}
+use Rattle.be_hub.proofs.FilesClosed.{ends_are, places, are_served, none_is}
 use Rattle.be_hub.proofs.hub.Hub.drill.Goals as goal
 
 pub run_files-requires-clause-count : goal.run_files-requires-clause-count

@@ -1,0 +1,11 @@
+pub mod Blocks
+pub mod ReplyLines
+pub mod Adding
+pub mod Peeling
+pub mod GoingOn
+pub mod Refused
+pub mod Gathered
+pub mod GoneOver
+pub mod LiveNames
+pub mod WholeTexts
+pub mod WholeReplies

@@ -1,0 +1,5 @@
+pub mod Texts
+pub mod Demand
+pub mod Counts
+pub mod Whole
+pub mod Jobs

@@ -1,0 +1,18 @@
+//! What answered events ask for: counted in the files that sessions were served over, beside their transcripts.
+//!
+//! `count_all` reads each file's lines and the replies to them side by side, a worker a file, and counts in shared atomic words
+//! how many replies are a HIT, and for each attribute how many of these answer an event that assigns it. Its one contract: the
+//! numbers are those of the sessions' exchanges, whichever exchanges have these lines and these texts. It stands on be_heat for
+//! the words, on be_session for reading a line and on be_transcript for the texts of replies. Begin with specs/Demand.
+#![tactic(auto)]
+
+mod counting;
+mod cutting;
+mod demand;
+mod laws;
+mod replies;
+mod whole;
+
+pub use demand::{Demand, count_all};
+pub use laws::legal_is_fit;
+pub use whole::{go_over_changes, go_over_names};

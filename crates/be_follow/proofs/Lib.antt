@@ -1,0 +1,11 @@
+pub mod LinesOn
+pub mod Standing
+pub mod Owning
+pub mod Placed
+pub mod Taken
+pub mod CleanTexts
+pub mod Lengths
+pub mod Feeding
+pub mod OneMeaning
+pub mod Answering
+pub mod Reading

@@ -1,0 +1,13 @@
+//! Laws of feeds. Each function's contract is a law, which its proof shows; to call one does nothing.
+
+ghost use Rattle.be_follow.specs.Laws.{FeedsAreFollowed, FeedsMeanOne};
+
+/// The first bytes of a leader's feed mean a beginning of the leader's list, of as many changes as there are whole lines.
+pub fn feeds_are_followed()
+    ensures { FeedsAreFollowed }
+{}
+
+/// Bytes mean one list and one fault, or none.
+pub fn feeds_mean_one()
+    ensures { FeedsMeanOne }
+{}

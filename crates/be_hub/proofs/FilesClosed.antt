@@ -1,0 +1,144 @@
+-- All files, served and closed.
+use Rattle.std.proofs.Common.{◌≡◌, ℕ, ◌+◌, ◌<◌, ◌≤◌, Bool, true, false, List, [], ◌∷◌, length, map, Option, Some, None, slice_get, get_or, refl, sym, ap, ◌∙◌, subst, arith}
+use Rattle.std.specs.Option.{is_some, IsSomeAnd}
+use Rattle.std.specs.Prelude.{find, if◌then◌else◌, ◌||◌, MatchOption}
+use Rattle.std.specs.List.{All, Contains, list_any, range_with_len}
+use Rattle.std.proofs.lemmas.List.{length-map}
+use Rattle.std.proofs.lemmas.List.Elements.{All-cons, All-head, All-nil, All-tail}
+use Rattle.std.proofs.lemmas.List.FromFn.{length-range_with_len}
+use Rattle.std.proofs.lemmas.Option.{slice_get-get_or, slice_get_within, get_or_from_slice_get}
+use Rattle.atomic_table.specs.Seated.{TableId}
+use Rattle.be_model.specs.Schemas.{Attributes}
+use Rattle.be_change.specs.History.{Entry, session_of, IsWellFormed}
+use Rattle.be_mail.specs.Passes.{new_passes}
+use Rattle.be_desk.specs.Closing.{AreRecorded}
+use Rattle.be_desk.specs.Desks.{IsOpened}
+use Rattle.be_desk.specs.Seats.{SeatState, first_seat, IsKeptSeat}
+use Rattle.be_session.specs.declared.serve.SessionEnd.{SessionEnd}
+use Rattle.be_session.specs.declared.serve.SessionEnd.TheVariants.{Eof, Quit, ReadFault, WriteFault, Spent, Split, NoMemory}
+use Rattle.be_hub.specs.Closing.{KeepsAll}
+use Rattle.be_hub.specs.Files.{FileServed, IsFileEnd, IsRead, lacks_memory, is_split_end, IsEndOf}
+use Rattle.be_hub.specs.Transcripts.{IsTranscript, AreServed}
+use Rattle.be_hub.proofs.Ends.{there, at_its_place}
+use Rattle.be_hub.proofs.Pairs.{get_map, one_at}
+use Rattle.be_hub.proofs.Places.{at_of_all}
+use Rattle.be_hub.proofs.Transcripts.{transcript_of, own_session, end_of_file}
+
+read_else : (end : SessionEnd) → lacks_memory end ≡ false → is_split_end end ≡ false → IsFileEnd end → IsRead end
+read_else Eof m s q = tt
+read_else Quit m s q = tt
+read_else (Split i j) m s q = absurd cc
+read_else NoMemory m s q = absurd cc
+read_else ReadFault m s q = absurd q
+read_else WriteFault m s q = absurd q
+read_else Spent m s q = absurd q
+
+module _ {E : Type 0} (seat_in : E → SeatState) (end_in : E → SessionEnd) where
+  -- where no session lacked memory and none was split, each file was read
+  pub all_read : (ends : List E) → list_any (λ e. lacks_memory (end_in e)) ends ≡ false → find (λ e. is_split_end (end_in e)) ends ≡ None → All (λ e. IsEndOf (seat_in e) (end_in e)) ends → All (λ e. IsRead (end_in e)) ends
+  all_read [] none first all = All-nil (λ e. IsRead (end_in e))
+  all_read (e ∷ es) none first all = go (lacks_memory (end_in e)) refl (is_split_end (end_in e)) refl none first (all_read es)
+    where
+      go : (m : Bool) → lacks_memory (end_in e) ≡ m → (s : Bool) → is_split_end (end_in e) ≡ s → (m || list_any (λ x. lacks_memory (end_in x)) es) ≡ false
+          → (if s then Some e else find (λ x. is_split_end (end_in x)) es) ≡ None
+          → (list_any (λ x. lacks_memory (end_in x)) es ≡ false → find (λ x. is_split_end (end_in x)) es ≡ None → All (λ x. IsEndOf (seat_in x) (end_in x)) es → All (λ x. IsRead (end_in x)) es)
+          → All (λ x. IsRead (end_in x)) (e ∷ es)
+      go true m s is none first rest = absurd cc
+      go false m true is none first rest = absurd cc
+      go false m false is none first rest =
+          All-cons (λ x. IsRead (end_in x)) e es (read_else (end_in e) m is (All-head (λ x. IsEndOf (seat_in x) (end_in x)) e es all).quiet)
+          (rest none first (All-tail (λ x. IsEndOf (seat_in x) (end_in x)) e es all))
+
+-- what was mapped to none was none
+pub none_mapped : {X Y : Type 0} (Q : X → Y → Type 0) (o : Option X) (r : Option Y) → r ≡ None → MatchOption o (r ≡ None) (λ x. IsSomeAnd r (Q x)) → o ≡ None
+none_mapped Q None r is m = refl
+none_mapped {X} {Y} Q (Some x) r is m = absurd (subst (λ (y : Option Y). IsSomeAnd y (Q x)) is m)
+
+pub none_is : {X : Type 0} (o : Option X) → is_some o ≡ false → o ≡ None
+none_is None e = refl
+none_is (Some x) e = absurd cc
+
+one_same : {X : Type 0} (x y : X) → Some x ≡ Some y → x ≡ y
+one_same x y e = cc
+
+-- of what is found the test holds, and what holds of all
+pub found_holds : {X : Type 0} (P : X → Type 0) (p : X → Bool) (xs : List X) (x : X) → All P xs → find p xs ≡ Some x → P x × (p x ≡ true)
+found_holds P p [] x all e = absurd cc
+found_holds {X} P p (y ∷ ys) x all e = go (p y) refl e (found_holds P p ys x (All-tail P y ys all))
+  where
+    go : (b : Bool) → p y ≡ b → (if b then Some y else find p ys) ≡ Some x → (find p ys ≡ Some x → P x × (p x ≡ true)) → P x × (p x ≡ true)
+    go true is f rest = let same : y ≡ x = one_same y x f in (subst P same (All-head P y ys all), subst (λ (z : X). p z ≡ true) same is)
+    go false is f rest = rest f
+
+-- the seat of the first split has counted one
+pub split_counted : {E : Type 0} (seat_in : E → SeatState) (end_in : E → SessionEnd) (ends : List E) (end : E) → All (λ e. IsEndOf (seat_in e) (end_in e)) ends → find (λ e. is_split_end (end_in e)) ends ≡ Some end → 0 < (seat_in end).splits
+split_counted seat_in end_in ends end all first =
+    let f = found_holds (λ e. IsEndOf (seat_in e) (end_in e)) (λ e. is_split_end (end_in e)) ends end all first in
+    f.0.counted f.1
+
+-- the seats at the beginning, one for each file
+pub seat_at : (opening : List Entry) (boxes : List TableId) (n i : ℕ) (seats : List SeatState) → seats ≡ map (first_seat opening boxes) (range_with_len 0 n) → i < n → slice_get seats i ≡ Some (first_seat opening boxes i)
+seat_at opening boxes n i seats is lt =
+    let f = first_seat opening boxes in
+    let there_is = there seats i (omega (arith, lt, ap (λ (l : List SeatState). length l) is, length-map (range_with_len 0 n) f, length-range_with_len 0 n)) in
+    let k = get_map f (range_with_len 0 n) i there_is.0 (subst (λ (l : List SeatState). slice_get l i ≡ Some there_is.0) is there_is.1) in
+    there_is.1 ∙ ap (λ (s : SeatState). Some s) (sym k.2 ∙ ap f (at_its_place n i k.0 k.1))
+
+-- what a map gave stands where what it was given stands
+pub there_mapped : {E : Type 0} (seat_in : E → SeatState) (ends : List E) (back : List SeatState) → back ≡ map seat_in ends → (i : ℕ) (end : E) → slice_get ends i ≡ Some end → slice_get back i ≡ Some (seat_in end)
+there_mapped seat_in ends back is i end at =
+    let there_is = there back i (omega (arith, slice_get_within ends i end at, ap (λ (l : List SeatState). length l) is, length-map ends seat_in)) in
+    let k = get_map seat_in ends i there_is.0 (subst (λ (l : List SeatState). slice_get l i ≡ Some there_is.0) is there_is.1) in
+    there_is.1 ∙ ap (λ (x : SeatState). Some x) (sym k.2 ∙ ap seat_in (one_at ends i k.0 end k.1 at))
+
+module _ {E F : Type 0} (seat_in : E → SeatState) (text_in : E → List ℕ) (end_in : E → SessionEnd) (bytes_in : F → List ℕ) (s : Attributes) (boxes : List TableId) (opening : List Entry) (files : List F) (ends : List E) (seats : List SeatState)
+    (first : seats ≡ map (first_seat opening boxes) (range_with_len 0 (length files))) (count : length ends ≡ length files)
+    (served : (i : ℕ) (seat : SeatState) (file : F) (end : E) → slice_get seats i ≡ Some seat → slice_get files i ≡ Some file → slice_get ends i ≡ Some end → FileServed s (bytes_in file) seat (seat_in end) (text_in end) (end_in end))
+  where
+    -- what was left at a place is of the file there
+    served_at : (i : ℕ) (end : E) → slice_get ends i ≡ Some end → (file : F) × (slice_get files i ≡ Some file) × FileServed s (bytes_in file) (first_seat opening boxes i) (seat_in end) (text_in end) (end_in end)
+    served_at i end at =
+        let lt : i < length files = omega (arith, slice_get_within ends i end at, count) in
+        let file = there files i lt in
+        (file.0, file.1, served i (first_seat opening boxes i) file.0 end (seat_at opening boxes (length files) i seats first lt) file.1 at)
+
+    -- each seat comes back at its place
+    pub places : (i : ℕ) (end : E) → slice_get ends i ≡ Some end → (seat_in end).passes.seat ≡ i
+    places i end at = (served_at i end at).2.board.goes.seat
+
+    -- each session ended as a file's
+    pub ends_are : All (λ e. IsEndOf (seat_in e) (end_in e)) ends
+    ends_are k d lt =
+        let e : E = get_or ends k d in
+        let one = served_at k e (slice_get-get_or ends k d lt) in
+        end_of_file s (bytes_in one.0) (text_in e) (first_seat opening boxes k) (seat_in e) (end_in e) one.2
+
+    pub are_served : (h : List Entry) (back : List SeatState) (shuts : Bool) (texts : List (List ℕ)) → All (λ e. IsRead (end_in e)) ends → All (IsKeptSeat boxes) back → back ≡ map seat_in ends → texts ≡ map text_in ends
+        → (shuts ≡ false → All (λ e. (seat_in e).glass.shuts ≡ 0) ends) → IsWellFormed h → All (KeepsAll boxes h) back → AreRecorded (length h) h back → IsOpened opening h
+        → AreServed s opening h shuts (map bytes_in files) texts
+    are_served h back shuts texts read kept is texts_are quiet formed keeps recorded opened = record {
+      formed = formed;
+      begins = opened.begins;
+      sessions = λ p e le at.
+          let some = opened.behind p e le at in
+          let found = recorded p e (slice_get_within h p e at) at some in
+          let stands : slice_get back found.0 ≡ Some found.1 = slice_get-get_or back found.0 found.1 found.2 ∙ ap (λ (x : SeatState). Some x) found.3 in
+          let end = get_map seat_in ends found.0 found.1 (subst (λ (l : List SeatState). slice_get l found.0 ≡ Some found.1) is stands) in
+          let one = served_at found.0 end.0 end.1 in
+          let session = own_session s (bytes_in one.0) (text_in end.0) (first_seat opening boxes found.0) (seat_in end.0) (end_in end.0) p e one.2 refl (subst (λ (x : SeatState). Contains x.own (p, e)) (sym end.2) found.4) in
+          (some, omega (arith, session, slice_get_within files found.0 one.0 one.1, length-map files bytes_in));
+      count = ap (λ (l : List (List ℕ)). length l) texts_are ∙ (length-map ends text_in ∙ (count ∙ sym (length-map files bytes_in)));
+      each = λ i file text at_file at_text.
+          let end = get_map text_in ends i text (subst (λ (l : List (List ℕ)). slice_get l i ≡ Some text) texts_are at_text) in
+          let mine = get_map bytes_in files i file at_file in
+          let one = served_at i end.0 end.1 in
+          let same : one.0 ≡ mine.0 = one_at files i one.0 mine.0 one.1 mine.1 in
+          let seat = seat_in end.0 in
+          let at_back : slice_get back i ≡ Some seat = there_mapped seat_in ends back is i end.0 end.1 in
+          let kept_seat : IsKeptSeat boxes seat = at_of_all (IsKeptSeat boxes) back i seat kept at_back in
+          let keeps_seat = at_of_all (KeepsAll boxes h) back i seat keeps at_back in
+          subst (λ (x : List ℕ). IsTranscript s (i + 1) (length opening) h shuts x text) (ap bytes_in same ∙ mine.2)
+          (subst (λ (x : List ℕ). IsTranscript s (i + 1) (length opening) h shuts (bytes_in one.0) x) end.2
+          (transcript_of s (length opening) h shuts (bytes_in one.0) (text_in end.0) (first_seat opening boxes i) seat (end_in end.0) one.2 (at_of_all (λ e. IsRead (end_in e)) ends i end.0 read end.1)
+          (keeps_seat seat.session kept_seat.somebody kept_seat.seat_is) (omega arith) (λ e. at_of_all (λ x. (seat_in x).glass.shuts ≡ 0) ends i end.0 (quiet e) end.1)));
+    }

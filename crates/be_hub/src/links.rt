@@ -1,0 +1,212 @@
+//! A worker that serves links of a door, each as a session of its own.
+
+ghost use Rattle.std.specs.Prelude.{◌≡◌, ◌+◌, ◌<◌, ◌≤◌, ◌*◌, [], length, true, false, if◌then◌else◌, IfOk, vec_len, vec_capacity};
+ghost use Rattle.be_base.specs.declared.limits.TheConstants.{LINKS, SEATS};
+ghost use Rattle.be_base.specs.Counts.{HasRisen};
+ghost use Rattle.be_board.specs.Word.{own_in};
+ghost use Rattle.be_desk.specs.Seats.{SeatState, word_of, IsKeptSeat};
+ghost use Rattle.be_desk.specs.declared.desk.TheConstants.{SESSIONS_END};
+ghost use Rattle.be_door.specs.Counts.{CountState, IsSound, after_given};
+ghost use Rattle.be_door.specs.Door.{IsOf};
+ghost use Rattle.be_door.specs.Links.{IsUnused};
+ghost use Rattle.be_hub.specs.Links.{SessionServed, LinksServed, WorkerServed, MayBegin, session_at};
+ghost use Rattle.be_io.specs.Outside.{link_state};
+
+use crate::board::DeskBoard;
+use crate::hub::Hub;
+use crate::jobs::Job;
+use be_base::NoMemory;
+use be_desk::{Broom, Maintained, Seat};
+use be_door::{Door, DoorCount};
+use be_io::{Gate, Link};
+use be_mail::{BoxNames, Post};
+use be_published::{Naming, Sheet};
+use be_session::{SessionEnd, serve_link};
+use std::alloc::Global;
+use std::sync::{MutexGuard, Wait};
+
+/// The session of a worker's seat is below this at the beginning: 2^61.
+pub const FIRST_END: u64 = 2305843009213693952;
+
+/// After a session the rows are maintained at most so many times, until there is memory for it.
+const TRIES: u64 = 8;
+
+/// What a worker leaves of the links that it served: its seat and its count, how each session ended, in the order in which the
+/// links were given back, and the calls of the maintainer that it made.
+#[derive(Drop)]
+pub struct WorkEnd<T: Sheet<J>, J: Naming + BoxNames, L> {
+    pub seat: Seat<T, J>,
+    pub count: DoorCount<L>,
+    pub ends: Vec<SessionEnd>,
+    pub broom: Broom,
+}
+
+// A link that was served, what served it, and how its session ended.
+#[derive(Drop)]
+struct Visit<T: Sheet<J>, J: Naming + BoxNames, L> {
+    seat: Seat<T, J>,
+    broom: Broom,
+    link: L,
+    end: SessionEnd,
+}
+
+// Serves links until there are none left. It stops where there is no room for the next session's end.
+pub(crate) fn serve_links<
+    T: Sheet<J>,
+    J: Naming + BoxNames,
+    S: Post,
+    R: Wait,
+    L: Link + Drop,
+    D: Door<L>,
+    G: Gate,
+>(
+    rt: &R,
+    alloc: Global,
+    hub: &Hub<T, J, S>,
+    door: &D,
+    gate: &G,
+    job: Job<T, J, DoorCount<L>>,
+) -> Result<WorkEnd<T, J, L>, NoMemory>
+    requires few { (0 < length J.boxes) × (length J.boxes ≤ SEATS) }
+    requires may { MayBegin (D.state door.now) job.seat job.task }
+    ensures { IfOk result (λ end. WorkerServed (link_state L.Source L.Sink) J.schema J.boxes (D.state door.now) job.seat end.seat end.count end.ends.items end.broom) }
+{
+    let Job { seat, task, worker } = job;
+    let mut work = WorkEnd {
+        seat,
+        count: task,
+        ends: Vec::new(alloc),
+        broom: Broom::make(),
+    };
+    loop {
+        work.ends.reserve(1)?;
+        match door.accept(&mut work.count) {
+            Ok(Some(link)) => work = serve_next(rt, alloc, hub, door, gate, worker, work, link),
+            Ok(None) => return Ok(work),
+            Err(_) => {}
+        }
+    }
+}
+
+// Serves the link that was given out last, and gives it back. The seat enters a new session for each link after its first.
+fn serve_next<
+    T: Sheet<J>,
+    J: Naming + BoxNames,
+    S: Post,
+    R: Wait,
+    L: Link + Drop,
+    D: Door<L>,
+    G: Gate,
+>(
+    rt: &R,
+    alloc: Global,
+    hub: &Hub<T, J, S>,
+    door: &D,
+    gate: &G,
+    worker: u32,
+    work: WorkEnd<T, J, L>,
+    link: L,
+) -> WorkEnd<T, J, L>
+    requires some { 0 < length J.boxes }
+    requires of_last { IsOf (D.state door.now) work.count }
+    requires out { (work.count.given ≡ work.count.back + 1) × IsSound work.count }
+    requires room { vec_len work.ends < vec_capacity work.ends }
+    requires fresh { work.ends.items ≡ [] → own_in (word_of work.seat) ≡ [] }
+    requires number { work.seat.session < SESSIONS_END }
+    requires unused { IsUnused (link_state L.Source L.Sink link) }
+    ensures served { (first : SeatState) → LinksServed (link_state L.Source L.Sink) J.schema J.boxes first work.seat work.count work.ends.items work.broom
+        → LinksServed (link_state L.Source L.Sink) J.schema J.boxes first result.seat result.count result.ends.items result.broom }
+    ensures ended { length result.ends.items ≡ length work.ends.items + 1 }
+    ensures back { (result.count.given ≡ work.count.given) × (result.count.back ≡ work.count.given) × (result.count.failed ≡ work.count.failed) × (result.count.refused ≡ work.count.refused) }
+    ensures same { IsOf (D.state door.now) result.count × (result.count.ended ≡ work.count.ended) × (result.count.links ≡ work.count.links) }
+{
+    let WorkEnd {
+        seat,
+        mut count,
+        mut ends,
+        broom,
+    } = work;
+    let seat = next_seat(rt, hub, seat, ends.is_empty());
+    let session = seat.session();
+    let Visit {
+        seat,
+        mut broom,
+        link,
+        end,
+    } = serve_session(rt, alloc, hub, gate, worker, seat, broom, link);
+    publish_held(rt, hub, &mut broom);
+    door.give_back(&mut count, session, link);
+    ends.push_reserved(end);
+    WorkEnd {
+        seat,
+        count,
+        ends,
+        broom,
+    }
+}
+
+// The seat in its next session, or in its first one.
+fn next_seat<T: Sheet<J>, J: Naming + BoxNames, S: Post, R: Wait>(
+    rt: &R,
+    hub: &Hub<T, J, S>,
+    seat: Seat<T, J>,
+    is_first: bool,
+) -> Seat<T, J>
+    requires number { seat.session < SESSIONS_END }
+    requires fresh { is_first ≡ true → own_in (word_of seat) ≡ [] }
+    ensures entered { result ≡ (if is_first then seat else record seat { session = seat.session + length J.boxes }) }
+    ensures fresh { own_in (word_of result) ≡ [] }
+{
+    if is_first {
+        return seat;
+    }
+    let mut seat = seat;
+    let guard = hub.desk.lock(rt);
+    guard.enter(&mut seat);
+    MutexGuard::unlock(guard);
+    seat
+}
+
+// Serves the seat's session over a link.
+fn serve_session<T: Sheet<J>, J: Naming + BoxNames, S: Post, R: Wait, L: Link, G: Gate>(
+    rt: &R,
+    alloc: Global,
+    hub: &Hub<T, J, S>,
+    gate: &G,
+    worker: u32,
+    seat: Seat<T, J>,
+    broom: Broom,
+    link: L,
+) -> Visit<T, J, L>
+    requires fresh { own_in (word_of seat) ≡ [] }
+    ensures { SessionServed J.schema seat result.seat (link_state L.Source L.Sink link) (link_state L.Source L.Sink result.link) result.end broom result.broom }
+{
+    let mut link = link;
+    let mut board = DeskBoard::make(rt, hub, seat, broom, true);
+    let end = serve_link(alloc, &hub.schema, &mut board, &mut link, gate, worker);
+    let (seat, broom) = board.take();
+    Visit {
+        seat,
+        broom,
+        link,
+        end,
+    }
+}
+
+// Maintains the rows until there is memory for it, so that a change that is held is published.
+fn publish_held<T: Sheet<J>, J: Naming + BoxNames, S: Post, R: Wait>(
+    rt: &R,
+    hub: &Hub<T, J, S>,
+    broom: &mut Broom,
+)
+    ensures { HasRisen broom.old broom.new }
+{
+    for _ in 0..TRIES {
+        let mut guard = hub.desk.lock(rt);
+        let done = guard.maintain(rt, broom);
+        MutexGuard::unlock(guard);
+        if !matches!(done, Maintained::NoMemory) {
+            return;
+        }
+    }
+}

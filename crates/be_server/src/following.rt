@@ -1,0 +1,121 @@
+//! The command `follow`: events answered from the list that a feed gives.
+
+ghost use Rattle.std.specs.Prelude.{◌≡◌, ◌∷◌, [], IfOk};
+ghost use Rattle.be_io.specs.Outside.{source_state, sink_state};
+ghost use Rattle.be_session.specs.Served.{TakesWithin};
+ghost use Rattle.be_follow.specs.Followers.{new_follower, Follows};
+ghost use Rattle.be_follow.specs.Reads.{ReadsEnd};
+ghost use Rattle.be_server.specs.Files.{AsksFor};
+ghost use Rattle.be_server.specs.Follows.{follow_files, LoadsFeed, LoadsFollower, HasFed, FollowEnds};
+ghost use Rattle.be_server.specs.Promise.{command_state, link};
+
+use crate::files::load_schema;
+use crate::run::status_of;
+use crate::status::Status;
+use be_base::NoMemory;
+use be_follow::{Follower, serve_reads};
+use be_io::{Pair, Shelf, Sink, Source};
+use be_model::Schema;
+use be_session::SessionEnd;
+use be_tree::BeTree;
+use std::alloc::Global;
+use std::sync::Arc;
+
+/// Feeds the file to a follower, in the schema of the other file, and then answers the input from its list.
+#[tactic(auto, using(crate::proofs::FollowEnded::follow_status, crate::proofs::FollowEnded::follow_ended, crate::proofs::FollowEnded::follow_refused))]
+pub fn follow<F: Shelf, S: Source, K: Sink>(
+    alloc: Global,
+    schema: &str,
+    file: &str,
+    shelf: &mut F,
+    input: &mut S,
+    out: &mut K,
+) -> Status
+    ensures ends { FollowEnds ((input.new ≡ input.old) × (out.new ≡ out.old)) (follow_files (F.content shelf.old) schema.now file.now)
+        (command_state (F.read_faults shelf.old) (source_state S.Source input.old) (sink_state K.Sink out.old))
+        (command_state (F.read_faults shelf.new) (source_state S.Source input.new) (sink_state K.Sink out.new))
+        result }
+    ensures within { TakesWithin (S.taken input.old) (S.taken input.new) }
+    ensures asked { AsksFor (schema.now ∷ file.now ∷ []) (F.asked shelf.old) (F.asked shelf.new) }
+{
+    match load_feed(alloc, shelf, schema, file) {
+        Ok(follower) => status_of(serve_pair(&follower, input, out)),
+        Err(status) => status,
+    }
+}
+
+// Reads the schema, and what the feed gives in it.
+#[tactic(auto, using(crate::proofs::FollowEnded::schema_refused, crate::proofs::FollowEnded::feed_loaded, crate::proofs::Loading::asks_schema, crate::proofs::Loading::asks_load))]
+fn load_feed<F: Shelf>(
+    alloc: Global,
+    shelf: &mut F,
+    schema: &str,
+    file: &str,
+) -> Result<Follower<BeTree>, Status>
+    ensures loads { LoadsFeed (follow_files (F.content shelf.old) schema.now file.now) (F.read_faults shelf.old) (F.read_faults shelf.new) result }
+    ensures asked { AsksFor (schema.now ∷ file.now ∷ []) (F.asked shelf.old) (F.asked shelf.new) }
+{
+    match load_schema(alloc, shelf, schema) {
+        Ok(schema) => load_follower(alloc, shelf, schema, file),
+        Err(status) => Err(status),
+    }
+}
+
+// Reads what the feed gives in this schema.
+#[tactic(auto, using(crate::proofs::FollowEnded::feed_refused, crate::proofs::FollowEnded::feed_came, crate::proofs::FollowEnded::asks_file))]
+fn load_follower<F: Shelf>(
+    alloc: Global,
+    shelf: &mut F,
+    schema: Schema,
+    file: &str,
+) -> Result<Follower<BeTree>, Status>
+    ensures loads { LoadsFollower schema (F.content shelf.old file.now) (F.read_faults shelf.old) (F.read_faults shelf.new) result }
+    ensures asked { AsksFor (file.now ∷ []) (F.asked shelf.old) (F.asked shelf.new) }
+{
+    match shelf.read_file(alloc, file) {
+        Ok(bytes) => fed(alloc, schema, bytes.as_slice()),
+        Err(fault) => Err(Status::from(fault)),
+    }
+}
+
+// A follower that was fed these bytes.
+#[tactic(auto, using(crate::proofs::FollowEnded::fed_whole, crate::proofs::FollowEnded::fed_fault))]
+fn fed(alloc: Global, schema: Schema, bytes: &[u8]) -> Result<Follower<BeTree>, Status>
+    ensures { HasFed schema bytes.now result }
+{
+    let Ok(mut follower) = follower_in(alloc, schema) else {
+        return Err(Status::NoMemory);
+    };
+    match follower.feed(bytes) {
+        Ok(()) => Ok(follower),
+        Err(fault) => Err(Status::from(fault)),
+    }
+}
+
+// A follower over a tree.
+fn follower_in(alloc: Global, schema: Schema) -> Result<Follower<BeTree>, NoMemory>
+    ensures made { IfOk result (λ follower. follower ≡ new_follower schema) }
+    ensures follows { IfOk result (λ follower. Follows [] follower) }
+{
+    let schema = Arc::new(alloc, schema).map_err(|_| NoMemory)?;
+    let shared = Arc::try_clone(&schema)?;
+    Ok(Follower::make(alloc, schema, BeTree::make(alloc, shared)))
+}
+
+// Answers over two objects.
+fn serve_pair<S: Source, K: Sink>(
+    follower: &Follower<BeTree>,
+    input: &mut S,
+    out: &mut K,
+) -> SessionEnd
+    ensures ends { ReadsEnd ((input.new ≡ input.old) × (out.new ≡ out.old)) follower.now.schema follower.now.fed.list
+        (link (source_state S.Source input.old) (sink_state K.Sink out.old))
+        (link (source_state S.Source input.new) (sink_state K.Sink out.new)) result }
+    ensures within { TakesWithin (S.taken input.old) (S.taken input.new) }
+{
+    let mut peer = Pair {
+        source: input,
+        sink: out,
+    };
+    serve_reads(follower, &mut peer)
+}

@@ -1,0 +1,261 @@
+#!/usr/bin/env python3
+"""Drives `serve` over TCP with clients that behave and clients that don't, and judges what each saw over the list that the
+server prints. Its one word is the program. Ends with 1 at the first difference."""
+import os
+import socket
+import sys
+import tempfile
+import threading
+import time
+
+sys.dont_write_bytecode = True
+import mixed
+import model
+from network import Illegal, Server, judge
+
+sys.path.insert(0, os.path.join(os.path.dirname(os.path.dirname(os.path.abspath(__file__))), "examples", "client"))
+from justmeadow import Connection, Refused  # noqa: E402
+
+PROGRAM = sys.argv[1]
+passed = 0
+
+
+def same(what, given, wanted):
+    global passed
+    if given != wanted:
+        sys.exit(f"FAILED: serve: {what}: {given!r}, and not {wanted!r}")
+    passed += 1
+
+
+def is_legal(what, seats, output, whole, cut=(), opening=()):
+    global passed
+    try:
+        served, count, kinds = judge(list(opening), seats, output, whole, cut)
+    except Illegal as why:
+        sys.exit(f"FAILED: serve: {what}: NOT LEGAL: {why}")
+    passed += 1
+    return served, count, kinds
+
+
+def in_threads(calls):
+    """Runs these at once. The first that fails ends the program."""
+    faults = []
+
+    def run(call):
+        try:
+            call()
+        except BaseException as fault:  # a thread's fault would be lost
+            faults.append(fault)
+
+    threads = [threading.Thread(target=run, args=(call,)) for call in calls]
+    for thread in threads:
+        thread.start()
+    for thread in threads:
+        thread.join()
+    if faults:
+        sys.exit(f"FAILED: serve: a client: {faults[0]!r}")
+
+
+def one_client(schema):
+    server = Server(PROGRAM, schema, 1, 1)
+    client = server.client()
+    client.send(b"SUB a price >= 10\nPUB price=10\nPUB price=9\n")
+    client.finish()
+    same("what one client got", client.came, b"OK 1\nHIT 1 1 a\nHIT 1 0\n")
+    same("one client", server.end(), (0, b"== LOG 2\nSUB 1 0 a price >= 10\nBYE 1 1\nSERVED 1 2\n", b""))
+
+
+def connected(server):
+    """The client of examples/client, once the server listens."""
+    until = time.monotonic() + 60
+    while True:
+        try:
+            return Connection(server.port)
+        except ConnectionRefusedError:
+            if time.monotonic() > until:
+                raise
+            time.sleep(0.01)
+
+
+def each_reply_at_once(schema):
+    """Each reply is there before the next line is sent, and a second link waits for the one seat."""
+    server = Server(PROGRAM, schema, 1, 2)
+    first, second = server.client(), server.client()
+    same("a change", first.ask("SUB a all"), "OK 1")
+    same("an event", first.ask("PUB -"), "HIT 1 1 a")
+    second.send(b"PUB -\n")
+    same("a leave", first.ask("QUIT"), "BYE 2")
+    same("the second link", second.line(), "HIT 2 0")
+    second.finish()
+    first.close()
+    same("two links", server.end(), (0, b"== LOG 3\nSUB 1 0 a all\nBYE 1 1\nBYE 2 0\nSERVED 2 3\n", b""))
+
+
+def the_client(schema):
+    """Two sessions by the client of examples/client, which see each other's changes."""
+    server = Server(PROGRAM, schema, 2, 2)
+    with connected(server) as first, connected(server) as second:
+        same("the client: a change", first.subscribe("cheap", "price <= 250"), 1)
+        same("the client: a change of the other", second.subscribe("buys", "side = buy"), 2)
+        same("the client: hits", sorted(first.publish("price=240 side=buy")), ["buys", "cheap"])
+        try:
+            sys.exit(f"FAILED: serve: the client: the other's name was removed: {second.unsubscribe('cheap')}")
+        except Refused as refusal:
+            same("the client: another's name", refusal.words, ["OTHER", "2", "0"])
+        same("the client: a letter", first.send("side=buy"), (1, 0))
+        same("the client: it is fetched", second.fetch(5), [("buys", "side=buy")])
+    code, out, err = server.end()
+    same("the client's server", (code, err, out.count(b"\n")), (0, b"", 6))
+
+
+def many_clients(schema, load, opening, seats, links, lines):
+    """Clients at once, each with lines of its own, over an opening table."""
+    server = Server(PROGRAM, schema, seats, links, ["--load", load])
+    clients = [None] * links
+    turns = threading.Semaphore(2 * seats)
+
+    def one(number):
+        with turns:
+            client = clients[number] = server.client()
+            text = f"SUB client{number} all\n" + mixed.Mixed(number + 1, links).text(lines)
+            client.send(text.encode("latin-1"))
+            client.finish()
+
+    in_threads([lambda number=number: one(number) for number in range(links)])
+    code, out, err = server.end()
+    same("the status of many clients", (code, err), (0, b""))
+    served, count, kinds = is_legal(f"{links} clients at {seats} seats", seats, out, clients, opening=opening)
+    same("links served", served, links)
+    print(f"serve: {links} clients at {seats} seats: legal over {count} changes:", ", ".join(f"{kinds[kind]} {kind}" for kind in sorted(kinds)))
+
+
+def half_a_line(schema):
+    """A client sends half a line and no more, one sends half a line and goes, and others go on."""
+    server = Server(PROGRAM, schema, 3, 3)
+    half, gone, other = server.client(), server.client(), server.client()
+    half.send(b"SUB half all\nPUB pri")
+    half.finish()
+    gone.send(b"SUB gone all\nPUB pri")
+    gone.close()
+    other.send(b"SUB other all\nPUB -\n")
+    other.finish()
+    code, out, _ = server.end()
+    if code not in (0, 4, 5):
+        sys.exit(f"FAILED: serve: half a line: ended with {code}")
+    same("half a line", half.came.split(b"\n")[1:], [b"BAD", b""])
+    served, count, _ = is_legal("half a line", 3, out, [half, other], [gone])
+    same("half a line: links served", served, 3)
+    same("half a line: changes", count, 6)
+
+
+def never_reads(schema):
+    """A client that never reads is waited for, and others go on beside it."""
+    server = Server(PROGRAM, schema, 2, 3)
+    silent = server.client()
+    same("a client that will not read", silent.ask("SUB silent all"), "OK 1")
+    silent.socket.setblocking(False)
+    lines, flooded, refused = b"TAIL 0 1\n" * 1000, 0, 0
+    while refused < 20:
+        try:
+            flooded += silent.socket.send(lines[flooded % len(lines) :])
+            refused = 0
+        except BlockingIOError:
+            refused += 1
+            time.sleep(0.02)
+    silent.sent += (lines * (flooded // len(lines) + 1))[:flooded]
+    others = [server.client(), server.client()]
+    for number, other in enumerate(others):
+        other.send(b"SUB other%d all\nPUB -\nLIST\n" % number)
+        other.finish()
+    silent.close()
+    code, out, _ = server.end()
+    if code not in (4, 5):
+        sys.exit(f"FAILED: serve: a client that never reads: ended with {code}")
+    served, count, _ = is_legal("a client that never reads", 2, out, others, [silent])
+    same("a client that never reads: links served and changes", (served, count), (3, 6))
+
+
+def long_line(schema, size):
+    """A line over the limit, of any length, is one LONG."""
+    server = Server(PROGRAM, schema, 2, 2)
+    client, other = server.client(), server.client()
+    client.send(b"SUB a all\n")
+    piece = b"x" * (1 << 20)
+    for _ in range(size >> 20):
+        client.socket.sendall(piece)
+    client.send(b"\nPUB -\n")
+    other.send(b"LIST\n")
+    client.finish()
+    other.finish()
+    code, out, err = server.end()
+    same("a long line", (code, err), (0, b""))
+    same("a long line's replies", client.came.split(b"\n")[1], b"LONG")
+    same("what follows a long line", client.came.split(b"\n")[2][:4], b"HIT ")
+
+
+def resets(schema):
+    """Connections that break off end their sessions, which leave, and no other."""
+    server = Server(PROGRAM, schema, 4, 8)
+    broken = [server.client() for _ in range(4)]
+    for number, client in enumerate(broken):
+        client.ask(f"SUB broken{number} all")
+    for client in broken:
+        client.reset()
+    whole = [server.client() for _ in range(4)]
+    for number, client in enumerate(whole):
+        client.send(b"SUB whole%d all\nPUB -\nLIST\n" % number)
+        client.finish()
+    code, out, err = server.end()
+    same("resets", (code, err), (4, b"read fault\n"))
+    served, count, _ = is_legal("resets", 4, out, whole, broken)
+    same("resets: links served and changes", (served, count), (8, 16))
+
+
+def taken_port(schema):
+    """A port at which somebody else listens is a read fault, and nothing is written."""
+    with socket.socket() as taken:
+        taken.bind(("127.0.0.1", 0))
+        taken.listen()
+        server = Server(PROGRAM, schema, 1, 1, port=taken.getsockname()[1])
+        same("a port that is taken", server.end(), (4, b"", b"read fault\n"))
+
+
+def is_idle(schema):
+    """A server that nobody asks takes no processor time."""
+    server = Server(PROGRAM, schema, 64, 1)
+    client = server.client()
+    client.ask("PUB -")
+    before = server.ticks()
+    time.sleep(2)
+    spent = server.ticks() - before
+    client.finish()
+    same("an idle server", server.end()[0], 0)
+    if spent > 2:
+        sys.exit(f"FAILED: serve: an idle server took {spent} hundredths of a second in two seconds")
+    print(f"serve: an idle server with 64 seats took {spent} hundredths of a second in two seconds")
+
+
+def main():
+    with tempfile.TemporaryDirectory() as room:
+        mixed.main(room, 1, 1, 9)
+        schema, load = os.path.join(room, "schema.txt"), os.path.join(room, "load.txt")
+        with open(load, encoding="latin-1", newline="") as file:
+            opening, fault = model.table(file.read().replace("\r\n", "\n"))
+        if fault:
+            sys.exit(fault)
+        one_client(schema)
+        each_reply_at_once(schema)
+        the_client(schema)
+        taken_port(schema)
+        half_a_line(schema)
+        never_reads(schema)
+        long_line(schema, 100 << 20)
+        resets(schema)
+        is_idle(schema)
+        many_clients(schema, load, opening, 4, 12, 300)
+        many_clients(schema, load, opening, 64, 200, 40)
+    print(f"{passed} passed, 0 failed")
+
+
+if __name__ == "__main__":
+    main()
