@@ -13,4 +13,3 @@ pub mod Reading
 pub mod Buffer
 pub mod LineReader
 pub mod Shelf
-pub mod Door

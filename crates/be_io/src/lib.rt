@@ -1,4 +1,4 @@
-//! What the product takes from the outside and gives to it: sources, sinks, links, doors, shelves and gates, as traits with
+//! What the product takes from the outside and gives to it: sources, sinks, links, shelves and gates, as traits with
 //! counts of faults, and lines read from a source.
 //!
 //! Its contract: lines are those of the bytes read, and a fault comes only where the object that was handed in counted it. Each
@@ -8,7 +8,6 @@
 
 mod buffer;
 mod calls;
-mod door;
 mod faults;
 mod file_lines;
 mod gate;
@@ -20,7 +19,6 @@ mod source;
 mod standard;
 mod writing;
 
-pub use door::{Door, DoorCount, NoDoor};
 pub use faults::{AcceptFault, Failed, LineFault, ListenFault, ShelfFault, SinkFault};
 pub use file_lines::{first_line, means_nothing};
 pub use gate::{Gate, NoGate};
