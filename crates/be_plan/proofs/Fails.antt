@@ -1,7 +1,7 @@
 -- Enough rows pass a test where few fail it, and an attribute that isn't used is had by rows that have one.
-use Rattle.std.proofs.Common.{◌≡◌, ℕ, zero, suc, ◌+◌, ◌-◌, ◌<◌, ◌≤◌, eqb, leb, Bool, true, false, true≢false, not, cond, ◌&&◌, ◌||◌, List, [], ◌∷◌, length, drop, take, slice_get, Option, Some, None, refl, sym, ap, ◌∙◌, subst, arith}
+use Rattle.std.proofs.Common.{◌≡◌, ℕ, zero, suc, ◌+◌, ◌-◌, ◌<◌, ◌≤◌, eqb, leb, Bool, true, false, true≢false, not, cond, ◌&&◌, ◌||◌, List, [], ◌∷◌, length, drop, take, slice_get, Some, refl, sym, ap, ◌∙◌, arith}
 use Rattle.std.specs.List.{list_any, count_by}
-use Rattle.std.proofs.lemmas.Bool.{leb-true, leb-false, le-leb, lt-leb, eqb-true, or_right, false_from_ne_true}
+use Rattle.std.proofs.lemmas.Bool.{leb-true, le-leb, lt-leb, eqb-true, or_left, or_right, false_from_ne_true}
 use Rattle.std.proofs.lemmas.Bool.Decides.{nat_tests}
 use Rattle.std.proofs.lemmas.List.{drop_more, get_or-take, length-take-le}
 use Rattle.std.proofs.lemmas.Option.{get_or_from_slice_get}
@@ -12,9 +12,11 @@ use Rattle.be_model.specs.declared.changes.Row.{Row}
 use Rattle.be_model.specs.declared.preds.Pred.{Pred}
 use Rattle.be_model.specs.Hulls.{is_on}
 use Rattle.be_model.specs.Rows.{has}
-use Rattle.be_model.specs.Schemas.{Attributes, numbered}
+use Rattle.be_model.specs.Schemas.{numbered}
 use Rattle.be_shape.specs.Shape.{is_used}
-use Rattle.be_plan.specs.Splits.{is_shared, any_is_shared, few_fail}
+use Rattle.be_shape.specs.Listed.{is_many, any_listed, attrs_of}
+use Rattle.be_shape.proofs.FewAttrs.{has_is_listed}
+use Rattle.be_plan.specs.Splits.{may_have, is_shared, any_is_shared, few_fail}
 use Rattle.be_plan.proofs.Rows.{at_place}
 
 counted : (test : Row → Bool) (row : Row) (rows : List Row) → count_by test (row ∷ rows) ≡ cond (test row) 1 0 + count_by test rows
@@ -117,3 +119,14 @@ too_few_share used a rows n h = false_from_ne_true (leb EARLY_ROWS (count_by (ha
         let front = take (length rows - 7) rows in
         let some = in_front (has a) rows (length rows - 7) (omega arith) (leb-true EARLY_ROWS (count_by (has a) rows) e) in
         true≢false (sym (any_shares used a rows front n e some) ∙ h)
+
+-- a row that has the attribute may have it, for all that its place tells
+pub has_may : (a : AttrNo) (row : Row) → has a row ≡ true → may_have a row ≡ true
+has_may a row h = by_many (is_many (attrs_of row.conj)) refl
+  where
+    listed : Bool
+    listed = any_listed (λ (b : AttrNo). eqb b.0 a.0) (attrs_of row.conj)
+
+    by_many : (b : Bool) → is_many (attrs_of row.conj) ≡ b → (is_many (attrs_of row.conj) || listed) ≡ true
+    by_many true e = or_left (is_many (attrs_of row.conj)) listed e
+    by_many false e = or_right (is_many (attrs_of row.conj)) listed (sym (has_is_listed row.conj a e) ∙ h)

@@ -1,19 +1,33 @@
 -- A row gains only on an attribute that it has.
-use Rattle.std.proofs.Common.{◌≡◌, ℕ, ◌+◌, ◌<◌, ◌≤◌, Bool, true, false, true≢false, cond, List, [], ◌∷◌, Option, Some, None, refl, sym, ap, ◌∙◌, arith}
+use Rattle.std.proofs.Common.{◌≡◌, ℕ, ◌+◌, ◌<◌, ◌≤◌, ltb, eqb, Bool, true, false, true≢false, cond, ◌&&◌, ◌||◌, List, [], ◌∷◌, Option, Some, None, refl, sym, ap, ◌∙◌, arith}
 use Rattle.std.specs.Prelude.{is_some, option_map, option_and_then}
-use Rattle.std.specs.List.{find}
-use Rattle.std.proofs.lemmas.Bool.{leb-true, lt-leb}
+use Rattle.std.specs.List.{find, list_any}
+use Rattle.std.proofs.lemmas.Bool.{leb-true, lt-leb, and_parts, and_from, or_left, or_right, eq-eqb, eqb-true, false_from_ne_true}
 use Rattle.be_base.specs.declared.names.AttrNo.{AttrNo}
-use Rattle.be_base.specs.declared.limits.TheConstants.{SHIFT_GAIN}
+use Rattle.be_base.specs.declared.limits.TheConstants.{SHIFT_GAIN, LOG_CHANGES}
 use Rattle.be_model.specs.declared.changes.Row.{Row}
 use Rattle.be_model.specs.declared.preds.Pred.{Pred}
 use Rattle.be_model.specs.Domains.{Range}
 use Rattle.be_model.specs.Hulls.{is_on, hull, span_in}
-use Rattle.be_model.specs.Schemas.{Attributes, range_of}
-use Rattle.be_model.specs.Rows.{has}
+use Rattle.be_model.specs.Forms.{IsConj, is_conj}
+use Rattle.be_model.specs.Lies.{row_lies}
+use Rattle.be_model.specs.Schemas.{Attributes, range_of, numbered}
+use Rattle.be_model.specs.Rows.{id_of, has}
+use Rattle.be_model.proofs.FormTests.{IsConj-from_is_conj}
 use Rattle.be_model.proofs.Lists.{is_some-find}
 use Rattle.be_score.specs.Scores.{weight_in, weight}
+use Rattle.be_shape.specs.Shape.{is_used, may_stand}
 use Rattle.be_plan.specs.Plan.{gains}
+use Rattle.be_plan.specs.Shifts.{gains_among, any_gains}
+
+-- what may stand in a tree has the form of a condition and lies in the schema
+pub may_form : (s : Attributes) (row : Row) → may_stand s row ≡ true → IsConj row.conj
+may_form s row h =
+    IsConj-from_is_conj row.conj (and_parts (is_conj row.conj) (row_lies s row && ltb (id_of row) LOG_CHANGES) h).0
+
+pub may_lies : (s : Attributes) (row : Row) → may_stand s row ≡ true → row_lies s row ≡ true
+may_lies s row h =
+    (and_parts (row_lies s row) (ltb (id_of row) LOG_CHANGES) (and_parts (is_conj row.conj) (row_lies s row && ltb (id_of row) LOG_CHANGES) h).1).0
 
 pub no_weight : (s : Attributes) (a : AttrNo) (row : Row) → has a row ≡ false → weight s a row ≡ 0
 no_weight s a row h = by_range (range_of s a)
@@ -42,6 +56,10 @@ gain_differs s from to row h e =
     let l = leb-true (weight s from row + SHIFT_GAIN) (weight s to row) h in
     let same = ap (λ (n : ℕ). weight s (record { 0 = n }) row) e in omega arith
 
+pub none_on_own : (s : Attributes) (attrs : List AttrNo) (from : AttrNo) (row : Row) (to : AttrNo) → to.0 ≡ from.0 → gains_among s attrs from row to ≡ false
+none_on_own s attrs from row to e =
+    false_from_ne_true (gains_among s attrs from row to) (λ g. gain_differs s from to row (and_parts (is_used attrs to) (gains s from row to) g).1 (sym e))
+
 pub no_self : (s : Attributes) (a : AttrNo) (row : Row) → gains s a row a ≡ false
 no_self s a row = lt-leb (weight s a row + SHIFT_GAIN) (weight s a row) (omega arith)
 
@@ -59,3 +77,27 @@ heavy s from row [] l = refl
 heavy s from row (to ∷ attrs) l =
     let m = weight_most s to row in
     ap (λ b. cond b (Some to) (find (gains s from row) attrs)) (lt-leb (weight s from row + SHIFT_GAIN) (weight s to row) (omega arith)) ∙ heavy s from row attrs l
+
+-- what holds of an attribute of a condition holds of some predicate's
+some_on : (test : AttrNo → Bool) (to : AttrNo) (conj : List Pred) → test to ≡ true → list_any (is_on to) conj ≡ true → list_any (λ (p : Pred). test p.attr) conj ≡ true
+some_on test to [] t o = absurd (true≢false (sym o))
+some_on test to (p ∷ conj) t o = by_test (eqb p.attr.0 to.0) refl o (some_on test to conj t)
+  where
+    by_test : (b : Bool) → eqb p.attr.0 to.0 ≡ b → (b || list_any (is_on to) conj) ≡ true → (list_any (is_on to) conj ≡ true → list_any (λ (q : Pred). test q.attr) conj ≡ true) → (test p.attr || list_any (λ (q : Pred). test q.attr) conj) ≡ true
+    by_test true e o on = or_left (test p.attr) (list_any (λ (q : Pred). test q.attr) conj) (ap (λ i. test (numbered i)) (eqb-true p.attr.0 to.0 e) ∙ t)
+    by_test false e o on = or_right (test p.attr) (list_any (λ (q : Pred). test q.attr) conj) (on o)
+
+-- a row that gains on no attribute of its own gains nowhere
+pub nowhere : (s : Attributes) (attrs : List AttrNo) (from : AttrNo) (row : Row) → any_gains s attrs from row ≡ false → find (gains s from row) attrs ≡ None
+nowhere s attrs from row h = by_attrs attrs (λ b u. u)
+  where
+    none : (to : AttrNo) → is_used attrs to ≡ true → gains s from row to ≡ true → ⊥
+    none to u g =
+        true≢false (sym (some_on (λ b. is_used attrs b && gains s from row b) to row.conj (and_from (is_used attrs to) (gains s from row to) u g) (gain_has s from to row g)) ∙ h)
+
+    by_attrs : (xs : List AttrNo) → ((b : AttrNo) → is_used xs b ≡ true → is_used attrs b ≡ true) → find (gains s from row) xs ≡ None
+    by_attrs [] f = refl
+    by_attrs (to ∷ xs) f =
+        let here : is_used (to ∷ xs) to ≡ true = or_left (eqb to.0 to.0) (is_used xs to) (eq-eqb to.0 to.0 refl) in
+        ap (λ b. cond b (Some to) (find (gains s from row) xs)) (false_from_ne_true (gains s from row to) (none to (f to here)))
+        ∙ by_attrs xs (λ b u. f b (or_right (eqb to.0 b.0) (is_used xs b) u))

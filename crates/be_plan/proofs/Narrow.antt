@@ -1,29 +1,24 @@
 -- Rows in a range that is less than half of their attribute's domain gain nowhere.
-use Rattle.std.proofs.Common.{◌≡◌, ℕ, ◌+◌, ◌*◌, ◌-◌, ◌/◌, ◌<◌, ◌≤◌, eqb, leb, ltb, Bool, true, false, true≢false, ◌&&◌, List, [], ◌∷◌, Option, Some, None, option_map, refl, sym, ap, ◌∙◌, subst, arith}
+use Rattle.std.proofs.Common.{◌≡◌, ℕ, ◌+◌, ◌*◌, ◌/◌, ◌<◌, eqb, ltb, true, true≢false, List, [], ◌∷◌, Option, Some, None, option_map, refl, sym, ap, ◌∙◌, subst, arith}
 use Rattle.std.specs.Prelude.{IfSome}
 use Rattle.std.specs.Int.Signed.{le_z, le_z_yes}
-use Rattle.std.specs.List.{list_all, find}
+use Rattle.std.specs.List.{list_all}
 use Rattle.std.proofs.Math.Nat.{div-lt_iff_lt-mul}
 use Rattle.std.proofs.lemmas.Bool.{and_parts, eqb-true, ltb-true}
 use Rattle.std.proofs.lemmas.Float.{T_from_true}
 use Rattle.be_base.specs.declared.names.AttrNo.{AttrNo}
-use Rattle.be_base.specs.declared.limits.TheConstants.{SHIFT_GAIN, LOG_CHANGES}
+use Rattle.be_base.specs.declared.limits.TheConstants.{SHIFT_GAIN}
 use Rattle.be_model.specs.declared.changes.Row.{Row}
 use Rattle.be_model.specs.Domains.{Range, width}
-use Rattle.be_model.specs.Forms.{is_conj}
 use Rattle.be_model.specs.Hulls.{span_in}
 use Rattle.be_model.specs.Laws.{IsPart}
-use Rattle.be_model.specs.Lies.{row_lies}
-use Rattle.be_model.specs.Rows.{id_of}
 use Rattle.be_model.specs.Schemas.{Attributes, IsSchema, range_of, numbered}
-use Rattle.be_model.proofs.FormTests.{IsConj-from_is_conj}
 use Rattle.be_model.proofs.Spans.{spans_lie}
 use Rattle.be_score.specs.Scores.{weight_in, weight}
 use Rattle.be_score.proofs.Widths.{width-part}
 use Rattle.be_shape.specs.Shape.{NodeRange, whole, is_inside, spans_inside, may_stand}
-use Rattle.be_plan.specs.Plan.{gains}
 use Rattle.be_plan.specs.Shifts.{lower_id, least_gain, is_narrow}
-use Rattle.be_plan.proofs.Gains.{heavy}
+use Rattle.be_plan.proofs.Gains.{heavy, may_form, may_lies}
 
 -- a span inside less than half of the domain takes less than 500 thousandths of it
 light_share : (w d : ℕ) → 2 * w < d → 1000 * w / d < 500
@@ -39,16 +34,10 @@ narrow_weighs : (s : Attributes) (a : AttrNo) (r : NodeRange) (row : Row) → Is
 narrow_weighs s a None row f may n i = absurd (true≢false (sym n))
 narrow_weighs s a (Some r) row f may n i = by_range (range_of s a) refl n
   where
-    m : (is_conj row.conj ≡ true) × ((row_lies s row && ltb (id_of row) LOG_CHANGES) ≡ true)
-    m = and_parts (is_conj row.conj) (row_lies s row && ltb (id_of row) LOG_CHANGES) may
-
-    lies : row_lies s row ≡ true
-    lies = (and_parts (row_lies s row) (ltb (id_of row) LOG_CHANGES) m.1).0
-
     by_span : (d : Range) (o : Option Range) → range_of s a ≡ Some d → span_in s a row.conj ≡ o → is_inside r.1 o ≡ true → 2 * width r.1 < width d → 1000 < weight_in (Some d) o + SHIFT_GAIN
     by_span d None e g h l = absurd (true≢false (sym h))
     by_span d (Some x) e g h l =
-        weighs d r.1 x (subst (λ o. IfSome o (IsPart d)) g (spans_lie s a row.conj d f (IsConj-from_is_conj row.conj m.0) lies e)) h l
+        weighs d r.1 x (subst (λ o. IfSome o (IsPart d)) g (spans_lie s a row.conj d f (may_form s row may) (may_lies s row may) e)) h l
 
     by_range : (o : Option Range) → range_of s a ≡ o → is_narrow (Some r) (option_map (λ d. (a, d)) o) ≡ true → 1000 < weight s a row + SHIFT_GAIN
     by_range None e h = absurd (true≢false (sym h))

@@ -129,20 +129,6 @@ pub leaf_lies : (s : Attributes) (k : Known) (n : Plain) → IsRight s k n → l
 leaf_lies s k n r =
     all_front (row_lies s) (leaf_of n) (flat_map rows_of (children n)) (sym (ap (list_all (row_lies s)) (rows_are n)) ∙ rows_lie s k n r)
 
--- each row below a part has its attribute
-fit_here : (s : Attributes) (k : Known) (n : Plain) → is_placed_at s k n ≡ true → parts_fit (parts_under n) ≡ true
-fit_here s k (node rows parts low high) h =
-    let a = attrs_rise (attrs_of parts) in
-    let b = list_all (λ c. not (is_used k.used c)) (attrs_of parts) in
-    let c = parts_fit parts in
-    let d = list_all (spans_inside s k.range) (rows_below (node rows parts low high)) in
-    let e = can_split k.range || not (is_here low || is_here high) in
-    let x = and_parts (a && b && c && d) e h in
-    let y = and_parts (a && b && c) d x.0 in (and_parts (a && b) c y.0).1
-
-pub parts_are_fit : (s : Attributes) (k : Known) (n : Plain) → IsRight s k n → parts_fit (parts_under n) ≡ true
-parts_are_fit s k n r = fit_here s k n (right_here s k n (levels (is_right_at s) s k n r.right).here).0
-
 -- no attribute of a part is used above
 unused_here : (s : Attributes) (k : Known) (n : Plain) → is_placed_at s k n ≡ true → list_all (λ a. not (is_used k.used a)) (attrs_of (parts_under n)) ≡ true
 unused_here s k (node rows parts low high) h =

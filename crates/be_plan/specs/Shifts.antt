@@ -1,18 +1,17 @@
 -- The first shift at a node.
 use Rattle.std.specs.Prelude.{◌≡◌, ◌*◌, ◌==◌, ◌&&◌, ◌||◌, Bool, true, false, not, List, [], ◌∷◌, nat_lt, Option, Some, None, option_map, if◌then◌else◌}
-use Rattle.std.specs.List.{find, list_all, AllByRecursion}
+use Rattle.std.specs.List.{find, list_all, list_any, AllByRecursion}
 use Rattle.std.specs.Option.{option_or}
 use Rattle.be_base.specs.declared.names.AttrNo.{AttrNo}
 use Rattle.be_base.specs.declared.names.Id.{Id}
 use Rattle.be_model.specs.declared.changes.Row.{Row}
+use Rattle.be_model.specs.declared.preds.Pred.{Pred}
 use Rattle.be_model.specs.declared.paths.Hop.{Hop}
 use Rattle.be_model.specs.declared.paths.Hop.TheVariants.{Part, Low, High}
 use Rattle.be_model.specs.Schemas.{Attributes}
 use Rattle.be_model.specs.Domains.{width}
-use Rattle.be_model.specs.Lies.{row_lies}
-use Rattle.be_model.specs.Rows.{has}
 use Rattle.be_shape.specs.Plain.{Plain, Parts, no_part, part, rows_below}
-use Rattle.be_shape.specs.Shape.{NodeRange, Known, known, is_used, whole}
+use Rattle.be_shape.specs.Shape.{NodeRange, Known, known, is_used}
 use Rattle.be_shape.specs.Paths.{range_below}
 use Rattle.be_shape.specs.Children.{roots_of}
 use Rattle.be_shape.specs.Ranges.{is_bounded, is_rising}
@@ -22,6 +21,14 @@ use Rattle.be_plan.specs.Plan.{gains}
 -- the first attribute on which the row weighs enough more, with the row's id
 abbrev pub gain_of : Attributes → List AttrNo → AttrNo → Row → Option (Id × AttrNo)
 gain_of s attrs from row = option_map (λ to. (row.id, to)) (find (gains s from row) attrs)
+
+-- there is one of these attributes, and the row weighs enough more on it
+abbrev pub gains_among : Attributes → List AttrNo → AttrNo → Row → AttrNo → Bool
+gains_among s attrs from row to = is_used attrs to && gains s from row to
+
+-- that holds of an attribute of the row
+abbrev pub any_gains : Attributes → List AttrNo → AttrNo → Row → Bool
+any_gains s attrs from row = list_any (λ (p : Pred). gains_among s attrs from row p.attr) row.conj
 
 -- of two gains that of the lower id
 abbrev pub lower_id : Option (Id × AttrNo) → Option (Id × AttrNo) → Option (Id × AttrNo)
@@ -39,11 +46,6 @@ abbrev pub first_shift : Attributes → List AttrNo → Parts → Option (AttrNo
 first_shift s attrs no_part = None
 first_shift s attrs (part a root more) =
     option_or (option_map (λ (g : Id × AttrNo). (a, g.0, g.1)) (least_gain s attrs a (rows_below root))) (first_shift s attrs more)
-
--- the rows lie in the schema, and have the attribute
-pub record Movable (s : Attributes) (from : AttrNo) (rows : List Row) : Type 0 where
-  pub lie : list_all (row_lies s) rows ≡ true
-  pub have : list_all (has from) rows ≡ true
 
 -- the range is less than half of the whole, on the same attribute
 abbrev pub is_narrow : NodeRange → NodeRange → Bool

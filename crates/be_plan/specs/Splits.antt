@@ -1,5 +1,5 @@
 -- The first splits at a node.
-use Rattle.std.specs.Prelude.{ℕ, ◌-◌, ◌==◌, ◌&&◌, Bool, true, false, not, List, [], ◌∷◌, length, take, nat_le, count_by, Option, Some, None, if◌then◌else◌}
+use Rattle.std.specs.Prelude.{ℕ, ◌-◌, ◌==◌, ◌&&◌, ◌||◌, Bool, true, false, not, List, [], ◌∷◌, length, take, nat_le, count_by, Option, Some, None, if◌then◌else◌}
 use Rattle.std.specs.List.{list_any}
 use Rattle.be_base.specs.declared.names.AttrNo.{AttrNo}
 use Rattle.be_base.specs.declared.limits.TheConstants.{EARLY_ROWS}
@@ -12,10 +12,20 @@ use Rattle.be_model.specs.Schemas.{Attributes}
 use Rattle.be_score.specs.Picks.{pick}
 use Rattle.be_shape.specs.Shape.{NodeRange, Known, is_used, can_split}
 use Rattle.be_shape.specs.Children.{may_pass}
+use Rattle.be_shape.specs.declared.listings.RowAttrs.{RowAttrs}
+use Rattle.be_shape.specs.Listed.{is_many, any_listed, attrs_of}
 
 -- at least 8 rows may pass
 abbrev pub enough_pass : Attributes → Hop → NodeRange → List Row → Bool
 enough_pass s hop r rows = nat_le EARLY_ROWS (count_by (may_pass s hop r) rows)
+
+-- the attribute is listed, or the attributes aren't
+abbrev pub may_list : AttrNo → RowAttrs → Bool
+may_list a l = is_many l || any_listed (λ b. b.0 == a.0) l
+
+-- the row has the attribute, or more attributes than its place tells
+abbrev pub may_have : AttrNo → Row → Bool
+may_have a row = may_list a (attrs_of row.conj)
 
 -- the attribute isn't used, and at least 8 rows have it
 abbrev pub enough_share : List AttrNo → List Row → AttrNo → Bool

@@ -9,6 +9,7 @@
 mod bests;
 mod laws;
 mod merges;
+mod movers;
 mod plans;
 mod seeks;
 mod shifts;

@@ -1,22 +1,19 @@
 //! The first shift at a node.
 
-ghost use Rattle.std.specs.Prelude.{◌≡◌, ◌≤ℤ◌, negsuc, ◌≤◌, ℕ, ◌+◌, ◌<◌, ◌∷◌, [], length, true, false, nat_le, option_map, pos, Some, None};
-ghost use Rattle.std.specs.List.{find, list_all};
-ghost use Rattle.std.specs.Arc.{arc_value};
+ghost use Rattle.std.specs.Prelude.{◌≡◌, ◌≤ℤ◌, ℕ, ◌+◌, ◌<◌, ◌∷◌, [], length, true, false, nat_le, slice_get, pos, Some, None};
+ghost use Rattle.std.specs.List.{list_all};
 ghost use Rattle.be_base.specs.declared.limits.TheConstants.{SHIFT_GAIN, LEAF_ROWS};
 ghost use Rattle.be_model.specs.Lies.{row_lies};
-ghost use Rattle.be_model.specs.Rows.{has};
-ghost use Rattle.be_model.specs.Domains.{width};
 ghost use Rattle.be_model.specs.Schemas.{IsSchema};
 ghost use Rattle.be_model.specs.declared.paths.Hop.{Hop};
 ghost use Rattle.be_score.specs.Scores.{weight};
 ghost use Rattle.be_shape.specs.Ranges.{is_bounded, is_rising};
 ghost use Rattle.be_shape.specs.Paths.{in_half};
 ghost use Rattle.be_shape.specs.Plain.{Plain, plain, parts_as, half_as, part_as, parts_of, rows_below, rows_in_parts, rows_in_half, parts_under};
-ghost use Rattle.be_shape.specs.Shape.{attrs_of, parts_fit, is_used, whole};
-ghost use Rattle.be_plan.specs.Plan.{gains};
-ghost use Rattle.be_plan.specs.Shifts.{Movable, gain_of, lower_id, least_gain, first_shift, is_narrow, IsBelow, ChildBelow, PartsBelow, IsRightSomewhere};
+ghost use Rattle.be_shape.specs.Shape.{attrs_of, may_stand, whole};
+ghost use Rattle.be_plan.specs.Shifts.{gain_of, lower_id, least_gain, first_shift, is_narrow, IsBelow, ChildBelow, PartsBelow, IsRightSomewhere};
 
+use crate::movers::{Mover, gains_somewhere, is_among, weight_at, width_of};
 use be_base::{AttrNo, Id, LEAF_ROWS, SHIFT_GAIN};
 use be_model::{Row, Schema};
 use be_score::weight;
@@ -63,27 +60,30 @@ fn first_gain(row: &Row, from: &From, s: &Schema, own: i64) -> Option<(Id, AttrN
     None
 }
 
-// The first part in which the row weighs enough more, with the row's id. A row that weighs more than 500 gains nowhere.
-fn gain_of(row: &Row, from: &From, s: &Schema) -> Option<(Id, AttrNo)>
-    requires { Movable s.now from.now.attr (row.now ∷ []) }
+// The first part in which the row, which stands at this place of the leaf, weighs enough more, with the row's id. A row that
+// weighs more than 500 gains nowhere. The row itself is mostly looked at only where it gains.
+fn gain_at(leaf: &Leaf, place: usize, row: &Row, from: &From, s: &Schema) -> Option<(Id, AttrNo)>
+    requires at { slice_get leaf.now place ≡ Some row.now }
+    requires may { may_stand s.now row.now ≡ true }
     ensures { result ≡ gain_of s.now (attrs_of (parts_as from.now.parts.now)) from.now.attr row.now }
 {
-    let own = weight(s, row, from.attr);
+    let own = weight_at(leaf, place, row, s, from.attr);
     if own > 1000 - SHIFT_GAIN as i64 {
         return None;
     }
+    let mover = Mover {
+        leaf,
+        place,
+        row,
+        s,
+        from: from.attr,
+        own,
+        parts: from.parts,
+    };
+    if !gains_somewhere(&mover) {
+        return None;
+    }
     first_gain(row, from, s, own)
-}
-
-// How many values a range has.
-fn width_of(range: (i64, i64)) -> u64
-    requires low { negsuc 2147483647 ≤ℤ range.0 }
-    requires rising { range.0 ≤ℤ range.1 }
-    requires high { range.1 ≤ℤ pos 2147483647 }
-    ensures width { result ≡ width range }
-    ensures few { result ≤ 4294967296 }
-{
-    (range.1 - range.0 + 1) as u64
 }
 
 // Whether the range is less than half of the attribute's domain: a row inside weighs more than 500.
@@ -101,18 +101,6 @@ fn is_narrow(range: NodeRange, a: AttrNo, s: &Schema) -> bool
     }
 }
 
-// Whether there is a part of the attribute.
-fn is_among(parts: &[Part], a: AttrNo) -> bool
-    ensures { result ≡ is_used (attrs_of (parts_as parts.now)) a }
-{
-    for part in parts {
-        if part.attr.0 == a.0 {
-            return true;
-        }
-    }
-    false
-}
-
 // The gain of the lowest id among the rows below a node and the best so far. It passes over a node whose range makes each
 // row below it weigh too much.
 #[cycle(gains)]
@@ -124,8 +112,7 @@ fn least_below(
     s: &Schema,
     best: Option<(Id, AttrNo)>,
 ) -> Option<(Id, AttrNo)>
-    requires movable { Movable s.now from.now.attr (rows_below (plain n.now)) }
-    requires below { IsBelow s.now (attrs_of (parts_as from.now.parts.now)) from.now.attr met range (plain n.now) }
+    requires { IsBelow s.now (attrs_of (parts_as from.now.parts.now)) from.now.attr met range (plain n.now) }
     ensures { result ≡ lower_id best (least_gain s.now (attrs_of (parts_as from.now.parts.now)) from.now.attr (rows_below (plain n.now))) }
 {
     if is_narrow(range, from.attr, s) {
@@ -145,8 +132,7 @@ fn least_in_parts(
     s: &Schema,
     best: Option<(Id, AttrNo)>,
 ) -> Option<(Id, AttrNo)>
-    requires movable { Movable s.now from.now.attr (rows_in_parts (parts_as parts.now)) }
-    requires below { PartsBelow s.now (attrs_of (parts_as from.now.parts.now)) from.now.attr met (parts_as parts.now) }
+    requires { PartsBelow s.now (attrs_of (parts_as from.now.parts.now)) from.now.attr met (parts_as parts.now) }
     ensures { result ≡ lower_id best (least_gain s.now (attrs_of (parts_as from.now.parts.now)) from.now.attr (rows_in_parts (parts_as parts.now))) }
 {
     let mut best = best;
@@ -164,8 +150,7 @@ fn least_in_part(
     s: &Schema,
     best: Option<(Id, AttrNo)>,
 ) -> Option<(Id, AttrNo)>
-    requires movable { Movable s.now from.now.attr (rows_in_parts (parts_of (part_as part.now ∷ []))) }
-    requires below { ChildBelow s.now (attrs_of (parts_as from.now.parts.now)) from.now.attr met None (Hop.Part (part_as part.now).0, (part_as part.now).1) }
+    requires { ChildBelow s.now (attrs_of (parts_as from.now.parts.now)) from.now.attr met None (Hop.Part (part_as part.now).0, (part_as part.now).1) }
     ensures { result ≡ lower_id best (least_gain s.now (attrs_of (parts_as from.now.parts.now)) from.now.attr (rows_in_parts (parts_of (part_as part.now ∷ [])))) }
 {
     let range = whole_range(s, part.attr);
@@ -182,8 +167,7 @@ fn least_in_half(
     s: &Schema,
     best: Option<(Id, AttrNo)>,
 ) -> Option<(Id, AttrNo)>
-    requires movable { Movable s.now from.now.attr (rows_in_half (half_as half.now)) }
-    requires below { (m : Plain) → in_half (half_as half.now) ≡ Some m → IsBelow s.now (attrs_of (parts_as from.now.parts.now)) from.now.attr met range m }
+    requires { (m : Plain) → in_half (half_as half.now) ≡ Some m → IsBelow s.now (attrs_of (parts_as from.now.parts.now)) from.now.attr met range m }
     ensures { result ≡ lower_id best (least_gain s.now (attrs_of (parts_as from.now.parts.now)) from.now.attr (rows_in_half (half_as half.now))) }
 {
     match half {
@@ -201,7 +185,7 @@ fn least_in_leaf(
     s: &Schema,
     best: Option<(Id, AttrNo)>,
 ) -> Option<(Id, AttrNo)>
-    requires movable { Movable s.now from.now.attr leaf.now }
+    requires may { list_all (may_stand s.now) leaf.now ≡ true }
     requires stuck { met ≡ false → LEAF_ROWS < length leaf.now → least_gain s.now (attrs_of (parts_as from.now.parts.now)) from.now.attr leaf.now ≡ None }
     ensures { result ≡ lower_id best (least_gain s.now (attrs_of (parts_as from.now.parts.now)) from.now.attr leaf.now) }
 {
@@ -210,16 +194,14 @@ fn least_in_leaf(
     }
     let mut best = best;
     for place in 0..leaf.len() {
-        best = lower_id(best, gain_of(leaf.row(place), from, s));
+        best = lower_id(best, gain_at(leaf, place, leaf.row(place), from, s));
     }
     best
 }
 
 /// The first part with a row that gains by a shift, the row of the lowest id, and the first part in which it gains.
 pub(crate) fn shift_at(n: &Node, s: &Schema) -> Option<(AttrNo, Id, AttrNo)>
-    requires fit { parts_fit (parts_under (plain n.now)) ≡ true }
-    requires lie { list_all (row_lies s.now) (rows_below (plain n.now)) ≡ true }
-    requires right { IsRightSomewhere s.now (plain n.now) }
+    requires { IsRightSomewhere s.now (plain n.now) }
     ensures { result ≡ first_shift s.now (attrs_of (parts_under (plain n.now))) (parts_under (plain n.now)) }
 {
     if n.parts.len() < 2 {

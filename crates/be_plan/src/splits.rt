@@ -1,7 +1,7 @@
 //! The first splits at a node.
 
 ghost use Rattle.std.specs.Prelude.{◌≡◌, ◌≤◌, ◌-◌, ◌||◌, true, not, length, nat_le, slice_get, Some};
-ghost use Rattle.std.specs.List.{list_all};
+ghost use Rattle.std.specs.List.{count_by, list_all};
 ghost use Rattle.be_base.specs.declared.limits.TheConstants.{EARLY_ROWS, LEAF_ROWS};
 ghost use Rattle.be_model.specs.Lies.{row_lies};
 ghost use Rattle.be_shape.specs.Shape.{is_stuck};
@@ -9,7 +9,7 @@ ghost use Rattle.be_shape.specs.Ranges.{is_bounded, is_rising};
 ghost use Rattle.be_shape.specs.Spots.{known_of};
 ghost use Rattle.be_shape.specs.Listed.{any_listed};
 ghost use Rattle.be_model.specs.Schemas.{numbered};
-ghost use Rattle.be_plan.specs.Splits.{enough_pass, enough_share, is_shared, any_is_shared, early_part, early_half};
+ghost use Rattle.be_plan.specs.Splits.{may_list, may_have, enough_pass, enough_share, is_shared, any_is_shared, early_part, early_half};
 
 use be_base::{AttrNo, EARLY_ROWS, LEAF_ROWS};
 use be_model::{Hop, Pred, Row, Schema};
@@ -44,13 +44,56 @@ fn enough_pass(leaf: &Leaf, s: &Schema, hop: Hop, range: NodeRange) -> bool
     true
 }
 
+// Whether the attribute is listed, or the attributes aren't.
+fn may_list(attrs: RowAttrs, a: AttrNo) -> bool
+    ensures { result ≡ may_list a attrs }
+{
+    match attrs {
+        RowAttrs::Zero => false,
+        RowAttrs::One(x) => u16::from(x) == a.0,
+        RowAttrs::Two(x, y) => u16::from(x) == a.0 || u16::from(y) == a.0,
+        RowAttrs::Three(x, y, z) => {
+            u16::from(x) == a.0 || u16::from(y) == a.0 || u16::from(z) == a.0
+        }
+        RowAttrs::Many => true,
+    }
+}
+
+// Whether the row, which stands at this place of the leaf, has the attribute, or more attributes than the place tells.
+#[tactic(auto, using(std::proofs::lemmas::Option::slice_get_within))]
+fn may_have(leaf: &Leaf, place: usize, row: &Row, a: AttrNo) -> bool
+    requires { slice_get leaf.now place ≡ Some row.now }
+    ensures { result ≡ may_have a row.now }
+{
+    may_list(leaf.attrs(place), a)
+}
+
+// Whether that holds of at least 8 rows of the leaf. No row is looked at.
+fn enough_may_have(a: AttrNo, leaf: &Leaf) -> bool
+    requires many { EARLY_ROWS ≤ length leaf.now }
+    ensures { result ≡ nat_le EARLY_ROWS (count_by (may_have a) leaf.now) }
+{
+    let mut spare = spare_rows(leaf);
+    for place in 0..leaf.len() {
+        if !may_have(leaf, place, leaf.row(place), a) {
+            if spare == 0 {
+                return false;
+            }
+            spare -= 1;
+        }
+    }
+    true
+}
+
 // Whether the attribute isn't used, and at least 8 rows of the leaf have it.
 fn enough_share(a: AttrNo, leaf: &Leaf, s: &Schema, k: &Spot) -> bool
     requires lie { list_all (row_lies s.now) leaf.now ≡ true }
     requires many { EARLY_ROWS ≤ length leaf.now }
     ensures { result ≡ enough_share (known_of k.now).used leaf.now a }
 {
-    !is_used(k.used.as_slice(), a) && enough_pass(leaf, s, Hop::Part(a), k.range)
+    !is_used(k.used.as_slice(), a)
+        && enough_may_have(a, leaf)
+        && enough_pass(leaf, s, Hop::Part(a), k.range)
 }
 
 // Whether at least 8 rows of the leaf have an attribute of these predicates that isn't used.

@@ -1,16 +1,13 @@
 use Rattle.std.proofs.Common.{◌≡◌, Some, None, option_map, sym, ap, ◌∙◌, subst}
-use Rattle.std.specs.List.{list_all}
 use Rattle.std.specs.Arc.{arc_value}
 use Rattle.be_base.specs.declared.names.AttrNo.{AttrNo}
 use Rattle.be_base.specs.declared.names.Id.{Id}
 use Rattle.be_model.specs.declared.paths.Step.TheVariants.{Shift}
-use Rattle.be_model.specs.Lies.{row_lies}
-use Rattle.be_shape.specs.Plain.{plain, parts_under, rows_below}
+use Rattle.be_shape.specs.Plain.{plain, parts_under}
 use Rattle.be_shape.specs.Shape.{attrs_of}
 use Rattle.be_shape.specs.Spots.{known_of}
 use Rattle.be_plan.specs.Best.{better}
 use Rattle.be_plan.specs.Shifts.{first_shift, IsRightSomewhere}
-use Rattle.be_plan.proofs.Places.{rows_lie, parts_are_fit}
 use Rattle.be_plan.proofs.Firsts.{first_shift_is}
 use Rattle.be_plan.proofs.Seeking.{closed}
 use Rattle.be_plan.proofs.seeks.look_at_shift.Goals as goal
@@ -18,15 +15,8 @@ use Rattle.be_plan.proofs.seeks.look_at_shift.Goals as goal
 pub returns-then-best-le-SHIFTS : goal.returns-then-best-le-SHIFTS
 returns-then-best-le-SHIFTS c = closed 1 _ c.args.best.now c.if-best-le-SHIFTS.true
 
-pub shift_at-requires-clause-fit : goal.shift_at-requires-clause-fit
-shift_at-requires-clause-fit c = parts_are_fit (arc_value c.args.t.now.schema) (known_of c.args.k.now) (plain c.args.n.now) c.requires.right
-
-pub shift_at-requires-clause-lie : goal.shift_at-requires-clause-lie
-shift_at-requires-clause-lie c =
-    ap (λ s. list_all (row_lies s) (rows_below (plain c.args.n.now))) c.deref.ensures ∙ rows_lie (arc_value c.args.t.now.schema) (known_of c.args.k.now) (plain c.args.n.now) c.requires.right
-
-pub shift_at-requires-clause-right : goal.shift_at-requires-clause-right
-shift_at-requires-clause-right c =
+pub shift_at-requires : goal.shift_at-requires
+shift_at-requires c =
     subst (λ s. IsRightSomewhere s (plain c.args.n.now)) (sym c.deref.ensures) (known_of c.args.k.now, c.requires.right)
 
 pub returns-in_default : goal.returns-in_default

@@ -1,15 +1,15 @@
-use Rattle.std.proofs.Common.{rules, ◌≡◌, ◌∷◌, [], ◌+◌, drop, None, sym, ap, ◌∙◌, subst}
+use Rattle.std.proofs.Common.{rules, ◌≡◌, true, ◌∷◌, [], ◌+◌, drop, None, sym, ap, ◌∙◌, subst}
+use Rattle.std.specs.List.{list_all}
 use Rattle.be_model.specs.declared.paths.Hop.TheVariants.{Low, High}
 use Rattle.be_shape.specs.declared.nodes.Node.TheViews.{out-Node, the_lemmas}
 use Rattle.be_shape.specs.Plain.{plain, parts_as, half_as, part_as, parts_of, parts_under, leaf_of, rows_below, rows_in_parts, rows_in_half}
-use Rattle.be_shape.specs.Shape.{known, attrs_of}
+use Rattle.be_shape.specs.Shape.{known, attrs_of, may_stand}
 use Rattle.be_shape.specs.Paths.{child}
 use Rattle.be_shape.specs.Ranges.{is_bounded, is_rising}
 use Rattle.be_shape.proofs.Among.{placed_at}
 use Rattle.be_shape.proofs.Plains.{plain_out}
-use Rattle.be_plan.specs.Shifts.{Movable, lower_id, least_gain, IsBelow, ChildBelow, PartsBelow}
-use Rattle.be_plan.proofs.Rows.{rows_out, rows_left}
-use Rattle.be_plan.proofs.Moves.{movable_four, movable_part}
+use Rattle.be_plan.specs.Shifts.{lower_id, least_gain, IsBelow, ChildBelow, PartsBelow}
+use Rattle.be_plan.proofs.Rows.{rows_out, rows_left, all_four}
 use Rattle.be_plan.proofs.Ids.{least_on, least_four, lower_none}
 use Rattle.be_plan.proofs.Narrow.{narrow_gains}
 use Rattle.be_plan.proofs.Apart.{child_below, parts_below, leaf_gains, each_part}
@@ -21,18 +21,19 @@ least_below-returns-then-is_narrow t c =
     let s = c.args.s.now in
     let from = c.args.from.now in
     let n = plain c.args.n.now in
-    let b = c.requires.below in
+    let b = c.requires in
     let none = narrow_gains s (attrs_of (parts_as from.parts.now)) from.attr c.args.range (rows_below n) c.is_narrow.ensures.form (sym c.is_narrow.ensures.narrow ∙ c.if-is_narrow.true) b.right.may (placed_at s (known c.args.range b.used) n b.right).inside in
     sym (ap (lower_id c.args.best) none ∙ lower_none c.args.best)
 
-pub least_below-least_in_leaf-best-requires-clause-movable : goal.least_below-least_in_leaf-best-requires-clause-movable
-least_below-least_in_leaf-best-requires-clause-movable t c =
+pub least_below-least_in_leaf-best-requires-clause-may : goal.least_below-least_in_leaf-best-requires-clause-may
+least_below-least_in_leaf-best-requires-clause-may t c =
     let x = out-Node c.args.n.now in
-    (movable_four c.args.s.now c.args.from.now.attr x.leaf (rows_in_parts (parts_as x.parts.items)) (rows_in_half (half_as x.low)) (rows_in_half (half_as x.high)) (subst (Movable c.args.s.now c.args.from.now.attr) (rows_out c.args.n.now) c.requires.movable)).0
+    let may = may_stand c.args.s.now in
+    (all_four may x.leaf (rows_in_parts (parts_as x.parts.items)) (rows_in_half (half_as x.low)) (rows_in_half (half_as x.high)) (subst (λ rows. list_all may rows ≡ true) (rows_out c.args.n.now) c.requires.right.may)).0
 
 pub least_below-least_in_leaf-best-requires-clause-stuck : goal.least_below-least_in_leaf-best-requires-clause-stuck
 least_below-least_in_leaf-best-requires-clause-stuck t c =
-    leaf_gains c.args.s.now (attrs_of (parts_as c.args.from.now.parts.now)) c.args.from.now.attr c.args.met c.args.range (plain c.args.n.now) (out-Node c.args.n.now).leaf c.requires.below (ap leaf_of (plain_out c.args.n.now))
+    leaf_gains c.args.s.now (attrs_of (parts_as c.args.from.now.parts.now)) c.args.from.now.attr c.args.met c.args.range (plain c.args.n.now) (out-Node c.args.n.now).leaf c.requires (ap leaf_of (plain_out c.args.n.now))
 
 pub least_below-least_in_parts-best-requires : goal.least_below-least_in_parts-best-requires
 least_below-least_in_parts-best-requires t c =
@@ -40,10 +41,9 @@ least_below-least_in_parts-best-requires t c =
     let from = c.args.from.now in
     let attrs = attrs_of (parts_as from.parts.now) in
     let x = out-Node c.args.n.now in
-    let z = movable_four s from.attr x.leaf (rows_in_parts (parts_as x.parts.items)) (rows_in_half (half_as x.low)) (rows_in_half (half_as x.high)) (subst (Movable s from.attr) (rows_out c.args.n.now) c.requires.movable) in
     let is = sym c.as_slice.ensures.value in
-    let below = subst (PartsBelow s attrs from.attr c.args.met) (ap parts_under (plain_out c.args.n.now)) (parts_below s attrs from.attr c.args.met c.args.range (plain c.args.n.now) c.is_narrow.ensures.form c.requires.below) in
-    (search (rules, the_lemmas), (subst (λ ps. Movable s from.attr (rows_in_parts (parts_as ps))) is z.1, subst (λ ps. PartsBelow s attrs from.attr c.args.met (parts_as ps)) is below))
+    let below = subst (PartsBelow s attrs from.attr c.args.met) (ap parts_under (plain_out c.args.n.now)) (parts_below s attrs from.attr c.args.met c.args.range (plain c.args.n.now) c.is_narrow.ensures.form c.requires) in
+    (search (rules, the_lemmas), subst (λ ps. PartsBelow s attrs from.attr c.args.met (parts_as ps)) is below)
 
 pub least_below-least_in_half-best-requires : goal.least_below-least_in_half-best-requires
 least_below-least_in_half-best-requires t c =
@@ -52,13 +52,9 @@ least_below-least_in_half-best-requires t c =
     let attrs = attrs_of (parts_as from.parts.now) in
     let x = out-Node c.args.n.now in
     let n = plain c.args.n.now in
-    let z = movable_four s from.attr x.leaf (rows_in_parts (parts_as x.parts.items)) (rows_in_half (half_as x.low)) (rows_in_half (half_as x.high)) (subst (Movable s from.attr) (rows_out c.args.n.now) c.requires.movable) in
     let is = c.lower_range.ensures.range in (
       search (rules, the_lemmas),
-      (
-        z.2,
-        λ m e. subst (λ r. IsBelow s attrs from.attr c.args.met r m) (sym is) (child_below s attrs from.attr c.args.met c.args.range n m Low c.requires.below (ap (child Low) (plain_out c.args.n.now) ∙ e) (ap is_bounded (sym is) ∙ c.lower_range.ensures.bounded) (ap is_rising (sym is) ∙ c.lower_range.ensures.rising)),
-      ),
+      λ m e. subst (λ r. IsBelow s attrs from.attr c.args.met r m) (sym is) (child_below s attrs from.attr c.args.met c.args.range n m Low c.requires (ap (child Low) (plain_out c.args.n.now) ∙ e) (ap is_bounded (sym is) ∙ c.lower_range.ensures.bounded) (ap is_rising (sym is) ∙ c.lower_range.ensures.rising)),
     )
 
 pub least_below-least_in_half-requires : goal.least_below-least_in_half-requires
@@ -68,16 +64,12 @@ least_below-least_in_half-requires t c =
     let attrs = attrs_of (parts_as from.parts.now) in
     let x = out-Node c.args.n.now in
     let n = plain c.args.n.now in
-    let z = movable_four s from.attr x.leaf (rows_in_parts (parts_as x.parts.items)) (rows_in_half (half_as x.low)) (rows_in_half (half_as x.high)) (subst (Movable s from.attr) (rows_out c.args.n.now) c.requires.movable) in
     let is = c.upper_range.ensures.range in
-    let b = c.requires.below in (
+    let b = c.requires in (
       search (rules, the_lemmas),
-      (
-        z.3,
-        λ m e. let there = ap (child High) (plain_out c.args.n.now) ∙ e in
-            let splits = open_below s (known c.args.range b.used) n m High b.right there in
-            subst (λ r. IsBelow s attrs from.attr c.args.met r m) (sym is) (child_below s attrs from.attr c.args.met c.args.range n m High b there (ap is_bounded (sym is) ∙ c.upper_range.ensures.bounded) (ap is_rising (sym is) ∙ c.upper_range.ensures.rising splits)),
-      ),
+      λ m e. let there = ap (child High) (plain_out c.args.n.now) ∙ e in
+          let splits = open_below s (known c.args.range b.used) n m High b.right there in
+          subst (λ r. IsBelow s attrs from.attr c.args.met r m) (sym is) (child_below s attrs from.attr c.args.met c.args.range n m High b there (ap is_bounded (sym is) ∙ c.upper_range.ensures.bounded) (ap is_rising (sym is) ∙ c.upper_range.ensures.rising splits)),
     )
 
 pub least_in_parts-least_in_part-best-requires : goal.least_in_parts-least_in_part-best-requires
@@ -87,10 +79,7 @@ least_in_parts-least_in_part-best-requires t c =
     let ps = c.args.parts.now in
     let i = c.loop-part.part-index in (
       search (rules, the_lemmas),
-      (
-        movable_part s from.attr ps i c.part-item.result c.loop-part-test.true c.part-item.is c.requires.movable,
-        each_part (ChildBelow s (attrs_of (parts_as from.parts.now)) from.attr c.args.met None) ps i c.part-item.result c.loop-part-test.true c.part-item.is c.requires.below,
-      ),
+      each_part (ChildBelow s (attrs_of (parts_as from.parts.now)) from.attr c.args.met None) ps i c.part-item.result c.loop-part-test.true c.part-item.is c.requires,
     )
 
 pub least_below-returns : goal.least_below-returns

@@ -1,16 +1,16 @@
 use Rattle.std.proofs.Common.{◌+◌, drop, sym, ap, ◌∙◌}
 use Rattle.std.specs.Arc.{arc_value}
+use Rattle.be_model.proofs.Attributes.{all_at}
 use Rattle.be_shape.specs.Plain.{parts_as}
-use Rattle.be_shape.specs.Shape.{attrs_of}
+use Rattle.be_shape.specs.Shape.{attrs_of, may_stand}
 use Rattle.be_plan.specs.Shifts.{gain_of, lower_id, least_gain}
 use Rattle.be_plan.proofs.Rows.{at_place}
-use Rattle.be_plan.proofs.Moves.{movable_at}
 use Rattle.be_plan.proofs.Ids.{lower_assoc}
 use Rattle.be_plan.proofs.shifts.least_in_leaf.Goals as goal
 
-pub gain_of-requires : goal.gain_of-requires
-gain_of-requires c =
-    movable_at c.args.s.now c.args.from.now.attr c.args.leaf.now c.loop-place.place (arc_value c.row.result.now) c.deref.result.now c.requires.movable c.row.ensures c.deref.ensures
+pub gain_at-requires-clause-may : goal.gain_at-requires-clause-may
+gain_at-requires-clause-may c =
+    ap (may_stand c.args.s.now) c.deref.ensures ∙ all_at (may_stand c.args.s.now) c.args.leaf.now c.loop-place.place (arc_value c.row.result.now) c.requires.may c.row.ensures
 
 pub loop-place-preserved : goal.loop-place-preserved
 loop-place-preserved c =
@@ -21,6 +21,6 @@ loop-place-preserved c =
     let x = arc_value c.row.result.now in
     let best = c.loop-place.best in
     let rest = least_gain s attrs from.attr (drop (i + 1) c.args.leaf.now) in
-    let is = c.gain_of.ensures ∙ ap (gain_of s attrs from.attr) c.deref.ensures in
+    let is = c.gain_at.ensures ∙ ap (gain_of s attrs from.attr) c.deref.ensures in
     ap (λ q. lower_id q rest) (c.lower_id-best.ensures ∙ ap (lower_id best) is) ∙ lower_assoc best (gain_of s attrs from.attr x) rest
     ∙ ap (λ rows. lower_id best (least_gain s attrs from.attr rows)) (sym (at_place c.args.leaf.now i x c.row.ensures)) ∙ c.loop-place.invariant

@@ -1,19 +1,17 @@
-use Rattle.std.proofs.Common.{◌≡◌, ◌<◌, length, true, false, Some, None, sym, ap, ◌∙◌, subst, arith}
-use Rattle.std.specs.List.{list_all, AllByRecursion}
+use Rattle.std.proofs.Common.{◌≡◌, ◌<◌, length, false, Some, None, sym, ap, ◌∙◌, subst, arith}
+use Rattle.std.specs.List.{AllByRecursion}
 use Rattle.be_base.specs.declared.names.AttrNo.{AttrNo}
 use Rattle.be_model.specs.declared.paths.Hop.{Hop}
 use Rattle.be_model.specs.declared.paths.Hop.TheVariants.{Part}
-use Rattle.be_model.specs.Lies.{row_lies}
 use Rattle.be_shape.specs.declared.nodes.Node.TheViews.{out-Node, out-Part}
 use Rattle.be_shape.specs.Paths.{child}
 use Rattle.be_shape.specs.Children.{roots_of}
 use Rattle.be_shape.specs.Ranges.{is_bounded, is_rising}
-use Rattle.be_shape.specs.Plain.{Plain, plain, parts_as, half_as, parts_under, rows_below, rows_in_parts, rows_in_half}
-use Rattle.be_shape.specs.Shape.{attrs_of, parts_fit}
+use Rattle.be_shape.specs.Plain.{Plain, plain, parts_as, parts_under, rows_below}
+use Rattle.be_shape.specs.Shape.{attrs_of}
 use Rattle.be_shape.proofs.Plains.{plain_out, part_out}
-use Rattle.be_plan.specs.Shifts.{Movable, least_gain, first_shift, IsBelow}
-use Rattle.be_plan.proofs.Rows.{rows_out, all_four}
-use Rattle.be_plan.proofs.Moves.{movable_from, one_part, next_part, no_more_parts}
+use Rattle.be_plan.specs.Shifts.{least_gain, first_shift, IsBelow}
+use Rattle.be_plan.proofs.Moves.{one_part, next_part, no_more_parts}
 use Rattle.be_plan.proofs.Apart.{first_below}
 use Rattle.be_plan.proofs.Firsts.{roots_there}
 use Rattle.be_plan.proofs.Places.{part_there}
@@ -26,23 +24,12 @@ returns-then-len-lt2 c =
     let few : length x.parts.items < 2 = omega (arith, x.parts.ok.0, c.len.ensures, c.if-len-lt2.true) in
     sym (ap (λ q. first_shift s (attrs_of q) q) (ap parts_under (plain_out c.args.n.now)) ∙ one_part s x.parts.items few)
 
-pub least_below-requires-clause-movable : goal.least_below-requires-clause-movable
-least_below-requires-clause-movable c =
-    let s = c.args.s.now in
-    let x = out-Node c.args.n.now in
-    let items = c.as_slice-part-items.result.now in
-    let is = c.as_slice-part-items.ensures.value in
-    let fit = subst (λ q. parts_fit q ≡ true) (ap parts_under (plain_out c.args.n.now) ∙ sym (ap parts_as is)) c.requires.fit in
-    let lie = (all_four (row_lies s) x.leaf (rows_in_parts (parts_as x.parts.items)) (rows_in_half (half_as x.low)) (rows_in_half (half_as x.high)) (subst (λ rows. list_all (row_lies s) rows ≡ true) (rows_out c.args.n.now) c.requires.lie)).1 in
-    let there = subst (λ ps. list_all (row_lies s) (rows_in_parts (parts_as ps)) ≡ true) (sym is) lie in
-    subst (λ m. Movable s (out-Part c.part-item.result).attr (rows_below (plain m))) (sym c.deref.ensures) (movable_from s items c.loop-part.part-index c.part-item.result c.loop-part-test.true c.part-item.is fit there)
-
-pub least_below-requires-clause-below : goal.least_below-requires-clause-below
-least_below-requires-clause-below c =
+pub least_below-requires : goal.least_below-requires
+least_below-requires c =
     let s = c.args.s.now in
     let n = plain c.args.n.now in
-    let k = c.requires.right.0 in
-    let r = c.requires.right.1 in
+    let k = c.requires.0 in
+    let r = c.requires.1 in
     let items = c.as_slice-part-items.result.now in
     let a = (out-Part c.part-item.result).attr in
     let under = ap parts_under (plain_out c.args.n.now) ∙ sym (ap parts_as c.as_slice-part-items.ensures.value) in

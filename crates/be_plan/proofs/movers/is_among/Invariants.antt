@@ -1,7 +1,7 @@
 use Rattle.std.proofs.Common.{◌≡◌, drop}
 use Rattle.be_shape.specs.Plain.{parts_as}
 use Rattle.be_shape.specs.Shape.{attrs_of, is_used}
-use Rattle.be_plan.proofs.shifts.is_among.Given as goal
+use Rattle.be_plan.proofs.movers.is_among.Given as goal
 
 -- there is one where there is one among those that are left
 abbrev pub invariant-loop-part : goal.invariant-loop-part
