@@ -1,5 +1,5 @@
 -- What the desk answers, as the board of the seat's session says it.
-use Rattle.std.proofs.Common.{◌≡◌, ℕ, ◌≤◌, List, map, refl, sym, ap, ◌∙◌, subst, arith}
+use Rattle.std.proofs.Common.{◌≡◌, ℕ, ◌≤◌, map, refl, sym, ap, subst, arith}
 use Rattle.be_base.specs.Counts.{last_count, HasRisen}
 use Rattle.be_model.specs.Schemas.{Attributes}
 use Rattle.be_change.specs.History.{IsWellFormed}
@@ -9,7 +9,6 @@ use Rattle.be_board.specs.declared.answers.Answer.TheVariants.{Done, Held, Dup, 
 use Rattle.be_mail.specs.Letters.{letter_in}
 use Rattle.be_mail.specs.Passes.{Passes}
 use Rattle.be_published.specs.States.{GlassState}
-use Rattle.be_board.specs.State.{NoneFalls}
 use Rattle.be_board.specs.Changes.{Asked, Answers}
 use Rattle.be_desk.specs.Boards.{board_of, put_count}
 use Rattle.be_desk.specs.Changes.{Continues, Counts}

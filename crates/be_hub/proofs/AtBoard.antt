@@ -1,5 +1,5 @@
 -- What holds of a result however often the rows were maintained holds for each number.
-use Rattle.std.proofs.Common.{ℕ, Option, Some, None, Result, Ok, Err}
+use Rattle.std.proofs.Common.{ℕ, Result, Ok, Err}
 use Rattle.std.specs.Prelude.{IfOk, IfErr, OnErr}
 
 pub ok_at : {X E : Type 0} (P : ℕ → X → Type 0) (r : Result X E) (n : ℕ) → IfOk r (λ x. (m : ℕ) → P m x) → IfOk r (P n)

@@ -1,5 +1,5 @@
 -- What the list keeps of all seats, once they agree with it.
-use Rattle.std.proofs.Common.{◌≡◌, ℕ, ◌<◌, Bool, true, List, length, map, get_or, subst, arith}
+use Rattle.std.proofs.Common.{◌≡◌, Bool, true, List, map, get_or, subst, arith}
 use Rattle.std.specs.Prelude.{if◌then◌else◌, Any, Option, None, MatchOption}
 use Rattle.std.specs.List.{All}
 use Rattle.std.proofs.lemmas.List.{get_or-map, length-map}

@@ -1,7 +1,7 @@
 -- All links of a door, served and closed.
-use Rattle.std.proofs.Common.{◌≡◌, ℕ, zero, suc, ◌+◌, ◌*◌, ◌/◌, ◌<◌, ◌≤◌, Bool, true, false, ◌||◌, List, [], ◌∷◌, ◌++◌, length, map, max, fold, sum_by, Option, Some, None, slice_get, get_or, refl, sym, ap, ◌∙◌, subst, arith}
+use Rattle.std.proofs.Common.{◌≡◌, ℕ, zero, suc, ◌+◌, ◌*◌, ◌/◌, ◌<◌, ◌≤◌, Bool, true, false, ◌||◌, List, [], ◌∷◌, length, map, max, fold, sum_by, Some, None, slice_get, refl, sym, ap, ◌∙◌, subst, arith}
 use Rattle.std.specs.Prelude.{if◌then◌else◌, find}
-use Rattle.std.specs.List.{All, Any, Contains, list_any, range_with_len, flat_map}
+use Rattle.std.specs.List.{All, Any, Contains, list_any, range_with_len}
 use Rattle.std.proofs.Math.Nat.{mul-div_cancel}
 use Rattle.std.proofs.lemmas.List.{length-map}
 use Rattle.std.proofs.lemmas.List.Concat.{length-flat_map}
@@ -10,8 +10,8 @@ use Rattle.std.proofs.lemmas.List.FromFn.{length-range_with_len}
 use Rattle.std.proofs.lemmas.List.Sums.{sum_by-cons}
 use Rattle.std.proofs.lemmas.Option.{slice_get-get_or, slice_get_within}
 use Rattle.atomic_table.specs.Seated.{TableId}
-use Rattle.be_base.specs.Counts.{raised, last_count, HasRisen}
-use Rattle.be_base.specs.declared.limits.TheConstants.{SEATS, SOURCE_BYTES}
+use Rattle.be_base.specs.Counts.{raised, HasRisen}
+use Rattle.be_base.specs.declared.limits.TheConstants.{SEATS}
 use Rattle.be_base.specs.declared.names.SessionNo.{SessionNo}
 use Rattle.be_io.specs.Outside.{LinkState}
 use Rattle.be_model.specs.Schemas.{Attributes}
@@ -20,22 +20,22 @@ use Rattle.be_mail.specs.Letters.{seat_of}
 use Rattle.be_desk.specs.Closing.{AreRecorded}
 use Rattle.be_desk.specs.Desks.{IsOpened}
 use Rattle.be_desk.specs.Seats.{SeatState, first_seat, IsKeptSeat}
-use Rattle.be_door.specs.Counts.{CountState, IsSound, sums_of, with_counts, all_kept}
+use Rattle.be_door.specs.Counts.{CountState, sums_of, with_counts, all_kept}
 use Rattle.be_door.specs.Door.{DoorState, IsOf, AreAllCounts}
 use Rattle.be_door.specs.Sums.{no_sums}
-use Rattle.be_door.specs.declared.sums.Sums.{Sums}
 use Rattle.be_session.specs.declared.serve.SessionEnd.{SessionEnd}
 use Rattle.be_session.specs.declared.serve.SessionEnd.TheVariants.{Eof, Quit, ReadFault, WriteFault, Spent, Split, NoMemory}
 use Rattle.be_hub.specs.Closing.{KeepsAll}
 use Rattle.be_hub.specs.Files.{lacks_memory, is_split_end}
-use Rattle.be_hub.specs.Links.{MayStart, session_at, IsCounted, IsOfLink, LinkServed, WorkerServed}
-use Rattle.be_hub.specs.Serving.{IsKeptLink, AreApart, LinksAreServed}
+use Rattle.be_hub.specs.Links.{MayStart, session_at, IsCounted, IsOfLink, SeatVisit, LinkServed, WorkerServed}
+use Rattle.be_hub.specs.Serving.{IsLegalLink, IsKeptLink, AreApart, LinksAreServed}
 use Rattle.be_hub.specs.Settling.{IsUnbroken, CountsSplits}
 use Rattle.be_hub.proofs.Ends.{there, at_its_place}
 use Rattle.be_hub.proofs.Pairs.{get_map, one_at}
 use Rattle.be_hub.proofs.LinksLegal.{legal_link}
 use Rattle.be_hub.proofs.Places.{all_from_places, any_at, at_of_all, flat_differs, flat_has, in_flat, EachDiffers}
 use Rattle.be_hub.proofs.FilesClosed.{seat_at, there_mapped}
+use Rattle.be_hub.proofs.Visits.{kept_end, kept_served, kept_session}
 
 same_number : (q i j a : ℕ) → 0 < q → a + i * q ≡ a + j * q → i ≡ j
 same_number q i j a some same =
@@ -136,16 +136,22 @@ module _ {L : Type 0} (told : L → LinkState) {E : Type 0} (seat_in : E → Sea
     worker_of : (j : ℕ) (c : CountState L) → slice_get counts j ≡ Some c → (e : E) × (slice_get ends j ≡ Some e) × (count_in e ≡ c)
     worker_of j c at = get_map count_in ends j c at
 
-    -- a kept link with the end of its session
-    link_of : (j : ℕ) (e : E) (k : ℕ) (x : SessionNo × L) → slice_get ends j ≡ Some e → slice_get (count_in e).kept k ≡ Some x → (end : SessionEnd) × (slice_get (ends_in e) k ≡ Some end) × LinkServed s boxes x.0.0 (first_seat opening boxes j) (seat_in e) (told x.1) end
+    -- a kept link's visit, with the end of its session
+    link_of : (j : ℕ) (e : E) (k : ℕ) (x : SessionNo × L) → slice_get ends j ≡ Some e → slice_get (count_in e).kept k ≡ Some x
+        → (v : SeatVisit) × (slice_get (ends_in e) k ≡ Some v.end) × (v.link ≡ told x.1) × LinkServed s boxes x.0.0 (first_seat opening boxes j) (seat_in e) v
     link_of j e k x at kept =
-        let w = served_at j e at in
-        let end = there (ends_in e) k (omega (arith, slice_get_within (count_in e).kept k x kept, few (count_in e).keeps refl w.sound.kept, w.links.back)) in
-        (end.0, end.1, w.links.served k x end.0 kept end.1)
-      where
-        few : (b : Bool) → (count_in e).keeps ≡ b → length (count_in e).kept ≡ (if (count_in e).keeps then (count_in e).back else 0) → length (count_in e).kept ≤ (count_in e).back
-        few true is l = omega (arith, l ∙ ap (λ b. if b then (count_in e).back else 0) is)
-        few false is l = omega (arith, l ∙ ap (λ b. if b then (count_in e).back else 0) is)
+        let l = (served_at j e at).links in
+        let first = first_seat opening boxes j in
+        let found = l.kept k x kept in (
+          found.visit,
+          kept_end told s boxes first (seat_in e) (count_in e) (ends_in e) (calls_in e) l k x kept,
+          found.link,
+          kept_served told s boxes first (seat_in e) (count_in e) (ends_in e) (calls_in e) l k x kept,
+        )
+
+    -- its session is that of its place
+    session_of_link : (j : ℕ) (e : E) (k : ℕ) (x : SessionNo × L) → slice_get ends j ≡ Some e → slice_get (count_in e).kept k ≡ Some x → x.0.0 ≡ session_at (length boxes) (first_seat opening boxes j).session k
+    session_of_link j e k x at kept = kept_session told s boxes (first_seat opening boxes j) (seat_in e) (count_in e) (ends_in e) (calls_in e) (served_at j e at).links k x kept
 
     kept_apart : 0 < length boxes → AreApart told (all_kept counts)
     kept_apart some = flat_differs (λ (c : CountState L). c.kept) (λ (x : SessionNo × L). x.0.0) (seat_of (length boxes)) counts 0 each
@@ -155,15 +161,14 @@ module _ {L : Type 0} (told : L → LinkState) {E : Type 0} (seat_in : E → Sea
 
         each : EachDiffers (λ (c : CountState L). c.kept) (λ (x : SessionNo × L). x.0.0) (seat_of (length boxes)) 0 counts
         each j c at =
-            let e = worker_of j c at in
-            let w = served_at j e.0 e.1 in (
+            let e = worker_of j c at in (
               (λ i k x y at_x at_y same.
                   let here = subst (λ (d : CountState L). slice_get d.kept i ≡ Some x) (sym e.2) at_x in
                   let there = subst (λ (d : CountState L). slice_get d.kept k ≡ Some y) (sym e.2) at_y in
-                  same_number (length boxes) i k (first_seat opening boxes j).session some (sym (w.links.sessions i x here) ∙ (same ∙ w.links.sessions k y there))),
+                  same_number (length boxes) i k (first_seat opening boxes j).session some (sym (session_of_link j e.0 i x e.1 here) ∙ (same ∙ session_of_link j e.0 k y e.1 there))),
               (λ k x at_x.
                   let here = subst (λ (d : CountState L). slice_get d.kept k ≡ Some x) (sym e.2) at_x in
-                  (link_of j e.0 k x e.1 here).2.seat_is ∙ (seats_at j e.0 e.1 ∙ from_zero j)),
+                  (link_of j e.0 k x e.1 here).3.seat_is ∙ (seats_at j e.0 e.1 ∙ from_zero j)),
             )
 
     module _ (h : List Entry) (back : List SeatState) (shuts : Bool) (links : ℕ) (keeps : Bool) (some : 0 < length boxes) (kept_seats : All (IsKeptSeat boxes) back) (is : back ≡ map seat_in ends)
@@ -189,7 +194,7 @@ module _ {L : Type 0} (told : L → LinkState) {E : Type 0} (seat_in : E → Sea
             (subst (λ (l : List (ℕ × Entry)). Contains l (p, e)) own.1 (subst (λ (x : SeatState). Contains x.own (p, e)) (sym end.2) found.4)) in
             let x = there (count_in end.0).kept of.0 (omega (arith, of.1, many_kept found.0 end.0 end.1 keeping, w.links.back)) in
             let placed = flat_has (λ (c : CountState L). c.kept) counts found.0 (count_in end.0) of.0 x.0 (there_count found.0 end.0 end.1) x.1 in
-            any_at (λ (y : SessionNo × L). y.0.0 ≡ session_of e) (all_kept counts) placed.0 x.0 placed.1 (w.links.sessions of.0 x.0 x.1 ∙ sym of.2)
+            any_at (λ (y : SessionNo × L). y.0.0 ≡ session_of e) (all_kept counts) placed.0 x.0 placed.1 (session_of_link found.0 end.0 of.0 x.0 end.1 x.1 ∙ sym of.2)
           where
             there_count : (j : ℕ) (e : E) → slice_get ends j ≡ Some e → slice_get counts j ≡ Some (count_in e)
             there_count j e at =
@@ -204,13 +209,14 @@ module _ {L : Type 0} (told : L → LinkState) {E : Type 0} (seat_in : E → Sea
             let w = served_at f.0 e.0 e.1 in
             let l = link_of f.0 e.0 f.2 x e.1 (subst (λ (d : CountState L). slice_get d.kept f.2 ≡ Some x) (sym e.2) f.4) in
             let seat_back : slice_get back f.0 ≡ Some (seat_in e.0) = there_mapped seat_in ends back is f.0 e.0 e.1 in
+            let legal = legal_link s boxes (length opening) h shuts x.0.0 (first_seat opening boxes f.0) (seat_in e.0) l.0 l.3 (at_of_all (KeepsAll boxes h) back f.0 (seat_in e.0) keeps_all seat_back)
+            (omega arith) (λ none. at_of_all (λ e. (seat_in e).glass.shuts ≡ 0) ends f.0 e.0 (quiet none) e.1)
+            (at_of_all IsUnbroken (ends_in e.0) f.2 l.0.end (at_of_all (λ e. All IsUnbroken (ends_in e)) ends f.0 e.0 unbroken e.1) l.1) in
             record {
-              end = l.0;
-              legal = legal_link s boxes (length opening) h shuts x.0.0 (first_seat opening boxes f.0) (seat_in e.0) (told x.1) l.0 l.2 (at_of_all (KeepsAll boxes h) back f.0 (seat_in e.0) keeps_all seat_back)
-                  (omega arith) (λ none. at_of_all (λ e. (seat_in e).glass.shuts ≡ 0) ends f.0 e.0 (quiet none) e.1)
-                  (at_of_all IsUnbroken (ends_in e.0) f.2 l.0 (at_of_all (λ e. All IsUnbroken (ends_in e)) ends f.0 e.0 unbroken e.1) l.1);
-              counted = counted_in counts f.0 f.1 l.0 f.3
-                  (subst (λ (c : CountState L). IsCounted (sums_of c) l.0) e.2 (at_of_all (IsCounted (sums_of (count_in e.0))) (ends_in e.0) f.2 l.0 w.links.counted l.1));
+              end = l.0.end;
+              legal = subst (λ link. IsLegalLink s x.0.0 (length opening) h shuts link l.0.end) l.2 legal;
+              counted = counted_in counts f.0 f.1 l.0.end f.3
+                  (subst (λ (c : CountState L). IsCounted (sums_of c) l.0.end) e.2 (at_of_all (IsCounted (sums_of (count_in e.0))) (ends_in e.0) f.2 l.0.end w.links.counted l.1));
             }
 
         pub links_are_served : LinksAreServed told s opening h shuts links (with_counts no_sums counts) keeps (all_kept counts)

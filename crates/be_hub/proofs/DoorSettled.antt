@@ -1,5 +1,5 @@
 -- What was made of a door, from its listen on.
-use Rattle.std.proofs.Common.{◌≡◌, ℕ, ◌+◌, ◌≤◌, ◌⊎◌, inl, inr, List, sum_by, Result, Ok, Err, refl, sym, ap, ◌∙◌, subst, arith}
+use Rattle.std.proofs.Common.{◌≡◌, ℕ, ◌+◌, inl, inr, List, sum_by, Result, Err, sym, ap, ◌∙◌, subst, arith}
 use Rattle.be_base.specs.Counts.{raised, HasRisen, HasRisenBy}
 use Rattle.be_io.specs.declared.faults.ListenFault.{ListenFault}
 use Rattle.be_io.specs.declared.faults.ListenFault.TheVariants as listen

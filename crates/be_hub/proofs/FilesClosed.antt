@@ -1,16 +1,15 @@
 -- All files, served and closed.
-use Rattle.std.proofs.Common.{◌≡◌, ℕ, ◌+◌, ◌<◌, ◌≤◌, Bool, true, false, List, [], ◌∷◌, length, map, Option, Some, None, slice_get, get_or, refl, sym, ap, ◌∙◌, subst, arith}
+use Rattle.std.proofs.Common.{◌≡◌, ℕ, ◌+◌, ◌<◌, Bool, true, false, List, [], ◌∷◌, length, map, Option, Some, None, slice_get, get_or, refl, sym, ap, ◌∙◌, subst, arith}
 use Rattle.std.specs.Option.{is_some, IsSomeAnd}
 use Rattle.std.specs.Prelude.{find, if◌then◌else◌, ◌||◌, MatchOption}
 use Rattle.std.specs.List.{All, Contains, list_any, range_with_len}
 use Rattle.std.proofs.lemmas.List.{length-map}
 use Rattle.std.proofs.lemmas.List.Elements.{All-cons, All-head, All-nil, All-tail}
 use Rattle.std.proofs.lemmas.List.FromFn.{length-range_with_len}
-use Rattle.std.proofs.lemmas.Option.{slice_get-get_or, slice_get_within, get_or_from_slice_get}
+use Rattle.std.proofs.lemmas.Option.{slice_get-get_or, slice_get_within}
 use Rattle.atomic_table.specs.Seated.{TableId}
 use Rattle.be_model.specs.Schemas.{Attributes}
-use Rattle.be_change.specs.History.{Entry, session_of, IsWellFormed}
-use Rattle.be_mail.specs.Passes.{new_passes}
+use Rattle.be_change.specs.History.{Entry, IsWellFormed}
 use Rattle.be_desk.specs.Closing.{AreRecorded}
 use Rattle.be_desk.specs.Desks.{IsOpened}
 use Rattle.be_desk.specs.Seats.{SeatState, first_seat, IsKeptSeat}

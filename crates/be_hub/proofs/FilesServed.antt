@@ -1,7 +1,6 @@
 -- A session over a file.
-use Rattle.std.proofs.Common.{◌≡◌, ℕ, ◌≤◌, ◌⊎◌, inl, inr, List, [], Some, refl, sym, ap, ◌∙◌, subst, arith}
-use Rattle.be_base.specs.Counts.{HasRisen, HasRisenBy}
-use Rattle.be_base.specs.declared.limits.TheConstants.{FILE_BYTES, SOURCE_BYTES}
+use Rattle.std.proofs.Common.{◌≡◌, ℕ, ◌≤◌, inl, inr, List, [], Some, ap, ◌∙◌, subst, arith}
+use Rattle.be_base.specs.declared.limits.TheConstants.{FILE_BYTES}
 use Rattle.be_io.specs.Memory.{MemSourceState, MemSinkState}
 use Rattle.be_io.specs.Outside.{LinkState}
 use Rattle.be_model.specs.Schemas.{Attributes}

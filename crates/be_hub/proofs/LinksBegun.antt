@@ -1,6 +1,5 @@
 -- A worker begins, and draws links.
-use Rattle.std.proofs.Common.{◌≡◌, ℕ, zero, suc, ◌+◌, ◌-◌, ◌*◌, ◌<◌, ◌≤◌, ◌==◌, ◌⊎◌, inl, inr, Bool, true, false, IfSome, Some, List, [], length, Result, Ok, Err, Option, refl, sym, ap, ◌∙◌, subst, arith}
-use Rattle.std.specs.List.{All}
+use Rattle.std.proofs.Common.{◌≡◌, ℕ, zero, suc, ◌+◌, ◌-◌, ◌*◌, ◌<◌, ◌≤◌, ◌==◌, Bool, true, false, IfSome, Some, List, [], length, Result, Err, Option, refl, sym, ap, subst, arith}
 use Rattle.std.proofs.lemmas.List.{append-nil}
 use Rattle.std.proofs.lemmas.List.Elements.{All-nil}
 use Rattle.std.proofs.lemmas.Nat.{mul-le}
@@ -19,7 +18,7 @@ use Rattle.be_session.specs.declared.serve.SessionEnd.{SessionEnd}
 use Rattle.be_hub.specs.Files.{is_split_end}
 use Rattle.be_hub.specs.Links.{session_at, IsCounted, IsOfLink, LinksServed}
 use Rattle.be_hub.specs.declared.links.TheConstants.{FIRST_END}
-use Rattle.be_hub.proofs.LinksServed.{accepted, GoesFurther}
+use Rattle.be_hub.proofs.LinksServed.{accepted}
 
 module _ {L : Type 0} (told : L → LinkState) (s : Attributes) (boxes : List TableId) where
   -- nothing was served yet
@@ -34,8 +33,11 @@ module _ {L : Type 0} (told : L → LinkState) (s : Attributes) (boxes : List Ta
         known = BeginsWith-same first.glass.known;
         splits = omega arith;
         own = ([], sym (append-nil first.own), All-nil (IsOfLink (length boxes) first.session 0));
-        sessions = λ i x at. absurd cc;
-        served = λ i x end at. absurd cc;
+        visits = [];
+        ends_are = refl;
+        chain = refl;
+        served = λ i v at. absurd cc;
+        kept = λ i x at. absurd cc;
         counted = All-nil (IsCounted (sums_of (new_count {L = L} of links keeps)));
         split = All-nil (λ (x : SessionEnd). is_split_end x ≡ true → HasRisen first.splits first.splits);
         failed = λ some. absurd (omega (arith, some));

@@ -1,5 +1,5 @@
 -- A link that was served, read over a list that keeps the words of all sessions of its seat.
-use Rattle.std.proofs.Common.{◌≡◌, ℕ, ◌+◌, ◌<◌, ◌≤◌, Bool, true, false, List, [], ◌∷◌, ◌++◌, length, map, Option, Some, None, slice_get, option_map, IfSome, refl, sym, ap, ◌∙◌, subst, arith}
+use Rattle.std.proofs.Common.{◌≡◌, ℕ, ◌<◌, ◌≤◌, Bool, true, false, List, [], ◌∷◌, ◌++◌, length, map, Option, Some, None, slice_get, IfSome, sym, ap, ◌∙◌, subst, arith}
 use Rattle.std.specs.List.{All, list_all}
 use Rattle.atomic_table.specs.Seated.{TableId}
 use Rattle.be_base.specs.Counts.{HasRisen, HasRisenBy}
@@ -27,7 +27,7 @@ use Rattle.be_session.specs.declared.serve.SessionEnd.TheVariants.{Eof, Quit, Re
 use Rattle.be_session.specs.Served.{SessionEnds, Replied, RepliedInPart}
 use Rattle.be_session.proofs.Quits.{has_no_quit, quits_at}
 use Rattle.be_hub.specs.Closing.{KeepsAll}
-use Rattle.be_hub.specs.Links.{WentOn, LinkServed}
+use Rattle.be_hub.specs.Links.{WentOn, SeatVisit, LinkServed}
 use Rattle.be_hub.specs.Serving.{AnsweredWhole, AnsweredInPart, IsLegalLink}
 use Rattle.be_hub.specs.Settling.{IsUnbroken}
 use Rattle.be_hub.proofs.Places.{in_front, all_from_places, at_of_all}
@@ -87,55 +87,58 @@ some_risen a b h = omega (arith, h)
 most_risen : (a b : ℕ) → HasRisenBy SOURCE_BYTES a b → SOURCE_BYTES ≤ b
 most_risen a b h = omega (arith, h)
 
-module _ (s : Attributes) (boxes : List TableId) (z : ℕ) (h : List Entry) (shuts : Bool) (k : ℕ) (first last : SeatState) (link : LinkState) (end : SessionEnd) (o : LinkServed s boxes k first last link end) (keeps : KeepsAll boxes h last)
+module _ (s : Attributes) (boxes : List TableId) (z : ℕ) (h : List Entry) (shuts : Bool) (k : ℕ) (first last : SeatState) (visit : SeatVisit) (o : LinkServed s boxes k first last visit) (keeps : KeepsAll boxes h last)
     (within : z ≤ length first.glass.known) (quiet : shuts ≡ false → last.glass.shuts ≡ 0)
   where
-    left_is : o.left.session ≡ k
+    abbrev link : LinkState
+    link = visit.link
+
+    left_is : visit.left.session ≡ k
     left_is = o.served.board.goes.session ∙ o.session_is
 
-    kept : Keeps h (word_of o.left)
-    kept = keeps_left h k o.left last left_is o.went_on (keeps k o.somebody o.seat_is)
+    kept : Keeps h (word_of visit.left)
+    kept = keeps_left h k visit.left last left_is o.went_on (keeps k o.somebody o.seat_is)
 
-    told : z ≤ length o.entered.glass.known
-    told = omega (arith, within, BeginsWith-length o.entered.glass.known first.glass.known o.known)
+    told : z ≤ length visit.entered.glass.known
+    told = omega (arith, within, BeginsWith-length visit.entered.glass.known first.glass.known o.known)
 
-    none_shut : shuts ≡ false → o.left.glass.shuts ≡ 0
+    none_shut : shuts ≡ false → visit.left.glass.shuts ≡ 0
     none_shut is = omega (arith, quiet is, o.went_on.shuts)
 
     all_given : o.unused.source.left ≡ link.source.whole
     all_given = o.is_unused.all_left ∙ sym o.served.whole
 
-    by_end : (x : SessionEnd) → SessionEnds ((link ≡ o.unused) × (o.left ≡ o.entered)) s o.unused link (board_of s o.calls o.entered) (board_of s o.calls' o.left) x → IsUnbroken x → IsLegalLink s o.entered.session z h shuts link x
+    by_end : (x : SessionEnd) → SessionEnds ((link ≡ o.unused) × (visit.left ≡ visit.entered)) s o.unused link (board_of s o.calls visit.entered) (board_of s o.calls' visit.left) x → IsUnbroken x → IsLegalLink s visit.entered.session z h shuts link x
     by_end Eof e u =
-        whole_from (λ lines. ReadToEnd link.source.whole link.source.left lines × HasNoQuit s lines) s z h shuts e.lines None o.unused.sink link.sink (board_of s o.calls o.entered) (board_of s o.calls' o.left)
+        whole_from (λ lines. ReadToEnd link.source.whole link.source.left lines × HasNoQuit s lines) s z h shuts e.lines None o.unused.sink link.sink (board_of s o.calls visit.entered) (board_of s o.calls' visit.left)
         (subst (λ w. ReadToEnd w link.source.left e.lines) all_given e.read, has_no_quit s e.lines e.replied.exchanges e.replied.asked e.replied.ends)
         e.replied (all_plain e.replied.exchanges e.replied.ends) o.is_unused.none_held kept told none_shut
     by_end Quit e u =
         let r = e.replied in
         let asked = subst (λ (ps : List Exchange). requests ps ≡ map (reading s) e.lines) r.ends.2 r.asked in
-        whole_from (λ lines. ReadFirstLines link.source.whole link.source.left lines × EndsWithQuit s lines) s z h shuts e.lines (Some Quit) o.unused.sink link.sink (board_of s o.calls o.entered) (board_of s o.calls' o.left)
+        whole_from (λ lines. ReadFirstLines link.source.whole link.source.left lines × EndsWithQuit s lines) s z h shuts e.lines (Some Quit) o.unused.sink link.sink (board_of s o.calls visit.entered) (board_of s o.calls' visit.left)
         (subst (λ w. ReadFirstLines w link.source.left e.lines) all_given e.read, quits_at s e.lines r.ends.0 r.ends.1 asked r.ends.3 r.ends.4)
         r (subst (λ (ps : List Exchange). list_all plain ps ≡ true) (sym r.ends.2) (all_plain_last r.ends.0 r.ends.1 r.ends.3 r.ends.4)) o.is_unused.none_held kept told none_shut
     by_end ReadFault e u = (
       some_risen o.unused.source.faults link.source.faults e.0,
-      whole_from (λ lines. ReadInPart link.source.whole link.source.left lines × HasNoQuit s lines) s z h shuts e.1.lines None o.unused.sink link.sink (board_of s o.calls o.entered) (board_of s o.calls' o.left)
+      whole_from (λ lines. ReadInPart link.source.whole link.source.left lines × HasNoQuit s lines) s z h shuts e.1.lines None o.unused.sink link.sink (board_of s o.calls visit.entered) (board_of s o.calls' visit.left)
           (subst (λ w. ReadInPart w link.source.left e.1.lines) all_given e.1.read, has_no_quit s e.1.lines e.1.replied.exchanges e.1.replied.asked e.1.replied.ends)
           e.1.replied (all_plain e.1.replied.exchanges e.1.replied.ends) o.is_unused.none_held kept told none_shut,
     )
     by_end Spent e u = (
       most_risen o.unused.source.taken link.source.taken e.0,
-      whole_from (λ lines. ReadInPart link.source.whole link.source.left lines × HasNoQuit s lines) s z h shuts e.2.lines None o.unused.sink link.sink (board_of s o.calls o.entered) (board_of s o.calls' o.left)
+      whole_from (λ lines. ReadInPart link.source.whole link.source.left lines × HasNoQuit s lines) s z h shuts e.2.lines None o.unused.sink link.sink (board_of s o.calls visit.entered) (board_of s o.calls' visit.left)
           (subst (λ w. ReadInPart w link.source.left e.2.lines) all_given e.2.read, has_no_quit s e.2.lines e.2.replied.exchanges e.2.replied.asked e.2.replied.ends)
           e.2.replied (all_plain e.2.replied.exchanges e.2.replied.ends) o.is_unused.none_held kept told none_shut,
     )
     by_end WriteFault e u = (
       some_risen o.unused.sink.faults link.sink.faults e.0,
-      part_from (λ lines. ReadFirstLines link.source.whole link.source.left lines) s z h shuts e.1.lines o.unused.sink link.sink (board_of s o.calls o.entered) (board_of s o.calls' o.left)
+      part_from (λ lines. ReadFirstLines link.source.whole link.source.left lines) s z h shuts e.1.lines o.unused.sink link.sink (board_of s o.calls visit.entered) (board_of s o.calls' visit.left)
           (subst (λ w. ReadFirstLines w link.source.left e.1.lines) all_given e.1.read)
           e.1.replied o.is_unused.none_held kept told none_shut,
     )
     by_end (Split i j) e u = absurd u
     by_end NoMemory e u = absurd u
 
-    pub legal_link : IsUnbroken end → IsLegalLink s k z h shuts link end
-    legal_link unbroken = subst (λ m. IsLegalLink s m z h shuts link end) o.session_is (by_end end o.served.session unbroken)
+    pub legal_link : IsUnbroken visit.end → IsLegalLink s k z h shuts link visit.end
+    legal_link unbroken = subst (λ m. IsLegalLink s m z h shuts link visit.end) o.session_is (by_end visit.end o.served.session unbroken)

@@ -1,27 +1,26 @@
 -- One more link was served.
-use Rattle.std.proofs.Common.{◌≡◌, ◌≢◌, ℕ, zero, suc, ◌+◌, ◌-◌, ◌*◌, ◌<◌, ◌≤◌, ◌⊎◌, inl, inr, Bool, true, false, List, [], ◌∷◌, ◌++◌, length, map, max, Some, slice_get, refl, sym, ap, ◌∙◌, subst, append_assoc, length-append, arith, ◌==◌}
+use Rattle.std.proofs.Common.{◌≡◌, ◌≢◌, ℕ, ◌+◌, ◌-◌, ◌<◌, ◌≤◌, ◌⊎◌, inl, inr, Bool, true, false, List, [], ◌∷◌, ◌++◌, length, map, max, Some, slice_get, refl, sym, ap, ◌∙◌, subst, append_assoc, length-append, arith, ◌==◌}
 use Rattle.std.specs.Prelude.{if◌then◌else◌}
 use Rattle.std.specs.List.{All, filter}
 use Rattle.std.proofs.lemmas.Bool.{eqb-true}
-use Rattle.std.proofs.lemmas.List.{append-nil}
+use Rattle.std.proofs.lemmas.List.{append-nil, map-append}
 use Rattle.std.proofs.lemmas.List.Elements.{All-append, All-push, All-weaker, filter_passes, filter-append, All-head, All-tail}
 use Rattle.std.proofs.lemmas.Option.{slice_get_within}
 use Rattle.atomic_table.specs.Seated.{TableId}
-use Rattle.be_base.specs.Counts.{raised, last_count, HasRisen, HasRisenBy}
+use Rattle.be_base.specs.Counts.{raised, HasRisen, HasRisenBy}
 use Rattle.be_base.specs.Lists.{BeginsWith}
 use Rattle.be_base.specs.declared.limits.TheConstants.{SOURCE_BYTES}
 use Rattle.be_base.specs.declared.names.SessionNo.{SessionNo}
 use Rattle.be_base.proofs.Beginnings.{BeginsWith-same, BeginsWith-along}
 use Rattle.be_io.specs.Outside.{LinkState}
-use Rattle.be_model.specs.Letters.{PlainLetter}
 use Rattle.be_model.specs.Schemas.{Attributes}
 use Rattle.be_change.specs.History.{Entry, session_of}
 use Rattle.be_change.specs.Requests.{Exchange}
-use Rattle.be_mail.specs.Letters.{seat_of, letter_in}
-use Rattle.be_board.specs.Word.{own_of, own_in}
+use Rattle.be_mail.specs.Letters.{letter_in}
+use Rattle.be_board.specs.Word.{own_of}
 use Rattle.be_desk.specs.Boards.{board_of}
-use Rattle.be_desk.specs.Seats.{SeatState, word_of, IsKeptSeat}
-use Rattle.be_door.specs.Counts.{CountState, IsSound, sums_of, after_given, after_back}
+use Rattle.be_desk.specs.Seats.{SeatState, IsKeptSeat}
+use Rattle.be_door.specs.Counts.{CountState, IsSound, sums_of, after_back}
 use Rattle.be_door.specs.Kept.{put_last}
 use Rattle.be_door.specs.Links.{IsUnused}
 use Rattle.be_session.specs.declared.serve.SessionEnd.{SessionEnd}
@@ -29,9 +28,10 @@ use Rattle.be_session.specs.declared.serve.SessionEnd.TheVariants.{Eof, Quit, Re
 use Rattle.be_session.specs.Served.{SessionEnds, BoardLeft}
 use Rattle.be_session.specs.Tied.{is_split}
 use Rattle.be_hub.specs.Files.{is_split_end}
-use Rattle.be_hub.specs.Links.{session_at, SessionServed, WentOn, LinkServed, IsCounted, IsOfLink, AddsOfLinks, LinksServed}
-use Rattle.be_hub.proofs.Places.{in_push}
+use Rattle.be_hub.specs.Links.{session_at, SessionServed, WentOn, SeatVisit, LinkServed, IsCounted, IsOfLink, AddsOfLinks, IsOfVisit, LinksServed}
+use Rattle.be_hub.proofs.Places.{at_last, in_front, in_push}
 use Rattle.be_hub.proofs.Transcripts.{is_split_of, some_counted}
+use Rattle.be_hub.proofs.Visits.{as_many, follows_on}
 
 -- the changes of one session have none of another
 none_of : (k m : ℕ) (new : List (ℕ × Entry)) → k ≢ m → All (λ (q : ℕ × Entry). session_of q.1 ≡ m) new → own_of k new ≡ []
@@ -58,6 +58,8 @@ pub record Enters (seats n : ℕ) (first last entered : SeatState) : Type 0 wher
   pub known : entered.glass ≡ last.glass
   pub passes : entered.passes ≡ last.passes
   pub splits : entered.splits ≡ last.splits
+  -- it changed in nothing but its session's number
+  pub same : entered ≡ record last { session = entered.session }
 
 same_number : (seats n a b : ℕ) → n ≡ 0 → b ≡ session_at seats a (n - 1) → b ≡ session_at seats a n
 same_number seats n a b none is = is ∙ ap (session_at seats a) (less n none)
@@ -77,6 +79,7 @@ next_number seats n a b some is = one_on (n - 1) is ∙ ap (session_at seats a) 
 pub enters : (seats n : ℕ) (first last entered : SeatState) (b : Bool) → (b ≡ true → n ≡ 0) → (b ≡ false → 0 < n) → 0 < seats → last.session ≡ session_at seats first.session (n - 1)
     → entered ≡ (if b then last else record last { session = last.session + seats }) → Enters seats n first last entered
 enters seats n first last entered true none some many was same = record {
+  same = same ∙ ap (λ m. record last { session = m }) (sym (ap (λ (s : SeatState). s.session) same));
   session = ap (λ (s : SeatState). s.session) same ∙ same_number seats n first.session last.session (none refl) was;
   no_sooner = omega (arith, ap (λ (s : SeatState). s.session) same);
   later = λ lt. absurd (omega (arith, lt, none refl));
@@ -88,6 +91,7 @@ enters seats n first last entered true none some many was same = record {
 enters seats n first last entered false none some many was same =
     let num : entered.session ≡ last.session + seats = ap (λ (s : SeatState). s.session) same in
     record {
+      same = same ∙ ap (λ m. record last { session = m }) (sym num);
       session = num ∙ next_number seats n first.session last.session (some refl) was;
       no_sooner = omega (arith, num);
       later = λ _. omega (arith, num, many);
@@ -191,8 +195,11 @@ module _ {L : Type 0} (told : L → LinkState) where
     known = l.known;
     splits = l.splits;
     own = l.own;
-    sessions = λ i x at. l.sessions i x (subst (λ ks. slice_get ks i ≡ Some x) kept at);
-    served = λ i x end at. l.served i x end (subst (λ ks. slice_get ks i ≡ Some x) kept at);
+    visits = l.visits;
+    ends_are = l.ends_are;
+    chain = l.chain;
+    served = l.served;
+    kept = λ i x at. l.kept i x (subst (λ ks. slice_get ks i ≡ Some x) kept at);
     counted = All-weaker (IsCounted (sums_of c)) (IsCounted (sums_of c')) (counted_on c c' more) ends l.counted;
     split = l.split;
     failed = failed;
@@ -248,30 +255,35 @@ module _ {L : Type 0} (told : L → LinkState) where
       one_more : length ends' ≡ n + 1
       one_more = omega (arith, length-append ends (end ∷ []))
 
-      -- the link that was served now
-      new_link : LinkServed s boxes session.0 first seat' after end
-      new_link = record {
+      -- what was served now
+      abbrev visit : SeatVisit
+      visit = record { entered = e; left = seat'; link = after; end = end }
+
+      abbrev visits' : List SeatVisit
+      visits' = l.visits ++ visit ∷ []
+
+      many : length l.visits ≡ n
+      many = as_many told s boxes first last c ends calls l
+
+      new_visit : LinkServed s boxes e.session first seat' visit
+      new_visit = record {
         unused = before;
         is_unused = unused;
-        entered = e;
-        left = seat';
         calls = calls;
         calls' = calls';
-        somebody = omega (arith, is, kept_seat.somebody);
-        session_is = sym is;
-        seat_is = ap (seat_of (length boxes)) is ∙ (kept_seat.seat_is ∙ sym served.board.goes.seat);
+        somebody = kept_seat.somebody;
+        session_is = refl;
+        seat_is = kept_seat.seat_is ∙ sym served.board.goes.seat;
         known = subst (λ g. BeginsWith g.known first.glass.known) (sym ent.known) l.known;
         served = served;
-        went_on = went_nowhere session.0 seat';
+        went_on = went_nowhere e.session seat';
       }
 
       -- one that was served before
-      old_link : (k : ℕ) (x : LinkState) (y : SessionEnd) → 0 < n → LinkServed s boxes k first last x y → LinkServed s boxes k first seat' x y
-      old_link k x y some o = record {
+      old_visit : (k : ℕ) (v : SeatVisit) → 0 < n → LinkServed s boxes k first last v → LinkServed s boxes k first seat' v
+      old_visit k v some o = record {
         unused = o.unused;
         is_unused = o.is_unused;
-        entered = o.entered;
-        left = o.left;
         calls = o.calls;
         calls' = o.calls';
         somebody = o.somebody;
@@ -279,36 +291,37 @@ module _ {L : Type 0} (told : L → LinkState) where
         seat_is = o.seat_is ∙ sym (seat_same s (length boxes) n first last e seat' calls calls' ent served.board);
         known = o.known;
         served = o.served;
-        went_on = went_further s (length boxes) n first last e seat' calls calls' ent served.board k o.left
+        went_on = went_further s (length boxes) n first last e seat' calls calls' ent served.board k v.left
             (λ same. absurd (omega (arith, same, o.went_on.session, ent.later some, o.session_is, o.served.board.goes.session))) o.went_on;
       }
+
+      served_there : (i : ℕ) (v : SeatVisit) → (slice_get l.visits i ≡ Some v) ⊎ ((i ≡ length l.visits) × (visit ≡ v)) → LinkServed s boxes (session_at (length boxes) first.session i) first seat' v
+      served_there i v (inl at) = old_visit (session_at (length boxes) first.session i) v (omega (arith, slice_get_within l.visits i v at, many)) (l.served i v at)
+      served_there i v (inr (i_is, v_is)) =
+          subst (λ w. LinkServed s boxes (session_at (length boxes) first.session i) first seat' w) v_is
+          (subst (λ k. LinkServed s boxes k first seat' visit) (ent.session ∙ ap (session_at (length boxes) first.session) (sym many ∙ sym i_is)) new_visit)
 
       kept_before : (b : Bool) → c.keeps ≡ b → (i : ℕ) (x : SessionNo × L) → slice_get (put_last b c.kept session link) i ≡ Some x → (slice_get c.kept i ≡ Some x) ⊎ ((i ≡ n) × ((session, link) ≡ x))
       kept_before false keeps i x at = inl at
       kept_before true keeps i x at = go (in_push c.kept (session, link) i x at)
         where
-          many : length c.kept ≡ n
-          many = sound.kept ∙ (ap (λ b. if b then c.back else 0) keeps ∙ l.back)
+          as_many_kept : length c.kept ≡ n
+          as_many_kept = sound.kept ∙ (ap (λ b. if b then c.back else 0) keeps ∙ l.back)
 
           go : (slice_get c.kept i ≡ Some x) ⊎ ((i ≡ length c.kept) × ((session, link) ≡ x)) → (slice_get c.kept i ≡ Some x) ⊎ ((i ≡ n) × ((session, link) ≡ x))
           go (inl at) = inl at
-          go (inr (i_is, x_is)) = inr (i_is ∙ many, x_is)
+          go (inr (i_is, x_is)) = inr (i_is ∙ as_many_kept, x_is)
 
-      few_kept : (b : Bool) → c.keeps ≡ b → length c.kept ≤ n
-      few_kept true keeps = omega (arith, sound.kept ∙ (ap (λ b. if b then c.back else 0) keeps ∙ l.back))
-      few_kept false keeps = omega (arith, sound.kept ∙ ap (λ b. if b then c.back else 0) keeps)
-
-      session_there : (i : ℕ) (x : SessionNo × L) → (slice_get c.kept i ≡ Some x) ⊎ ((i ≡ n) × ((session, link) ≡ x)) → x.0.0 ≡ session_at (length boxes) first.session i
-      session_there i x (inl at) = l.sessions i x at
-      session_there i x (inr (i_is, x_is)) = ap (λ y. y.0.0) (sym x_is) ∙ (is ∙ (ent.session ∙ ap (session_at (length boxes) first.session) (sym i_is)))
-
-      served_there : (i : ℕ) (x : SessionNo × L) (y : SessionEnd) → (slice_get c.kept i ≡ Some x) ⊎ ((i ≡ n) × ((session, link) ≡ x)) → (slice_get ends i ≡ Some y) ⊎ ((i ≡ length ends) × (end ≡ y))
-          → LinkServed s boxes x.0.0 first seat' (told x.1) y
-      served_there i x y (inl at) (inl there) = old_link x.0.0 (told x.1) y (omega (arith, slice_get_within ends i y there)) (l.served i x y at there)
-      served_there i x y (inl at) (inr (i_is, y_is)) = absurd (omega (arith, i_is, slice_get_within c.kept i x at, few_kept c.keeps refl))
-      served_there i x y (inr (i_is, x_is)) (inl there) = absurd (omega (arith, i_is, slice_get_within ends i y there))
-      served_there i x y (inr (i_is, x_is)) (inr (j_is, y_is)) =
-          subst (λ z. LinkServed s boxes x.0.0 first seat' (told x.1) z) y_is (subst (λ z. LinkServed s boxes z.0.0 first seat' (told z.1) end) x_is new_link)
+      kept_there : (i : ℕ) (x : SessionNo × L) → (slice_get c.kept i ≡ Some x) ⊎ ((i ≡ n) × ((session, link) ≡ x)) → IsOfVisit told visits' i x
+      kept_there i x (inl at) =
+          let k = l.kept i x at in
+          record { visit = k.visit; there = in_front l.visits (visit ∷ []) i k.visit k.there; session = k.session; link = k.link }
+      kept_there i x (inr (i_is, x_is)) = subst (λ y. IsOfVisit told visits' i y) x_is (record {
+        visit = visit;
+        there = subst (λ j. slice_get visits' j ≡ Some visit) (many ∙ sym i_is) (at_last l.visits visit);
+        session = sym is;
+        link = refl;
+      })
 
       pub one_served : (calls'' : ℕ) → n + 1 ≤ calls'' → LinksServed told s boxes first seat' c' ends' calls''
       one_served calls'' swept = record {
@@ -318,8 +331,11 @@ module _ {L : Type 0} (told : L → LinkState) where
         known = BeginsWith-along seat'.glass.known last.glass.known first.glass.known (knows_more s (length boxes) n first last e seat' calls calls' ent served.board) l.known;
         splits = omega (arith, l.splits, served.board.goes.counts.splits, ent.splits);
         own = subst (λ m. AddsOfLinks (length boxes) m first seat') (sym one_more) (adds s (length boxes) n first last e seat' calls calls' ent served.board l.own);
-        sessions = λ i x at. session_there i x (kept_before c.keeps refl i x at);
-        served = λ i x y at there. served_there i x y (kept_before c.keeps refl i x at) (in_push ends end i y there);
+        visits = visits';
+        ends_are = ap (λ es. es ++ end ∷ []) l.ends_are ∙ sym (map-append (λ (v : SeatVisit). v.end) l.visits (visit ∷ []));
+        chain = follows_on first last l.visits visit l.chain ent.same;
+        served = λ i v at. served_there i v (in_push l.visits visit i v at);
+        kept = λ i x at. kept_there i x (kept_before c.keeps refl i x at);
         counted = All-push (IsCounted (sums_of c')) ends end (All-weaker (IsCounted (sums_of c)) (IsCounted (sums_of c')) (counted_on c c' (raised_by c session link after)) ends l.counted)
             (new_counted _ s before c session link after calls calls' e seat' end served.session);
         split = All-push (λ (x : SessionEnd). is_split_end x ≡ true → HasRisen first.splits seat'.splits) ends end

@@ -1,5 +1,5 @@
 -- Places of lists that were put together.
-use Rattle.std.proofs.Common.{◌≡◌, ℕ, zero, suc, ◌+◌, ◌<◌, ◌⊎◌, inl, inr, List, [], ◌∷◌, ◌++◌, length, Option, Some, slice_get, slice_index_or, refl, sym, ap, ◌∙◌, subst, arith, length-append}
+use Rattle.std.proofs.Common.{◌≡◌, ℕ, zero, suc, ◌+◌, ◌⊎◌, inl, inr, List, [], ◌∷◌, ◌++◌, length, Some, slice_get, slice_index_or, refl, sym, ap, ◌∙◌, subst, arith}
 use Rattle.std.specs.List.{All, Any, flat_map}
 use Rattle.std.proofs.lemmas.List.Concat.{flat_map-cons}
 use Rattle.std.proofs.lemmas.Option.{slice_get-get_or, slice_get_within, get_or_from_slice_get}
@@ -47,6 +47,10 @@ in_push {X} xs last i x at = go (in_append xs (last ∷ []) i x at)
     go : InOne xs (last ∷ []) i x → (slice_get xs i ≡ Some x) ⊎ ((i ≡ length xs) × (last ≡ x))
     go (inl at) = inl at
     go (inr (j, is, at)) = inr (at_end last x (length xs) i j is at)
+
+pub at_last : {X : Type 0} (xs : List X) (last : X) → slice_get (xs ++ last ∷ []) (length xs) ≡ Some last
+at_last [] last = refl
+at_last (x ∷ xs) last = at_last xs last
 
 pub all_from_places : {X : Type 0} (P : X → Type 0) (xs : List X) → ((i : ℕ) (x : X) → slice_get xs i ≡ Some x → P x) → All P xs
 all_from_places P xs each k d lt = each k (slice_index_or xs k d) (slice_get-get_or xs k d lt)

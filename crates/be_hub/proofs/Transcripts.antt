@@ -1,38 +1,31 @@
 -- What the workers leave, read over the list that the close gives.
-use Rattle.std.proofs.Common.{◌≡◌, ℕ, zero, suc, ◌+◌, ◌<◌, ◌≤◌, ◌⊎◌, inl, inr, Bool, true, false, not, ◌&&◌, List, [], ◌∷◌, ◌++◌, length, map, Option, Some, None, slice_get, get_or, option_map, ◌==◌, refl, sym, ap, ◌∙◌, subst, arith}
+use Rattle.std.proofs.Common.{◌≡◌, ℕ, ◌<◌, ◌≤◌, inl, inr, Bool, true, false, not, ◌&&◌, List, [], ◌∷◌, ◌++◌, length, map, Option, Some, None, option_map, ◌==◌, refl, sym, ap, ◌∙◌, subst, arith}
 use Rattle.std.specs.Prelude.{if◌then◌else◌}
-use Rattle.std.specs.List.{All, Any, Contains, list_all, range_with_len, filter}
+use Rattle.std.specs.List.{All, Contains, list_all, filter}
 use Rattle.std.proofs.lemmas.Bool.{and_parts, and_from, eqb-true}
-use Rattle.std.proofs.lemmas.List.{length-map}
 use Rattle.std.proofs.lemmas.List.Elements.{All-contains, filter_passes}
-use Rattle.std.proofs.lemmas.List.FromFn.{length-range_with_len, get_or-range_with_len}
-use Rattle.std.proofs.lemmas.Option.{slice_get-get_or, slice_get_within, get_or_from_slice_get}
-use Rattle.atomic_table.specs.Seated.{TableId}
 use Rattle.be_base.specs.Counts.{HasRisenBy}
 use Rattle.be_base.specs.Lists.{BeginsWith}
 use Rattle.be_base.specs.declared.limits.TheConstants.{LINE_BYTES}
 use Rattle.be_io.specs.Lines.{TextLine, lines}
-use Rattle.be_io.specs.Outside.{LinkState}
 use Rattle.be_io.specs.Sink.{SinkState}
-use Rattle.be_io.specs.Told.{WhereTold}
 use Rattle.be_model.specs.Schemas.{Attributes}
-use Rattle.be_change.specs.History.{Entry, session_of, IsWellFormed}
+use Rattle.be_change.specs.History.{Entry, session_of}
 use Rattle.be_change.specs.Requests.{Request, Reply, refusal, ok, held, bye, dup, none, other, hit, cost, listed, sent, notes, dumped, tailed, split, no_memory, shut, Exchange}
-use Rattle.be_transcript.specs.LinesRead.{ReadToEnd, ReadFirstLines, AreFirstLines}
+use Rattle.be_transcript.specs.LinesRead.{ReadToEnd, ReadFirstLines}
 use Rattle.be_transcript.specs.Readings.{reading}
-use Rattle.be_transcript.specs.Runs.{HasNoQuit, EndsWithQuit}
-use Rattle.be_transcript.specs.Transcript.{requests, texts, AreExchanges}
+use Rattle.be_transcript.specs.Transcript.{requests, texts}
 use Rattle.be_board.specs.State.{BoardState}
-use Rattle.be_board.specs.Word.{Keeps, own_of}
+use Rattle.be_board.specs.Word.{Keeps}
 use Rattle.be_desk.specs.Boards.{board_of}
 use Rattle.be_desk.specs.Seats.{SeatState, word_of}
 use Rattle.be_session.specs.declared.serve.SessionEnd.{SessionEnd}
 use Rattle.be_session.specs.declared.serve.SessionEnd.TheVariants.{Eof, Quit, ReadFault, WriteFault, Spent, Split, NoMemory}
 use Rattle.be_session.specs.Ends.{end_after, is_on, goes_on}
-use Rattle.be_session.specs.Served.{SessionEnds, ReachedEnd, EndedByReply, Replied}
+use Rattle.be_session.specs.Served.{SessionEnds, Replied}
 use Rattle.be_session.specs.Tied.{is_shut, is_split}
 use Rattle.be_session.proofs.Quits.{Ended, by_split, by_quit, by_none, ended_of, has_no_quit, quits_at}
-use Rattle.be_hub.specs.Files.{file_link, IsFileEnd, FileServed, IsRead, is_split_end, IsEndOf}
+use Rattle.be_hub.specs.Files.{file_link, FileServed, IsRead, is_split_end, IsEndOf}
 use Rattle.be_hub.specs.Transcripts.{AreServedLines, ShutsOnly, IsTranscript}
 
 -- a reply that doesn't end its session by two numbers isn't a SPLIT

@@ -1,8 +1,6 @@
 -- Where no link has a fault, all were read.
-use Rattle.std.proofs.Common.{◌≡◌, ℕ, zero, suc, ◌+◌, ◌<◌, ◌≤◌, ◌⊎◌, inl, inr, Bool, true, false, List, length, refl, sym, ap, subst, ◌∙◌, arith}
-use Rattle.std.specs.List.{All}
+use Rattle.std.proofs.Common.{◌≡◌, ℕ, zero, suc, ◌+◌, ◌<◌, inr, Bool, false, List, length, ap, ◌∙◌, arith}
 use Rattle.std.proofs.lemmas.List.Elements.{All-weaker}
-use Rattle.be_base.specs.declared.limits.TheConstants.{SOURCE_BYTES}
 use Rattle.be_base.specs.declared.names.SessionNo.{SessionNo}
 use Rattle.be_io.specs.Outside.{LinkState}
 use Rattle.be_model.specs.Schemas.{Attributes}

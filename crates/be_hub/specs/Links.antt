@@ -1,5 +1,6 @@
 -- What a worker leaves of the links of a door that it served, one session after another.
-use Rattle.std.specs.Prelude.{◌≡◌, ℕ, ◌+◌, ◌-◌, ◌*◌, ◌<◌, ◌≤◌, ◌++◌, true, false, List, [], length, map, All, Some, slice_get}
+use Rattle.std.specs.Prelude.{◌≡◌, ℕ, ◌+◌, ◌-◌, ◌*◌, ◌<◌, ◌≤◌, ◌++◌, true, List, [], ◌∷◌, length, map, All, Some, slice_get}
+use Rattle.std.specs.List.{sum_by}
 use Rattle.atomic_table.specs.Seated.{TableId}
 use Rattle.be_base.specs.Counts.{HasRisen}
 use Rattle.be_base.specs.Lists.{BeginsWith}
@@ -10,7 +11,7 @@ use Rattle.be_model.specs.Schemas.{Attributes}
 use Rattle.be_change.specs.History.{Entry, session_of}
 use Rattle.be_mail.specs.Letters.{seat_of, letter_in}
 use Rattle.be_board.specs.Word.{own_of, own_in}
-use Rattle.be_desk.specs.Boards.{board_of}
+use Rattle.be_desk.specs.Boards.{board_of, put_count}
 use Rattle.be_desk.specs.Seats.{SeatState, word_of}
 use Rattle.be_door.specs.Counts.{CountState, IsSound, sums_of}
 use Rattle.be_door.specs.Door.{DoorState, IsOf, IsNew}
@@ -19,7 +20,7 @@ use Rattle.be_door.specs.declared.sums.Sums.{Sums}
 use Rattle.be_hub.specs.Files.{is_split_end}
 use Rattle.be_hub.specs.declared.links.TheConstants.{FIRST_END}
 use Rattle.be_session.specs.declared.serve.SessionEnd.{SessionEnd}
-use Rattle.be_session.specs.declared.serve.SessionEnd.TheVariants.{Eof, Quit, ReadFault, WriteFault, Spent, Split, NoMemory}
+use Rattle.be_session.specs.declared.serve.SessionEnd.TheVariants.{ReadFault, WriteFault, Spent}
 use Rattle.be_session.specs.Served.{SessionEnds, BoardLeft}
 
 -- the session of a worker's link i, from 0: each one is the number of seats above the last
@@ -43,21 +44,45 @@ pub record WentOn (k : ℕ) (s s' : SeatState) : Type 0 where
   pub shuts : s.glass.shuts ≤ s'.glass.shuts
   pub splits : s.splits ≤ s'.splits
 
--- a link that nobody had used was served as session k, and stands so now. The seat began as `first`, knew no less when the
--- session began, and stands at `last`
-pub record LinkServed (s : Attributes) (boxes : List TableId) (k : ℕ) (first last : SeatState) (link : LinkState) (end : SessionEnd) : Type 0 where
-  pub unused : LinkState
-  pub is_unused : IsUnused unused
+-- a link that was served at a seat: the seat as the session found it and left it, the link as it stands now, and how the session
+-- ended
+pub record SeatVisit : Type 0 where
   pub entered : SeatState
   pub left : SeatState
+  pub link : LinkState
+  pub end : SessionEnd
+
+-- the visits to one seat, one after another: each finds the seat as the one before it left it, but for its session's number
+abbrev pub FollowOn : SeatState → List SeatVisit → SeatState → Type 0
+FollowOn seat [] last = last ≡ seat
+FollowOn seat (v ∷ vs) last = (v.entered ≡ record seat { session = v.entered.session }) × FollowOn v.left vs last
+
+-- a link that nobody had used was served as session k, and stands so now. The seat began as `first`, knew no less when the
+-- session began, and stands at `last`
+pub record LinkServed (s : Attributes) (boxes : List TableId) (k : ℕ) (first last : SeatState) (visit : SeatVisit) : Type 0 where
+  pub unused : LinkState
+  pub is_unused : IsUnused unused
   pub calls : ℕ
   pub calls' : ℕ
   pub somebody : 0 < k
-  pub session_is : entered.session ≡ k
+  pub session_is : visit.entered.session ≡ k
   pub seat_is : seat_of (length boxes) k ≡ last.passes.seat
-  pub known : BeginsWith entered.glass.known first.glass.known
-  pub served : SessionServed s entered left unused link end calls calls'
-  pub went_on : WentOn k left last
+  pub known : BeginsWith visit.entered.glass.known first.glass.known
+  pub served : SessionServed s visit.entered visit.left unused visit.link visit.end calls calls'
+  pub went_on : WentOn k visit.left last
+
+-- what the visits added to a count of the seat is what was added to it from first to last
+abbrev pub AddUp : (SeatState → ℕ) → List SeatVisit → SeatState → SeatState → Type 0
+AddUp count visits first last = count last ≡ count first + sum_by (λ (v : SeatVisit). count v.left - count v.entered) visits
+
+-- so it is of each count to which a session's replies are tied: no rise of it belongs to two visits
+pub record CountsAddUp (visits : List SeatVisit) (first last : SeatState) : Type 0 where
+  pub reads : AddUp (λ x. x.glass.reads) visits first last
+  pub shuts : AddUp (λ x. x.glass.shuts) visits first last
+  pub splits : AddUp (λ x. x.splits) visits first last
+  pub fulls : AddUp (λ x. x.passes.fulls) visits first last
+  pub empties : AddUp (λ x. x.passes.empties) visits first last
+  pub puts : AddUp (λ x. put_count x.passes) visits first last
 
 -- a session ends so only where these numbers say it
 abbrev pub IsCounted : Sums → SessionEnd → Type 0
@@ -76,8 +101,15 @@ AddsOfLinks seats links first last =
     (new : List (ℕ × Entry)) × (last.own ≡ first.own ++ new) × All (IsOfLink seats first.session links) new
 
 module _ {L : Type 0} (told : L → LinkState) where
-  -- the links that came back were served one after another, each as a session of its own. Those that are kept stand with their
-  -- sessions, in order. It is so while a link is out, too
+  -- the link that is kept at this place, with its session, is the one of the visit there
+  pub record IsOfVisit (visits : List SeatVisit) (place : ℕ) (kept : SessionNo × L) : Type 0 where
+    pub visit : SeatVisit
+    pub there : slice_get visits place ≡ Some visit
+    pub session : visit.entered.session ≡ kept.0.0
+    pub link : visit.link ≡ told kept.1
+
+  -- the links that came back were served one after another, each as a session of its own, whether they are kept or not. Those
+  -- that are kept stand with their sessions, in order. It is so while a link is out, too
   pub record LinksServed (s : Attributes) (boxes : List TableId) (first last : SeatState) (count : CountState L) (ends : List SessionEnd) (calls : ℕ) : Type 0 where
     pub back : count.back ≡ length ends
     pub seat : last.passes.seat ≡ first.passes.seat
@@ -86,9 +118,12 @@ module _ {L : Type 0} (told : L → LinkState) where
     pub known : BeginsWith last.glass.known first.glass.known
     pub splits : first.splits ≤ last.splits
     pub own : AddsOfLinks (length boxes) (length ends) first last
-    pub sessions : (i : ℕ) (kept : SessionNo × L) → slice_get count.kept i ≡ Some kept → kept.0.0 ≡ session_at (length boxes) first.session i
-    pub served : (i : ℕ) (kept : SessionNo × L) (end : SessionEnd) → slice_get count.kept i ≡ Some kept → slice_get ends i ≡ Some end
-        → LinkServed s boxes kept.0.0 first last (told kept.1) end
+    -- one a link, in order
+    pub visits : List SeatVisit
+    pub ends_are : ends ≡ map (λ (v : SeatVisit). v.end) visits
+    pub chain : FollowOn first visits last
+    pub served : (i : ℕ) (visit : SeatVisit) → slice_get visits i ≡ Some visit → LinkServed s boxes (session_at (length boxes) first.session i) first last visit
+    pub kept : (i : ℕ) (kept : SessionNo × L) → slice_get count.kept i ≡ Some kept → IsOfVisit visits i kept
     pub counted : All (IsCounted (sums_of count)) ends
     pub split : All (λ (end : SessionEnd). is_split_end end ≡ true → HasRisen first.splits last.splits) ends
     -- an accept failed only where the count of faults says it
@@ -99,6 +134,7 @@ module _ {L : Type 0} (told : L → LinkState) where
   -- a worker has met the end of the links, and all that it was given are back
   pub record WorkerServed (s : Attributes) (boxes : List TableId) (door : DoorState L) (first last : SeatState) (count : CountState L) (ends : List SessionEnd) (calls : ℕ) : Type 0 where
     pub links : LinksServed s boxes first last count ends calls
+    pub counts : CountsAddUp links.visits first last
     pub all_back : count.given ≡ count.back
     pub ended : count.ended ≡ true
     pub is_of : IsOf door count

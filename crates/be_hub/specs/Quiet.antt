@@ -1,5 +1,5 @@
 -- A file in memory whose reads don't fail.
-use Rattle.std.specs.Prelude.{◌≡◌, ℕ, ◌+◌, ◌≤◌, ◌<◌, List, [], length}
+use Rattle.std.specs.Prelude.{◌≡◌, ℕ, ◌+◌, ◌≤◌, List, [], length}
 use Rattle.be_base.specs.declared.limits.TheConstants.{FILE_BYTES}
 use Rattle.be_hub.specs.declared.quiet.TheConstants.{PIECE}
 use Rattle.be_io.specs.Calls.{no_calls}

@@ -16,7 +16,7 @@ use Rattle.be_transcript.specs.Transcript.{AreExchanges, IsCutText, texts}
 use Rattle.be_door.specs.Door.{DoorState, after_try}
 use Rattle.be_door.specs.declared.sums.Sums.{Sums}
 use Rattle.be_session.specs.declared.serve.SessionEnd.{SessionEnd}
-use Rattle.be_session.specs.declared.serve.SessionEnd.TheVariants.{Eof, Quit, ReadFault, WriteFault, Spent, Split, NoMemory}
+use Rattle.be_session.specs.declared.serve.SessionEnd.TheVariants.{Eof, Quit, ReadFault, WriteFault, Spent}
 use Rattle.be_session.specs.Tied.{is_split}
 use Rattle.be_hub.specs.Files.{IsRead}
 use Rattle.be_hub.specs.Links.{IsCounted}

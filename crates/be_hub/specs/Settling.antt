@@ -6,7 +6,7 @@ use Rattle.be_door.specs.Counts.{CountState}
 use Rattle.be_door.specs.Door.{DoorState, after_settle}
 use Rattle.be_hub.specs.Files.{is_split_end}
 use Rattle.be_hub.specs.declared.close.CloseFault.{CloseFault}
-use Rattle.be_hub.specs.declared.close.CloseFault.TheVariants.{Split, Stray, NoMemory}
+use Rattle.be_hub.specs.declared.close.CloseFault.TheVariants.{NoMemory}
 use Rattle.be_session.specs.declared.serve.SessionEnd.{SessionEnd}
 use Rattle.be_session.specs.declared.serve.SessionEnd.TheVariants as ends
 

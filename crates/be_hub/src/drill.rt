@@ -10,10 +10,10 @@ ghost use Rattle.be_hub.specs.Files.{IsRead, lacks_memory, is_split_end, IsEndOf
 ghost use Rattle.be_hub.specs.Transcripts.{AreServed};
 
 use crate::close::{CloseFault, Closed};
-use crate::files::FileEnd;
+use crate::files::{FileEnd, FileRun};
 use crate::hub::Hub;
 use be_change::ChangeLog;
-use be_desk::Seat;
+use be_desk::{Broom, Seat};
 use be_io::Gate;
 use be_mail::{BoxNames, Post};
 use be_published::{Naming, Shade, Sheet};
@@ -27,6 +27,8 @@ use std::thread::Threads;
 pub struct Drilled {
     pub transcripts: Vec<Vec<u8>>,
     pub log: ChangeLog,
+    /// The calls of the maintainer.
+    pub broom: Broom,
     /// What shows that a reader was refused an entry, where one was.
     pub shade: Option<Shade>,
 }
@@ -64,16 +66,18 @@ impl<T: Sheet<J> + Send + Sync, J: Naming + BoxNames + Send + Sync, S: Post + Se
         ensures served { IfOk result (λ drilled. AreServed J.schema J.opening drilled.log.list (is_some drilled.shade)
             (map (λ file. file.items) files.items) (map (λ transcript. transcript.items) drilled.transcripts.items)) }
         ensures sound { IfOk result (λ drilled. Sound J.schema drilled.log.list) }
+        ensures rounds { IfOk result (λ drilled. drilled.broom ≡ rounds) }
     {
         let Ok(run) = self.run_files(rt, alloc, seats, files, rounds, gate) else {
             self.end(rt);
             return Err(CloseFault::NoMemory);
         };
+        let FileRun { ends, broom } = run;
         let Left {
             seats,
             transcripts,
             shade,
-        } = match left_by(alloc, run.ends) {
+        } = match left_by(alloc, ends) {
             Ok(left) => left,
             Err(fault) => {
                 self.end(rt);
@@ -84,6 +88,7 @@ impl<T: Sheet<J> + Send + Sync, J: Naming + BoxNames + Send + Sync, S: Post + Se
         Ok(Drilled {
             transcripts,
             log,
+            broom,
             shade,
         })
     }

@@ -1,9 +1,4 @@
-use Rattle.std.proofs.Common.{refl, sym, ap, ◌∙◌, rules, ◌≡◌, ℕ, ◌≤◌, [], length, slice_get, Some, All, IfOk, ◌+◌, ◌-◌, ◌*◌, ◌<◌, ◌/◌, ◌%◌, Bool, true, false, nat_eq, nat_lt, List, ◌∷◌, ◌++◌, slice_index_or, slice_set, bit_and, bit_or, Fits, w8, w32, w64, Bor, MutBor}
-use Rattle.be_base.specs.declared.limits.TheConstants.{FILE_BYTES, SEATS, ROUNDS}
-use Rattle.be_board.specs.Word.{own_in}
-use Rattle.be_desk.specs.Seats.{word_of}
-use Rattle.be_hub.specs.Files.{FileServed}
-use Rattle.std.specs.Arc.{arc_value}
+use Rattle.std.proofs.Common.{refl, sym, ap, ◌∙◌, ◌≡◌, Some}
 use Rattle.be_board.specs.State.{BoardState}
 use Rattle.be_desk.specs.Boards.{board_of}
 use Rattle.be_hub.proofs.FilesServed.{file_served, board_same, told, link_is, few_taken}

@@ -1,8 +1,4 @@
-use Rattle.std.proofs.Common.{refl, sym, ap, ◌∙◌, arith, length-append, append_assoc, rules, ◌≡◌, ℕ, ◌≤◌, [], length, map, slice_get, Some, All, IfOk, ◌+◌, ◌-◌, ◌*◌, ◌<◌, ◌/◌, ◌%◌, Bool, true, false, nat_eq, nat_lt, List, ◌∷◌, ◌++◌, slice_index_or, slice_set, bit_and, bit_or, Fits, w8, w32, w64, Bor, MutBor}
-use Rattle.be_base.specs.declared.limits.TheConstants.{FILE_BYTES, SEATS, ROUNDS}
-use Rattle.be_board.specs.Word.{own_in}
-use Rattle.be_desk.specs.Seats.{word_of}
-use Rattle.be_hub.specs.Files.{FileServed}
+use Rattle.std.proofs.Common.{sym, ap, ◌∙◌, arith, append_assoc, [], length, map, ◌∷◌, ◌++◌}
 use Rattle.std.proofs.lemmas.List.{map-append}
 use Rattle.be_hub.proofs.Pairs.{gone_through}
 use Rattle.be_hub.proofs.jobs.pairs_of.Goals as goal

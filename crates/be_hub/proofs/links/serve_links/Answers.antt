@@ -1,10 +1,9 @@
-use Rattle.std.proofs.Common.{◌≡◌, ◌+◌, ◌-◌, ◌<◌, ◌≤◌, [], false, length, sym, ap, ◌∙◌, subst, arith, rules}
-use Rattle.std.specs.Prelude.{Ok, Some}
-use Rattle.be_board.specs.Word.{own_in}
-use Rattle.be_desk.specs.Seats.{word_of}
+use Rattle.std.proofs.Common.{◌≡◌, length, sym, ap, ◌∙◌, subst, arith, rules}
+use Rattle.std.specs.Prelude.{Some}
 use Rattle.be_door.specs.Counts.{CountState, after_given, after_end}
 use Rattle.be_hub.specs.Links.{LinksServed}
 use Rattle.be_hub.proofs.LinksBegun.{none_served, was_given, has_ended, none_given, one_less, few_sessions, some_said}
+use Rattle.be_hub.proofs.Visits.{worker_served}
 use Rattle.be_io.specs.Outside.{link_state}
 use Rattle.be_hub.proofs.links.serve_links.Goals as goal
 
@@ -79,14 +78,13 @@ returns-in-Ok-None g c =
     let told = link_state g.L.Source g.L.Sink in
     let first = c.args.job.seat in
     let work = c.loop-work.work in
-    record {
-      links = subst (λ es. LinksServed told g.J.Naming.schema g.J.BoxNames.boxes first work.seat c.accept.new.count es work.broom) (sym c.reserve.ensures.items)
-          (has_ended told g.J.Naming.schema g.J.BoxNames.boxes first work.seat work.count c.accept.new.count work.ends.items work.broom i.0 is);
-      all_back = ap (λ (x : CountState g.row.L.Denot). x.given) is ∙ (i.3 ∙ sym (ap (λ (x : CountState g.row.L.Denot). x.back) is));
-      ended = ap (λ (x : CountState g.row.L.Denot). x.ended) is;
-      is_of = (i.1.0 ∙ ap (λ (x : CountState g.row.L.Denot). Some x.of) (sym is), ap (λ (x : CountState g.row.L.Denot). x.keeps) is ∙ i.1.1);
-      sound = c.accept.ensures.sound;
-    }
+    let links = subst (λ es. LinksServed told g.J.Naming.schema g.J.BoxNames.boxes first work.seat c.accept.new.count es work.broom) (sym c.reserve.ensures.items)
+    (has_ended told g.J.Naming.schema g.J.BoxNames.boxes first work.seat work.count c.accept.new.count work.ends.items work.broom i.0 is) in
+    worker_served told g.J.Naming.schema g.J.BoxNames.boxes first work.seat c.accept.new.count c.reserve.new.self.items work.broom links (g.D.Door.state c.args.door.now)
+    (ap (λ (x : CountState g.row.L.Denot). x.given) is ∙ (i.3 ∙ sym (ap (λ (x : CountState g.row.L.Denot). x.back) is)))
+    (ap (λ (x : CountState g.row.L.Denot). x.ended) is)
+    (i.1.0 ∙ ap (λ (x : CountState g.row.L.Denot). Some x.of) (sym is), ap (λ (x : CountState g.row.L.Denot). x.keeps) is ∙ i.1.1)
+    c.accept.ensures.sound
 
 pub loop-work-smaller : goal.loop-work-smaller
 loop-work-smaller g c =

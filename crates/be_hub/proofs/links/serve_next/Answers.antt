@@ -1,5 +1,5 @@
 -- One more link was served, and its session is that of the link alone.
-use Rattle.std.proofs.Common.{◌≡◌, ◌+◌, ◌<◌, ◌≤◌, ◌++◌, ◌∷◌, [], true, false, length, sym, ap, ◌∙◌, subst, arith, rules}
+use Rattle.std.proofs.Common.{◌≡◌, ◌+◌, ◌<◌, ◌≤◌, true, false, length, sym, ◌∙◌, subst, arith, rules}
 use Rattle.be_door.specs.Counts.{CountState, after_back}
 use Rattle.be_hub.specs.Links.{LinksServed}
 use Rattle.be_hub.proofs.LinksBegun.{some_from}

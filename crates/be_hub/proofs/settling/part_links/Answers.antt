@@ -1,9 +1,9 @@
-use Rattle.std.proofs.Common.{◌≡◌, ◌+◌, ◌*◌, ◌≤◌, ◌++◌, [], ◌∷◌, None, length, map, sym, ap, subst, ◌∙◌, append_assoc, length-append, rules, arith}
+use Rattle.std.proofs.Common.{◌≡◌, ◌++◌, [], ◌∷◌, map, sym, ap, subst, ◌∙◌, append_assoc, length-append, rules, arith}
 use Rattle.std.specs.List.{All}
 use Rattle.std.proofs.lemmas.List.{nil_from_length}
 use Rattle.std.proofs.lemmas.List.Elements.{All-push}
 use Rattle.be_desk.specs.Seats.{IsKeptSeat}
-use Rattle.be_door.specs.Counts.{sums_of, with_counts}
+use Rattle.be_door.specs.Counts.{with_counts}
 use Rattle.be_door.proofs.Gathered.{with_none, sums_on}
 use Rattle.be_hub.proofs.Ends.{map_push}
 use Rattle.be_hub.proofs.settling.part_links.Goals as goal

@@ -1,8 +1,5 @@
-use Rattle.std.proofs.Common.{arith, rules, ◌≡◌, true, false, ℕ, ◌+◌, ◌-◌, ◌*◌, ◌<◌, ◌≤◌, length, ◌/◌, ◌%◌, Bool, nat_eq, nat_lt, List, [], ◌∷◌, ◌++◌, slice_index_or, slice_set, bit_and, bit_or, Fits, w8, w32, w64, Bor, MutBor}
-use Rattle.be_board.specs.Changes.{Asked}
-use Rattle.be_desk.specs.Asks.{request_of, ask_lies}
-use Rattle.be_desk.specs.Boards.{board_of}
-use Rattle.be_desk.specs.Seats.{is_over}
+use Rattle.std.proofs.Common.{arith}
+use Rattle.be_desk.specs.Asks.{request_of}
 use Rattle.be_hub.proofs.Asking.{asked}
 use Rattle.be_hub.proofs.board.DeskBoard.change.Goals as goal
 

@@ -1,4 +1,4 @@
-use Rattle.std.proofs.Common.{◌≡◌, length, map, slice_get, Some, Ok, IfOk, sym, ap, subst, ◌∙◌}
+use Rattle.std.proofs.Common.{◌≡◌, length, slice_get, Some, Ok, sym, ap, subst, ◌∙◌}
 use Rattle.std.proofs.lemmas.List.{length-map}
 use Rattle.be_hub.specs.Links.{WorkerServed}
 use Rattle.be_hub.proofs.Pairs.{get_map, map_at, ok_weaker}

@@ -1,7 +1,4 @@
-use Rattle.std.proofs.Common.{sym, ap, subst, ◌∙◌, rules, ◌≡◌, ℕ, ◌≤◌, [], length, map, slice_get, Some, All, IfOk, ◌+◌, ◌-◌, ◌*◌, ◌<◌, ◌/◌, ◌%◌, Bool, true, false, nat_eq, nat_lt, List, ◌∷◌, ◌++◌, slice_index_or, slice_set, bit_and, bit_or, Fits, w8, w32, w64, Bor, MutBor}
-use Rattle.be_base.specs.declared.limits.TheConstants.{FILE_BYTES, SEATS, ROUNDS}
-use Rattle.be_board.specs.Word.{own_in}
-use Rattle.be_desk.specs.Seats.{word_of}
+use Rattle.std.proofs.Common.{sym, ap, subst, ◌∙◌, ◌≡◌, slice_get, Some}
 use Rattle.be_hub.specs.Files.{FileServed}
 use Rattle.be_hub.proofs.Pairs.{get_map, one_at, ok_said}
 use Rattle.be_hub.proofs.hub.Hub.run_files.Goals as goal

@@ -1,9 +1,8 @@
-use Rattle.std.proofs.Common.{◌≡◌, ◌<◌, ◌≤◌, [], length, map, sym, ap, subst, ◌∙◌, arith, rules}
+use Rattle.std.proofs.Common.{◌≡◌, length, map, sym, ap, subst, ◌∙◌, arith, rules}
 use Rattle.std.specs.Option.{is_some}
-use Rattle.std.specs.List.{range_with_len}
 use Rattle.std.proofs.lemmas.List.FromFn.{length-map-range_with_len}
 use Rattle.be_desk.specs.Seats.{first_seat}
-use Rattle.be_door.specs.Counts.{with_counts, all_kept}
+use Rattle.be_door.specs.Counts.{with_counts}
 use Rattle.be_door.specs.Door.{after_listen}
 use Rattle.be_door.specs.Sums.{no_sums}
 use Rattle.be_hub.specs.Serving.{LinksAreServed, LeavesDoor, served_door}

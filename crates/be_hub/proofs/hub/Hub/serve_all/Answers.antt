@@ -1,7 +1,4 @@
-use Rattle.std.proofs.Common.{sym, ap, subst, ◌∙◌, rules, ◌≡◌, ℕ, ◌≤◌, [], length, map, slice_get, Some, All, IfOk, ◌+◌, ◌-◌, ◌*◌, ◌<◌, ◌/◌, ◌%◌, Bool, true, false, nat_eq, nat_lt, List, ◌∷◌, ◌++◌, slice_index_or, slice_set, bit_and, bit_or, Fits, w8, w32, w64, Bor, MutBor}
-use Rattle.be_base.specs.declared.limits.TheConstants.{FILE_BYTES, SEATS, ROUNDS}
-use Rattle.be_board.specs.Word.{own_in}
-use Rattle.be_desk.specs.Seats.{word_of}
+use Rattle.std.proofs.Common.{sym, subst, ◌∙◌, slice_index_or}
 use Rattle.be_hub.specs.Files.{FileServed}
 use Rattle.be_hub.proofs.Pairs.{ok_weaker, at_place}
 use Rattle.be_hub.proofs.hub.Hub.serve_all.Goals as goal

@@ -1,6 +1,6 @@
-use Rattle.std.proofs.Common.{sym, ap, subst, ◌∙◌, ◌≡◌, Ok, IfOk, slice_index_or}
+use Rattle.std.proofs.Common.{sym, subst, Ok, IfOk, slice_index_or}
 use Rattle.be_hub.specs.Links.{WorkerServed}
-use Rattle.be_hub.proofs.Pairs.{ok_weaker, ok_said, at_place}
+use Rattle.be_hub.proofs.Pairs.{ok_weaker, at_place}
 use Rattle.be_io.specs.Outside.{link_state}
 use Rattle.be_hub.proofs.hub.Hub.serve_doors.Goals as goal
 
