@@ -56,8 +56,9 @@ impl Room {
     }
 }
 
-/// Answers lines over a link from the follower's list: PUB with its hits, QUIT with the length of the list, after which it
-/// ends, and every other line with `BAD`, or `LONG` where it is over the limit.
+/// Answers lines over a link from the follower's list: PUB with its hits, with what is wrong with its event, or with `NOMEM` where
+/// memory is wanting; QUIT with the length of the list, after which it ends; every other line with `BAD`, or `LONG` where it is
+/// over the limit.
 pub fn serve_reads<I: Index, L: Link>(follower: &Follower<I>, link: &mut L) -> SessionEnd
     ensures ends { ReadsEnd (link.new ≡ link.old) follower.now.schema follower.now.fed.list
         (link_state L.Source L.Sink link.old) (link_state L.Source L.Sink link.new) result }

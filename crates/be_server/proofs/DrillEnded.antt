@@ -1,12 +1,11 @@
 -- How `drill` ends: its files are read, its sessions are served, and what came of it is written.
-use Rattle.std.proofs.Common.{◌≡◌, ◌⊎◌, inl, inr, ℕ, zero, suc, ◌+◌, ◌<◌, ◌≤◌, Bool, true, false, List, [], ◌∷◌, ◌++◌, length, map, Option, Some, None, slice_get, get_or, take, drop, Result, Ok, Err, refl, sym, ap, ◌∙◌, subst, append_assoc, arith}
+use Rattle.std.proofs.Common.{◌≡◌, inl, inr, ℕ, zero, suc, ◌+◌, ◌<◌, ◌≤◌, Bool, true, false, List, [], ◌∷◌, ◌++◌, length, map, Some, None, slice_get, get_or, take, drop, Result, Ok, Err, refl, sym, ap, ◌∙◌, subst, append_assoc, arith}
 use Rattle.std.specs.List.{list_all}
 use Rattle.std.specs.Prelude.{if◌then◌else◌}
 use Rattle.std.proofs.lemmas.Bool.{and_parts}
 use Rattle.std.proofs.lemmas.List.{append-nil, map-append, take_more, take-append-drop}
 use Rattle.std.specs.declared.alloc.Global.{Global}
 use Rattle.std.specs.declared.vec.Vec.{Vec}
-use Rattle.be_base.specs.Lists.{BeginsWith}
 use Rattle.std.specs.Borrow.{Bor}
 use Rattle.std.proofs.lemmas.Option.{slice_get-get_or, get_or_from_slice_get}
 use Rattle.std.proofs.Math.ListN.{drop_of_length-le}
@@ -15,7 +14,7 @@ use Rattle.be_base.specs.Readers.{now_of}
 use Rattle.be_base.specs.Text.{Text}
 use Rattle.be_base.specs.declared.limits.TheConstants.{FILE_BYTES}
 use Rattle.be_expr.specs.Changes.{change_text}
-use Rattle.be_io.specs.Shelf.{Asks, CountsFault, HoldsFile}
+use Rattle.be_io.specs.Shelf.{CountsFault, HoldsFile}
 use Rattle.be_io.specs.declared.faults.ShelfFault.{ShelfFault}
 use Rattle.be_io.specs.declared.faults.ShelfFault.TheVariants as shelf
 use Rattle.be_server.specs.Generated.{status_written}
@@ -27,13 +26,14 @@ use Rattle.be_io.specs.Counts.{HasRisen}
 use Rattle.be_io.specs.Sink.{SinkState, Wrote}
 use Rattle.be_io.specs.declared.faults.SinkFault.{SinkFault}
 use Rattle.be_io.specs.declared.faults.SinkFault.TheVariants as sink
-use Rattle.be_io.proofs.WroteLemmas.{Wrote-append, Wrote-cut, Wrote-nil}
+use Rattle.be_io.proofs.WroteLemmas.{Wrote-append, Wrote-cut}
 use Rattle.be_model.specs.declared.changes.Row.{Row}
 use Rattle.be_model.specs.Schemas.{Attributes}
 use Rattle.be_server.specs.declared.status.Status.{Status}
 use Rattle.be_server.specs.declared.status.Status.TheVariants.{Done, Words, SchemaBad, LoadBad, FeedBad, NoMemory, ReadFault, LongFile, WriteFault, Spent, Split, Stray, Shut}
-use Rattle.be_server.specs.Files.{ToldFile, RunFiles, run_files, FileReads, FileIsLong, IsSchemaOf, AreRowsOf, LoadsRun, AsksFor}
-use Rattle.be_server.specs.Drills.{ToldFiles, AreScripts, Holds, FirstIsLong, SomeIsLong, LoadsScripts, LoadsDrill, under, headed, log_lines, drill_text, Printed, EndsAfter, RunsDrill, RanDrill, DrillEnds}
+use Rattle.be_server.specs.Asked.{MayAsk, AsksInOrder}
+use Rattle.be_server.specs.Files.{ToldFile, FileReads, FileIsLong, IsSchemaOf, AreRowsOf, LoadsRun}
+use Rattle.be_server.specs.Drills.{ToldFiles, AreScripts, Holds, FirstIsLong, LoadsScripts, LoadsDrill, under, headed, log_lines, drill_text, EndsAfter, RunsDrill, RanDrill, DrillEnds}
 
 -- the files are good, and the sessions ended so
 pub drill_ran : (Kept : Type 0) (files : ToldFiles) (shelf shelf' : ℕ) (before after : SinkState) (s : Attributes) (rows : List Row) (scripts : List Text) (status : Status) → shelf' ≡ shelf → Holds files s rows scripts
@@ -130,21 +130,6 @@ next_is_long [] (x ∷ xs) file rest are long = absurd are
 next_is_long (f ∷ fs) [] file rest are long = absurd are
 next_is_long (f ∷ fs) (x ∷ xs) file rest are long = inr (x, are.0, next_is_long fs xs file rest are.1 long)
 
--- the names that were asked for are the first ones
-pub asks_more : (names before after asked asked' : List Text) (name : Text) → names ≡ before ++ name ∷ after → asked' ≡ (asked ++ before) ++ name ∷ [] → AsksFor names asked asked'
-asks_more names before after asked asked' name parts is =
-    (before ++ name ∷ [], (after, parts ∙ sym (append_assoc before (name ∷ []) after)), is ∙ append_assoc asked before (name ∷ []))
-
--- behind names that were all asked for, the first ones of others
-pub asks_behind : (first names asked asked' asked'' : List Text) → asked' ≡ asked ++ first → AsksFor names asked' asked'' → AsksFor (first ++ names) asked asked''
-asks_behind first names asked asked' asked'' all a =
-    (first ++ a.0, (a.1.0, ap (λ (l : List Text). first ++ l) a.1.1 ∙ sym (append_assoc first a.0 a.1.0)), a.2 ∙ (ap (λ (l : List Text). l ++ a.0) all ∙ append_assoc asked first a.0))
-
--- the first of these names were asked for, and none of those behind them
-pub asks_front : (first names asked asked' : List Text) → AsksFor first asked asked' → AsksFor (first ++ names) asked asked'
-asks_front first names asked asked' a =
-    (a.0, (a.1.0 ++ names, ap (λ (l : List Text). l ++ names) a.1.1 ∙ append_assoc a.0 a.1.0 names), a.2)
-
 -- what holds of all elements of a list holds of what stands at a place
 pub stands_in : {X : Type 0} (p : X → Bool) (xs : List X) (i : ℕ) (x : X) → list_all p xs ≡ true → slice_get xs i ≡ Some x → p x ≡ true
 stands_in p [] i x all at = absurd cc
@@ -175,13 +160,6 @@ pub names_more : (xs : List (Bor Text)) (i : ℕ) (x : Bor Text) → i < length 
 names_more xs i x lt is =
     let more : take (i + 1) xs ≡ take i xs ++ x ∷ [] = take_more xs i x lt ∙ ap (λ (y : Bor Text). take i xs ++ y ∷ []) (sym is) in
     ap (map now_of) more ∙ map-append now_of (take i xs) (x ∷ [])
-
--- the first names were asked for, and this one
-pub script_asks : (names front rest asked now asked' : List Text) (name : Text) (fault : ShelfFault) → names ≡ front ++ name ∷ rest → now ≡ asked ++ front → Asks {T = Vec ℕ Global} (Err fault) now asked' name → AsksFor names asked asked'
-script_asks names front rest asked now asked' name shelf.Failed parts was a = asks_more names front rest asked asked' name parts (a ∙ ap (λ (l : List Text). l ++ name ∷ []) was)
-script_asks names front rest asked now asked' name shelf.Long parts was a = asks_more names front rest asked asked' name parts (a ∙ ap (λ (l : List Text). l ++ name ∷ []) was)
-script_asks names front rest asked now asked' name shelf.NoMemory parts was (inl a) = (front, (name ∷ rest, parts), a ∙ was)
-script_asks names front rest asked now asked' name shelf.NoMemory parts was (inr a) = asks_more names front rest asked asked' name parts (a ∙ ap (λ (l : List Text). l ++ name ∷ []) was)
 
 -- the next file was refused
 pub script_refused : (content : Text → ToldFile) (names front rest : List Text) (name : Text) (scripts : List Text) (f now f' : ℕ) (fault : ShelfFault) → names ≡ front ++ name ∷ rest → AreScripts (map content front) scripts
@@ -275,6 +253,18 @@ was_pushed {X} b now more less ok is = subst (λ (c : Bool). now ≡ (if c then 
 pub take_end : {X : Type 0} (xs : List X) (i : ℕ) → length xs ≤ i → take i xs ≡ xs
 take_end xs i le = sym (append-nil (take i xs)) ∙ (ap (λ l. take i xs ++ l) (sym (none_left xs i le)) ∙ take-append-drop i xs)
 
+-- all were asked for and read
+pub asks_all : (xs : List (Bor Text)) (i : ℕ) (content : Text → ToldFile) (texts asked now : List Text) → length xs ≤ i → now ≡ asked ++ map now_of (take i xs) → AreScripts (map content (map now_of (take i xs))) texts
+    → AsksInOrder content (map now_of xs) asked now
+asks_all xs i content texts asked now le was are = record {
+  read = map now_of (take i xs);
+  rest = [];
+  parts = sym (append-nil (map now_of (take i xs)) ∙ ap (map now_of) (take_end xs i le));
+  texts = texts;
+  are_read = are;
+  asked = was;
+}
+
 -- a shelf that tells the same of each file
 pub same_told : (here content : Text → ToldFile) (names : List Text) → ((file : Text) → here file ≡ content file) → map here names ≡ map content names
 same_told here content [] same = refl
@@ -288,13 +278,16 @@ module _ (xs : List (Bor Text)) (i : ℕ) (d : Bor Text) (lt : i < length xs) wh
   there_is : get_or xs i d ≡ get_or xs i (get_or xs i d)
   there_is = sym (get_or_from_slice_get xs i (get_or xs i d) (get_or xs i d) (slice_get-get_or xs i d lt))
 
-  pub asks_refused_at : (asked now asked' : List Text) (fault : ShelfFault) → now ≡ asked ++ map now_of (take i xs) → Asks {T = Vec ℕ Global} (Err fault) now asked' name_there → AsksFor (map now_of xs) asked asked'
-  asks_refused_at asked now asked' fault was a =
-      script_asks (map now_of xs) (map now_of (take i xs)) (map now_of (drop (i + 1) xs)) asked now asked' name_there fault (names_at xs i (get_or xs i d) lt there_is) was a
-
-  pub asks_first_at : (asked now asked' : List Text) → now ≡ asked ++ map now_of (take i xs) → asked' ≡ now ++ name_there ∷ [] → AsksFor (map now_of xs) asked asked'
-  asks_first_at asked now asked' was a =
-      asks_more (map now_of xs) (map now_of (take i xs)) (map now_of (drop (i + 1) xs)) asked asked' name_there (names_at xs i (get_or xs i d) lt there_is) (a ∙ ap (λ (l : List Text). l ++ name_there ∷ []) was)
+  -- the names before the place were asked for and read, and perhaps the one that stands there
+  pub asks_at : (content : Text → ToldFile) (texts asked now asked' : List Text) → now ≡ asked ++ map now_of (take i xs) → AreScripts (map content (map now_of (take i xs))) texts → MayAsk name_there now asked' → AsksInOrder content (map now_of xs) asked asked'
+  asks_at content texts asked now asked' was are a = record {
+    read = map now_of (take i xs);
+    rest = name_there ∷ map now_of (drop (i + 1) xs);
+    parts = names_at xs i (get_or xs i d) lt there_is;
+    texts = texts;
+    are_read = are;
+    asked = subst (λ (l : List Text). MayAsk name_there l asked') was a;
+  }
 
   pub asked_at : (asked now asked' : List Text) → now ≡ asked ++ map now_of (take i xs) → asked' ≡ now ++ name_there ∷ [] → asked' ≡ asked ++ map now_of (take (i + 1) xs)
   asked_at asked now asked' was a =

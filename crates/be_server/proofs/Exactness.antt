@@ -1,7 +1,6 @@
 -- What the files hold decides the status.
-use Rattle.std.proofs.Common.{◌≡◌, ◌⊎◌, inl, inr, ℕ, ◌<◌, ◌≤◌, List, [], ◌∷◌, length, map, Option, Some, None, Result, Ok, Err, refl, sym, subst, ◌∙◌, arith}
+use Rattle.std.proofs.Common.{◌≡◌, ◌⊎◌, inl, inr, ℕ, List, [], ◌∷◌, map, Option, Some, None, Result, Ok, Err, refl, sym, subst}
 use Rattle.be_base.specs.Text.{Text}
-use Rattle.be_base.specs.declared.limits.TheConstants.{FILE_BYTES}
 use Rattle.be_door.specs.Door.{DoorState}
 use Rattle.be_io.specs.Outside.{LinkState}
 use Rattle.be_event.specs.declared.schema_texts.SchemaFault.{SchemaFault}
@@ -9,7 +8,6 @@ use Rattle.be_event.specs.declared.schema_texts.SchemaFault.TheVariants as schem
 use Rattle.be_event.specs.declared.schema_texts.SchemaKind.{SchemaKind}
 use Rattle.be_event.specs.SchemaTexts.{schema_of}
 use Rattle.be_io.specs.Counts.{HasRisen}
-use Rattle.be_io.specs.Shelf.{HoldsFile}
 use Rattle.be_io.specs.Sink.{SinkState}
 use Rattle.be_model.specs.declared.changes.Row.{Row}
 use Rattle.be_model.specs.Schemas.{Attributes}
@@ -19,7 +17,7 @@ use Rattle.be_table.specs.Tables.{table_of}
 use Rattle.be_words.specs.Words.{Request, run, gen, cover, drill, serve, heat, follow}
 use Rattle.be_server.specs.declared.status.Status.{Status}
 use Rattle.be_server.specs.declared.status.Status.TheVariants.{Done, Words, SchemaBad, LoadBad, FeedBad, NoMemory, ReadFault, LongFile, WriteFault, Spent, Split, Stray, Shut}
-use Rattle.be_server.specs.Exact.{IsFaultless, FileIsRefused, ToldAs, ToldLong, LoadIsGood, SchemaDecides, LoadDecides, AllIsDone, EndsDrill, ScriptDecides, ScriptsDecide, IsExact, EndsExactly}
+use Rattle.be_server.specs.Exact.{IsFaultless, FileIsRefused, ToldAs, LoadIsGood, SchemaDecides, LoadDecides, AllIsDone, EndsDrill, ScriptDecides, ScriptsDecide, IsExact, EndsExactly}
 use Rattle.be_server.specs.Files.{ToldFile, RunFiles, run_files, FileReads, FileIsLong, IsSchemaOf, IfLoads, TableReads, AreRowsOf, SchemaIsBad, LoadIsBad, OneIsLong}
 use Rattle.be_server.specs.Covers.{CoverEnds}
 use Rattle.be_server.specs.Drills.{ToldFiles, AreScripts, FirstIsLong, SomeIsLong, Holds, RanDrill, drill_files, DrillEnds}
@@ -31,7 +29,7 @@ use Rattle.be_server.specs.Heats.{RanHeat, HeatEnds}
 use Rattle.be_server.specs.Serves.{AreQuiet, EndsServe, RanServe, ServeEnds}
 use Rattle.be_server.proofs.ServeEnded.{serve_quiet}
 use Rattle.be_server.proofs.FollowExact.{exact_follow, follow_refused}
-use Rattle.be_server.proofs.ToldFiles.{told, gone, too_long, one_reading, not_long, not_gone, not_short, long_stays, same_schema, schema_good, load_good}
+use Rattle.be_server.proofs.ToldFiles.{one_reading, not_long, not_gone, not_short, long_stays, same_schema, schema_good, load_good}
 
 -- the rows of a load file that is named
 rows_named : (s : Attributes) (load : Option ToldFile) (file : ToldFile) (rows : List Row) → AreRowsOf s load rows → load ≡ Some file → FileReads (table_of s) file (Ok rows)

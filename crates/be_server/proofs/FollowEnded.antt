@@ -1,11 +1,11 @@
 -- How `follow` ends, once its files were read and its input was answered.
-use Rattle.std.proofs.Common.{◌≡◌, inl, inr, ℕ, ◌≤◌, ◌++◌, ◌∷◌, [], true, List, length, Some, None, is_some, Result, Ok, Err, refl, sym, ap, subst, ◌∙◌, append-nil}
+use Rattle.std.proofs.Common.{◌≡◌, inl, inr, ℕ, ◌≤◌, ◌++◌, [], true, List, length, Some, None, is_some, Result, Ok, Err, refl, sym, ap, subst, ◌∙◌}
 use Rattle.be_io.specs.Outside.{LinkState}
 use Rattle.be_model.specs.Schemas.{Attributes}
 use Rattle.be_change.specs.History.{Entry}
 use Rattle.be_base.specs.declared.limits.TheConstants.{FILE_BYTES}
 use Rattle.be_base.specs.Text.{Text}
-use Rattle.be_io.specs.Shelf.{HoldsFile, Asks, CountsFault}
+use Rattle.be_io.specs.Shelf.{HoldsFile, CountsFault}
 use Rattle.be_io.specs.declared.faults.ShelfFault.{ShelfFault}
 use Rattle.be_io.specs.declared.faults.ShelfFault.TheVariants as shelf
 use Rattle.be_follow.specs.declared.faults.FeedFault.{FeedFault}
@@ -17,7 +17,7 @@ use Rattle.be_session.specs.declared.serve.SessionEnd.{SessionEnd}
 use Rattle.be_session.specs.declared.serve.SessionEnd.TheVariants as ends
 use Rattle.be_server.specs.declared.status.Status.{Status}
 use Rattle.be_server.specs.declared.status.Status.TheVariants.{Done, SchemaBad, FeedBad, NoMemory, ReadFault, LongFile, WriteFault, Spent}
-use Rattle.be_server.specs.Files.{ToldFile, FileIsLong, IsSchemaOf, LoadsSchema, AsksFor}
+use Rattle.be_server.specs.Files.{ToldFile, FileIsLong, IsSchemaOf, LoadsSchema}
 use Rattle.be_server.specs.Follows.{FollowFiles, follow_files, HasCome, IsListOf, FollowedWith, FollowEnds, LoadsFeed, LoadsFollower, HasFed}
 use Rattle.be_server.specs.Promise.{CommandState}
 use Rattle.be_server.specs.Status.{status_of, status_of_shelf, status_of_feed}
@@ -83,20 +83,6 @@ feed_loaded content schema file told f f' f'' s result same quiet is l =
     loaded (Err NoMemory) l = l
     loaded (Err (FeedBad line kind)) l = (l.0, (s, is, l.1))
     loaded (Err _) l = absurd l
-
--- a file was asked for, or nothing where memory ran out
-pub asks_file : {T : Type 0} (r : Result T ShelfFault) (old new : List Text) (name : Text) → Asks r old new name → AsksFor (name ∷ []) old new
-asks_file {T} r old new name a = by_answer r a
-  where
-    asked : new ≡ old ++ name ∷ [] → AsksFor (name ∷ []) old new
-    asked is = (name ∷ [], ([], refl), is)
-
-    by_answer : (r : Result T ShelfFault) → Asks r old new name → AsksFor (name ∷ []) old new
-    by_answer (Ok bytes) a = asked a
-    by_answer (Err shelf.Failed) a = asked a
-    by_answer (Err shelf.Long) a = asked a
-    by_answer (Err shelf.NoMemory) (inl same) = ([], (name ∷ [], refl), same ∙ sym (append-nil old))
-    by_answer (Err shelf.NoMemory) (inr more) = asked more
 
 -- the feed wasn't read
 pub feed_refused : {T : Type 0} (s : Attributes) (file : ToldFile) (f f' : ℕ) (r : Result T ShelfFault) (fault : ShelfFault) → r ≡ Err fault → CountsFault r f f' → (r ≡ Err shelf.Long → FileIsLong file)

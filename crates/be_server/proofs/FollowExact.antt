@@ -1,5 +1,5 @@
 -- What the files of a follower hold decides the status.
-use Rattle.std.proofs.Common.{◌≡◌, ◌⊎◌, inl, inr, ℕ, ◌<◌, ◌≤◌, List, length, Option, Some, None, Result, Ok, Err, refl, sym, subst, ◌∙◌}
+use Rattle.std.proofs.Common.{◌≡◌, ◌⊎◌, inl, inr, ℕ, ◌<◌, ◌≤◌, List, length, Option, Some, None, Ok, Err, refl, sym, subst, ◌∙◌}
 use Rattle.be_base.specs.declared.limits.TheConstants.{FILE_BYTES}
 use Rattle.be_change.specs.History.{Entry}
 use Rattle.be_event.specs.declared.schema_texts.SchemaFault.TheVariants as schema
@@ -11,9 +11,9 @@ use Rattle.be_follow.proofs.OneMeaning.{feeds_mean_one}
 use Rattle.be_model.specs.Schemas.{Attributes}
 use Rattle.be_server.specs.declared.status.Status.{Status}
 use Rattle.be_server.specs.declared.status.Status.TheVariants.{Done, Words, SchemaBad, LoadBad, FeedBad, NoMemory, ReadFault, LongFile, WriteFault, Spent, Split, Stray, Shut}
-use Rattle.be_server.specs.Exact.{IsFaultless, FileIsRefused, ToldAs, SchemaDecides, FeedDecides, FollowIsExact, ToldFed, AllIsDone}
+use Rattle.be_server.specs.Exact.{FileIsRefused, ToldAs, SchemaDecides, FeedDecides, FollowIsExact, ToldFed, AllIsDone}
 use Rattle.be_server.specs.Files.{ToldFile, FileReads, FileIsLong, IsSchemaOf}
-use Rattle.be_server.specs.Follows.{FollowFiles, FollowedWith, FollowEnds, HasCome, IsListOf, FeedIsBad}
+use Rattle.be_server.specs.Follows.{FollowFiles, FollowEnds, HasCome, IsListOf, FeedIsBad}
 use Rattle.be_server.specs.Promise.{CommandState}
 use Rattle.be_server.proofs.ToldFiles.{told, gone, too_long, one_reading, not_long, not_gone, not_short, long_stays, same_schema, schema_good}
 

@@ -1,5 +1,5 @@
 -- How `heat` ends: as `drill` does, with what the exchanges count behind its output.
-use Rattle.std.proofs.Common.{◌≡◌, ◌⊎◌, inl, inr, ℕ, zero, suc, ◌+◌, ◌<◌, ◌≤◌, Bool, true, false, List, [], ◌∷◌, ◌++◌, length, map, Some, slice_get, get_or, Result, Ok, Err, is_err, refl, sym, ap, ◌∙◌, subst, append_assoc, arith, codes}
+use Rattle.std.proofs.Common.{◌≡◌, inl, inr, ℕ, zero, suc, ◌+◌, Bool, true, false, List, [], ◌∷◌, ◌++◌, length, map, Some, slice_get, Result, Ok, Err, is_err, refl, sym, ap, ◌∙◌, subst, append_assoc, arith, codes}
 use Rattle.std.specs.Prelude.{All, OnOk, decimal}
 use Rattle.std.specs.List.{flat_map, range_with_len}
 use Rattle.std.proofs.lemmas.Grind.{flat_map-append}
@@ -25,8 +25,8 @@ use Rattle.be_transcript.specs.Readings.{reading}
 use Rattle.be_transcript.specs.Transcript.{AnswersEach, requests}
 use Rattle.be_server.specs.declared.status.Status.{Status}
 use Rattle.be_server.specs.declared.status.Status.TheVariants.{Done, Words, SchemaBad, LoadBad, FeedBad, NoMemory, ReadFault, LongFile, WriteFault, Spent, Split, Stray, Shut}
-use Rattle.be_server.specs.Drills.{ToldFiles, Holds, LoadsDrill, EndsAfter, headed, log_text, drill_text}
-use Rattle.be_server.specs.Heats.{IsTranscriptOf, AreServedBy, asked_line, asked_lines, demand_text, heat_text, PrintedHeat, RunsHeat, RanHeat, HeatEnds}
+use Rattle.be_server.specs.Drills.{ToldFiles, Holds, LoadsDrill, EndsAfter, headed, log_text}
+use Rattle.be_server.specs.Heats.{IsTranscriptOf, AreServedBy, asked_line, asked_lines, demand_text, heat_text, RunsHeat, RanHeat, HeatEnds}
 
 -- the requests that were answered are those of the first lines
 begins_mapped : (s : Attributes) (all front : List TextLine) → BeginsWith all front → BeginsWith (map (reading s) all) (map (reading s) front)

@@ -8,6 +8,7 @@ pub mod ScriptSteps
 pub mod CountedReplies
 pub mod CoverEnded
 pub mod DrillEnded
+pub mod Asking
 pub mod ServeEnded
 pub mod HeatEnded
 pub mod FollowEnded

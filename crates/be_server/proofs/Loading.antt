@@ -1,13 +1,11 @@
 -- The files of a run are read one after another.
-use Rattle.std.proofs.Common.{◌≡◌, inl, inr, ℕ, List, [], ◌∷◌, ◌++◌, Option, Some, None, Err, refl, ap, ◌∙◌, subst, append_assoc}
+use Rattle.std.proofs.Common.{◌≡◌, inl, inr, ℕ, [], Option, Some, Err, refl, subst}
 use Rattle.be_base.specs.Text.{Text}
 use Rattle.be_change.specs.Opening.{IsTable}
 use Rattle.be_model.specs.Schemas.{Attributes}
-use Rattle.be_words.specs.Words.{run}
 use Rattle.be_server.specs.declared.status.Status.{Status}
 use Rattle.be_server.specs.declared.status.Status.TheVariants.{SchemaBad, LoadBad, NoMemory, ReadFault, LongFile}
-use Rattle.be_server.specs.Files.{ToldFile, run_files, IsSchemaOf, LoadsSchema, LoadsTable, LoadsRun, AsksFor}
-use Rattle.be_server.specs.Words.{files_of}
+use Rattle.be_server.specs.Files.{ToldFile, run_files, IsSchemaOf, LoadsSchema, LoadsTable, LoadsRun}
 
 -- no rows are a table
 pub none_are_table : IsTable []
@@ -34,14 +32,3 @@ table_refused content schema load file f f' f'' s status same quiet is_schema l 
     refused NoMemory l = l
     refused (LoadBad line kind) l = (l.0, (s, is_schema, l.1))
     refused _ l = absurd l
-
--- the schema alone was asked for
-pub asks_schema : (schema : Text) (load : Option Text) (asked asked' : List Text) → AsksFor (schema ∷ []) asked asked' → AsksFor (files_of (Some (run schema load))) asked asked'
-asks_schema schema None asked asked' a = a
-asks_schema schema (Some load) asked asked' a =
-    (a.0, (a.1.0 ++ load ∷ [], ap (λ (l : List Text). l ++ load ∷ []) a.1.1 ∙ append_assoc a.0 a.1.0 (load ∷ [])), a.2)
-
--- and then the load file
-pub asks_load : (schema load : Text) (asked asked' asked'' : List Text) → asked' ≡ asked ++ schema ∷ [] → AsksFor (load ∷ []) asked' asked'' → AsksFor (files_of (Some (run schema (Some load)))) asked asked''
-asks_load schema load asked asked' asked'' first a =
-    (schema ∷ a.0, (a.1.0, ap (λ (l : List Text). schema ∷ l) a.1.1), a.2 ∙ ap (λ (l : List Text). l ++ a.0) first ∙ append_assoc asked (schema ∷ []) a.0)

@@ -1,12 +1,11 @@
 -- How `serve` ends: its files are read, its links are served, and what came of it is written.
-use Rattle.std.proofs.Common.{◌≡◌, ◌⊎◌, inl, inr, ℕ, ◌<◌, ◌≤◌, Bool, true, false, List, Option, Some, None, Result, Ok, Err, refl, sym, ap, ◌∙◌, subst, arith}
-use Rattle.be_base.specs.declared.limits.TheConstants.{SOURCE_BYTES}
+use Rattle.std.proofs.Common.{◌≡◌, ◌⊎◌, inl, inr, ℕ, ◌<◌, Bool, List, Ok, Err, sym, ap, subst, arith}
 use Rattle.be_change.specs.History.{Entry}
 use Rattle.be_change.specs.Opening.{opening_of}
 use Rattle.be_base.specs.Counts.{raised}
 use Rattle.be_door.specs.Door.{DoorState, after_try}
 use Rattle.be_door.specs.declared.sums.Sums.{Sums}
-use Rattle.be_hub.specs.Serving.{LinksAreServed, WereRead, served_door, IsTried}
+use Rattle.be_hub.specs.Serving.{LinksAreServed, WereRead, served_door}
 use Rattle.be_hub.proofs.WereRead.{were_read, served_tried}
 use Rattle.be_hub.specs.declared.serving.ServeFault.{ServeFault}
 use Rattle.be_hub.specs.declared.serving.ServeFault.TheVariants as fault

@@ -1,5 +1,5 @@
 -- What is told of a file is read as one thing.
-use Rattle.std.proofs.Common.{◌≡◌, ℕ, ◌<◌, ◌≤◌, List, length, Option, Some, None, Result, Ok, Err, sym, subst, ◌∙◌, arith}
+use Rattle.std.proofs.Common.{◌≡◌, ℕ, ◌<◌, ◌≤◌, List, length, Some, None, Ok, Err, sym, subst, ◌∙◌, arith}
 use Rattle.be_base.specs.declared.limits.TheConstants.{FILE_BYTES}
 use Rattle.be_event.specs.declared.schema_texts.SchemaFault.TheVariants as schema
 use Rattle.be_event.specs.SchemaTexts.{schema_of}

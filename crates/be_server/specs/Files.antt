@@ -1,8 +1,7 @@
 -- The files that a command reads.
-use Rattle.std.specs.Prelude.{◌≡◌, ℕ, ◌<◌, ◌≤◌, ◌++◌, ◌⊎◌, List, [], length, Option, Some, None, option_map, Result, Ok, Err}
+use Rattle.std.specs.Prelude.{◌≡◌, ℕ, ◌<◌, ◌≤◌, ◌⊎◌, List, [], ◌∷◌, length, Option, Some, None, option_map, Result, Ok, Err}
 use Rattle.std.specs.declared.alloc.Global.{Global}
 use Rattle.std.specs.declared.vec.Vec.{Vec}
-use Rattle.be_base.specs.Lists.{BeginsWith}
 use Rattle.be_base.specs.Text.{Text}
 use Rattle.be_base.specs.declared.limits.TheConstants.{FILE_BYTES}
 use Rattle.be_change.specs.Opening.{IsTable}
@@ -28,6 +27,11 @@ ToldFile = Option (Option (List ℕ))
 pub record RunFiles : Type 0 where
   pub schema : ToldFile
   pub load : Option ToldFile
+
+-- the names of a run's files
+abbrev pub run_names : Text → Option Text → List Text
+run_names schema None = schema ∷ []
+run_names schema (Some load) = schema ∷ load ∷ []
 
 abbrev pub run_files : (Text → ToldFile) → Text → Option Text → RunFiles
 run_files content schema load = record { schema = content schema; load = option_map content load }
@@ -98,7 +102,3 @@ LoadsRun files faults faults' (Err NoMemory) = faults' ≡ faults
 LoadsRun files faults faults' (Err (SchemaBad line kind)) = (faults' ≡ faults) × SchemaIsBad files line kind
 LoadsRun files faults faults' (Err (LoadBad line kind)) = (faults' ≡ faults) × LoadIsBad files line kind
 LoadsRun files faults faults' (Err _) = ⊥
-
--- the shelf was asked for the first ones of these files, in order, and for nothing else
-abbrev pub AsksFor : List Text → List Text → List Text → Type 0
-AsksFor files before after = (front : List Text) × BeginsWith files front × (after ≡ before ++ front)

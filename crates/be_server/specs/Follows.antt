@@ -1,5 +1,5 @@
 -- The promise of `follow`: which list it answers from, how it may end, and what was then read and written.
-use Rattle.std.specs.Prelude.{◌≡◌, ℕ, ◌<◌, ◌≤◌, ◌⊎◌, List, length, Some, None, Result, Ok, Err}
+use Rattle.std.specs.Prelude.{◌≡◌, ℕ, ◌≤◌, ◌⊎◌, List, length, Some, None, Result, Ok, Err}
 use Rattle.be_base.specs.declared.limits.TheConstants.{FILE_BYTES}
 use Rattle.be_event.specs.declared.schema_texts.SchemaFault.TheVariants as schema
 use Rattle.be_event.specs.SchemaTexts.{schema_of}

@@ -1,8 +1,6 @@
 -- The promise of `heat`: what it prints behind the output of `drill`, how it may end, and what was then written.
-use Rattle.std.specs.Prelude.{◌≡◌, ℕ, ◌+◌, ◌-◌, ◌++◌, ◌⊎◌, Bool, true, false, List, [], ◌∷◌, length, Option, Some, None, Result, Ok, Err, codes, decimal, slice_get, slice_index}
+use Rattle.std.specs.Prelude.{◌≡◌, ℕ, ◌+◌, ◌-◌, ◌++◌, ◌⊎◌, Bool, true, false, List, [], ◌∷◌, length, Some, Result, Ok, Err, codes, decimal, slice_get, slice_index}
 use Rattle.std.specs.List.{flat_map, range_with_len}
-use Rattle.std.specs.declared.alloc.Global.{Global}
-use Rattle.std.specs.declared.vec.Vec.{Vec}
 use Rattle.be_base.specs.Text.{Text}
 use Rattle.be_change.specs.History.{Entry}
 use Rattle.be_change.specs.Opening.{opening_of}

@@ -1,4 +1,3 @@
-pub mod Words
 pub mod Status
 pub mod Files
 pub mod Promise
@@ -7,6 +6,7 @@ pub mod Sums
 pub mod Generated
 pub mod Covers
 pub mod Drills
+pub mod Asked
 pub mod Serves
 pub mod Heats
 pub mod Follows

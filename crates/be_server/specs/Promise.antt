@@ -1,6 +1,5 @@
 -- The promise of `run`: for each way in which it may end, what was read, what was written, and which call failed.
-use Rattle.std.specs.Prelude.{◌≡◌, ℕ, ◌++◌, ◌⊎◌, Bool, true, false, not, List, [], ◌∷◌, Option, Some, None}
-use Rattle.be_base.specs.Text.{Text}
+use Rattle.std.specs.Prelude.{◌≡◌, ℕ, ◌++◌, ◌⊎◌, Bool, true, false, not, List, [], ◌∷◌}
 use Rattle.be_base.specs.declared.limits.TheConstants.{SOURCE_BYTES}
 use Rattle.be_io.specs.Counts.{HasRisen, HasRisenBy}
 use Rattle.be_io.specs.Told.{HoldsMore}
@@ -22,7 +21,7 @@ use Rattle.be_session.specs.declared.serve.SessionEnd.TheVariants as ends
 use Rattle.be_session.specs.Served.{Leaves, NoReadFailed, NoWriteFailed}
 use Rattle.be_server.specs.declared.status.Status.{Status}
 use Rattle.be_server.specs.declared.status.Status.TheVariants.{Done, Words, SchemaBad, LoadBad, FeedBad, NoMemory, ReadFault, LongFile, WriteFault, Spent, Split, Stray, Shut}
-use Rattle.be_server.specs.Files.{ToldFile, RunFiles, run_files, IsSchemaOf, AreRowsOf, SchemaIsBad, LoadIsBad, OneIsLong}
+use Rattle.be_server.specs.Files.{RunFiles, IsSchemaOf, AreRowsOf, SchemaIsBad, LoadIsBad, OneIsLong}
 
 -- the last line alone is a QUIT, or none is
 abbrev pub QuitsAtEnd : Bool → Attributes → List TextLine → Type 0

@@ -1,5 +1,5 @@
 -- The promise of `serve`: what it prints, how it may end, and what was then written and made of the door.
-use Rattle.std.specs.Prelude.{◌≡◌, ℕ, ◌<◌, ◌≤◌, ◌++◌, ◌⊎◌, Bool, true, false, List, [], ◌∷◌, length, Option, Result, Ok, Err, codes, decimal}
+use Rattle.std.specs.Prelude.{◌≡◌, ℕ, ◌<◌, ◌≤◌, ◌++◌, ◌⊎◌, Bool, true, false, List, [], ◌∷◌, length, Ok, Err, codes, decimal}
 use Rattle.be_base.specs.Text.{Text}
 use Rattle.be_base.specs.declared.limits.TheConstants.{SOURCE_BYTES}
 use Rattle.be_change.specs.History.{Entry}

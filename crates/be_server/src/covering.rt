@@ -4,10 +4,9 @@ ghost use Rattle.std.specs.Prelude.{◌≡◌, ◌++◌, [], true, find, option_
 ghost use Rattle.std.specs.List.{list_all};
 ghost use Rattle.be_io.specs.Outside.{sink_state};
 ghost use Rattle.be_model.specs.Lies.{row_lies, event_lies};
-ghost use Rattle.be_words.specs.Words.{run};
 ghost use Rattle.be_server.specs.Covers.{cover_line, is_named, line_of, lines_for, cover_text, WritesLines, CoverEnds};
-ghost use Rattle.be_server.specs.Files.{AsksFor, run_files};
-ghost use Rattle.be_server.specs.Words.{files_of};
+ghost use Rattle.be_server.specs.Asked.{AsksInTurn};
+ghost use Rattle.be_server.specs.Files.{run_files};
 
 use crate::files::{Loaded, load_files};
 use crate::generated::status_of;
@@ -31,7 +30,7 @@ pub fn cover<F: Shelf, K: Sink>(
 ) -> Status
     ensures ends { CoverEnds (out.new ≡ out.old) (run_files (F.content shelf.old) schema.now (Some file.now)) name.now
         (F.read_faults shelf.old) (F.read_faults shelf.new) (sink_state K.Sink out.old) (sink_state K.Sink out.new) result }
-    ensures asked { AsksFor (files_of (Some (run schema.now (Some file.now)))) (F.asked shelf.old) (F.asked shelf.new) }
+    ensures asked { AsksInTurn (F.content shelf.old) schema.now (Some file.now) [] (F.asked shelf.old) (F.asked shelf.new) }
 {
     match load_files(alloc, shelf, schema, Some(file)) {
         Ok(loaded) => write_lines(alloc, &loaded, name, out),

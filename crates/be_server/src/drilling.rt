@@ -15,18 +15,17 @@ ghost use Rattle.be_mail.specs.Passes.{new_passes};
 ghost use Rattle.be_model.specs.Lies.{row_lies};
 ghost use Rattle.be_words.specs.Words.{drill};
 ghost use Rattle.be_server.specs.Drills.{drill_files, DrillEnds, RunsDrill};
-ghost use Rattle.be_server.specs.Files.{AsksFor};
-ghost use Rattle.be_server.specs.Words.{files_of};
+ghost use Rattle.be_server.specs.Asked.{AsksInTurn};
 
+use crate::hubs::hub_over_trees;
 use crate::printing::write_drill;
 use crate::scripts::{DrillFiles, load_drill};
 use crate::status::Status;
-use be_hub::{CloseFault, Drilled, open_hub};
+use be_hub::{CloseFault, Drilled};
 use be_io::{Gate, Shelf, Sink};
 use be_mail::{BoxNames, Mail, MailPasses, Post, make_mail};
 use be_model::{Row, Schema};
 use be_published::{Naming, Opened};
-use be_tree::BeTree;
 use std::alloc::Global;
 use std::marker::Brand;
 use std::sync::{Arc, Wait};
@@ -49,7 +48,7 @@ pub fn drill<R: Threads + Wait + Sync, F: Shelf, K: Sink, G: Gate + Sync>(
     requires rounds { rounds ≤ ROUNDS }
     ensures ends { DrillEnds (out.new ≡ out.old) (drill_files (F.content shelf.old) schema.now (option_map now_of load.entry) (map now_of files.now))
         (F.read_faults shelf.old) (F.read_faults shelf.new) (sink_state K.Sink out.old) (sink_state K.Sink out.new) result }
-    ensures asked { AsksFor (files_of (Some (drill schema.now (option_map now_of load.entry) rounds (map now_of files.now)))) (F.asked shelf.old) (F.asked shelf.new) }
+    ensures asked { AsksInTurn (F.content shelf.old) schema.now (option_map now_of load.entry) (map now_of files.now) (F.asked shelf.old) (F.asked shelf.new) }
 {
     match load_drill(alloc, shelf, schema, load, files) {
         Ok(loaded) => run_drill(rt, alloc, loaded, rounds, out, gate),
@@ -108,6 +107,7 @@ pub fn mailed<S: Post + Send + Sync, R: Threads + Wait + Sync, G: Gate + Sync>(
     ensures served { IfOk result (λ drilled. AreServed (arc_value schema.now) (opening_of rows.items) drilled.log.list (is_some drilled.shade)
         (map (λ script. script.items) scripts.items) (map (λ transcript. transcript.items) drilled.transcripts.items)) }
     ensures sound { IfOk result (λ drilled. Sound (arc_value schema.now) drilled.log.list) }
+    ensures rounds { IfOk result (λ drilled. drilled.broom ≡ rounds) }
 {
     let Ok((mail, passes)) = make_mail::<S>(alloc, scripts.len() as u32) else {
         return Err(CloseFault::NoMemory);
@@ -148,28 +148,12 @@ fn seated<
     ensures served { IfOk result (λ drilled. AreServed J.schema J.opening drilled.log.list (is_some drilled.shade)
         (map (λ script. script.items) scripts.items) (map (λ transcript. transcript.items) drilled.transcripts.items)) }
     ensures sound { IfOk result (λ drilled. Sound J.schema drilled.log.list) }
+    ensures rounds { IfOk result (λ drilled. drilled.broom ≡ rounds) }
 {
-    let (Ok(a), Ok(b), Ok(kept)) = (
-        Arc::try_clone(schema),
-        Arc::try_clone(schema),
-        Arc::try_clone(schema),
-    ) else {
+    let seats = scripts.len() as u32;
+    let made = hub_over_trees::<S, J, R>(rt, alloc, opened, schema, seats, rows, mail, passes);
+    let Ok((hub, places)) = made else {
         return Err(CloseFault::NoMemory);
     };
-    let made = open_hub::<BeTree, J, S, R>(
-        rt,
-        alloc,
-        kept,
-        opened,
-        BeTree::make(alloc, a),
-        BeTree::make(alloc, b),
-        scripts.len() as u32,
-        rows,
-        mail,
-        passes,
-    );
-    let Ok((hub, seats)) = made else {
-        return Err(CloseFault::NoMemory);
-    };
-    hub.drill(rt, alloc, seats, scripts, rounds, gate)
+    hub.drill(rt, alloc, places, scripts, rounds, gate)
 }

@@ -2,12 +2,11 @@
 
 ghost use Rattle.std.specs.Prelude.{◌≡◌, ◌⊎◌, None};
 ghost use Rattle.be_server.specs.Exact.{EndsExactly};
-ghost use Rattle.be_server.specs.Files.{AsksFor};
+ghost use Rattle.be_server.specs.Asked.{AsksFor};
 ghost use Rattle.be_io.specs.Counts.{HasRisen};
 ghost use Rattle.be_io.specs.Outside.{source_state, sink_state, link_state};
 ghost use Rattle.be_server.specs.Commands.{Ends, LeavesDoor};
 ghost use Rattle.be_server.specs.Promise.{command_state};
-ghost use Rattle.be_server.specs.Words.{files};
 ghost use Rattle.be_session.specs.Served.{TakesWithin};
 ghost use Rattle.be_words.specs.Words.{reading, words_of};
 
@@ -77,8 +76,8 @@ where
     // The input gives 2^40 bytes at most.
     ensures within { TakesWithin (S.taken input.old) (S.taken input.new) }
 
-    // The shelf is asked for the first ones of the files that the words name, and for nothing else.
-    ensures asked { AsksFor (files (words_of words.now)) (F.asked shelf.old) (F.asked shelf.new) }
+    // The shelf is asked for the files that the words name, one after another, each only where those before it are good.
+    ensures asked { AsksFor (reading (words_of words.now)) (F.content shelf.old) (F.asked shelf.old) (F.asked shelf.new) }
     ensures door { LeavesDoor (reading (words_of words.now)) (door.new ≡ door.old) }
 {
     match read_words(alloc, words) {

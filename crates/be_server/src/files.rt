@@ -5,9 +5,8 @@ ghost use Rattle.std.specs.List.{list_all};
 ghost use Rattle.be_base.specs.Readers.{now_of};
 ghost use Rattle.be_change.specs.Opening.{IsTable};
 ghost use Rattle.be_model.specs.Lies.{row_lies};
-ghost use Rattle.be_words.specs.Words.{run};
-ghost use Rattle.be_server.specs.Files.{LoadsSchema, LoadsTable, LoadsRun, run_files, AsksFor};
-ghost use Rattle.be_server.specs.Words.{files_of, run_names};
+ghost use Rattle.be_server.specs.Files.{LoadsSchema, LoadsTable, LoadsRun, run_files, run_names};
+ghost use Rattle.be_server.specs.Asked.{MayAsk, AsksInTurn};
 
 use crate::status::Status;
 use be_event::{SchemaFault, read_schema};
@@ -32,7 +31,7 @@ pub fn load_files<F: Shelf>(
 ) -> Result<Loaded, Status>
     ensures loads { LoadsRun (run_files (F.content shelf.old) schema.now (option_map now_of load.entry)) (F.read_faults shelf.old) (F.read_faults shelf.new) result }
     ensures lies { IfOk result (λ l. list_all (row_lies l.schema) l.rows.items ≡ true) }
-    ensures asked { AsksFor (files_of (Some (run schema.now (option_map now_of load.entry)))) (F.asked shelf.old) (F.asked shelf.new) }
+    ensures asked { AsksInTurn (F.content shelf.old) schema.now (option_map now_of load.entry) [] (F.asked shelf.old) (F.asked shelf.new) }
     ensures read { OnOk result (F.asked shelf.new ≡ F.asked shelf.old ++ run_names schema.now (option_map now_of load.entry)) }
     ensures content { (file : List ℕ) → F.content shelf.new file ≡ F.content shelf.old file }
 {
@@ -51,7 +50,7 @@ pub(crate) fn load_schema<F: Shelf>(
     name: &str,
 ) -> Result<Schema, Status>
     ensures loads { LoadsSchema (F.content shelf.old name.now) (F.read_faults shelf.old) (F.read_faults shelf.new) result }
-    ensures asked { AsksFor (name.now ∷ []) (F.asked shelf.old) (F.asked shelf.new) }
+    ensures asked { MayAsk name.now (F.asked shelf.old) (F.asked shelf.new) }
     ensures read { OnOk result (F.asked shelf.new ≡ F.asked shelf.old ++ name.now ∷ []) }
     ensures content { (file : List ℕ) → F.content shelf.new file ≡ F.content shelf.old file }
 {
@@ -71,7 +70,7 @@ fn load_table<F: Shelf>(
 ) -> Result<Vec<Row>, Status>
     ensures loads { LoadsTable schema.now (F.content shelf.old name.now) (F.read_faults shelf.old) (F.read_faults shelf.new) result }
     ensures lies { IfOk result (λ rows. list_all (row_lies schema.now) rows.items ≡ true) }
-    ensures asked { AsksFor (name.now ∷ []) (F.asked shelf.old) (F.asked shelf.new) }
+    ensures asked { MayAsk name.now (F.asked shelf.old) (F.asked shelf.new) }
     ensures read { OnOk result (F.asked shelf.new ≡ F.asked shelf.old ++ name.now ∷ []) }
     ensures content { (file : List ℕ) → F.content shelf.new file ≡ F.content shelf.old file }
 {

@@ -5,7 +5,7 @@ ghost use Rattle.be_io.specs.Outside.{source_state, sink_state};
 ghost use Rattle.be_session.specs.Served.{TakesWithin};
 ghost use Rattle.be_follow.specs.Followers.{new_follower, Follows};
 ghost use Rattle.be_follow.specs.Reads.{ReadsEnd};
-ghost use Rattle.be_server.specs.Files.{AsksFor};
+ghost use Rattle.be_server.specs.Asked.{MayAsk, AsksInTurn};
 ghost use Rattle.be_server.specs.Follows.{follow_files, LoadsFeed, LoadsFollower, HasFed, FollowEnds};
 ghost use Rattle.be_server.specs.Promise.{command_state, link};
 
@@ -36,7 +36,7 @@ pub fn follow<F: Shelf, S: Source, K: Sink>(
         (command_state (F.read_faults shelf.new) (source_state S.Source input.new) (sink_state K.Sink out.new))
         result }
     ensures within { TakesWithin (S.taken input.old) (S.taken input.new) }
-    ensures asked { AsksFor (schema.now ∷ file.now ∷ []) (F.asked shelf.old) (F.asked shelf.new) }
+    ensures asked { AsksInTurn (F.content shelf.old) schema.now None (file.now ∷ []) (F.asked shelf.old) (F.asked shelf.new) }
 {
     match load_feed(alloc, shelf, schema, file) {
         Ok(follower) => status_of(serve_pair(&follower, input, out)),
@@ -45,7 +45,7 @@ pub fn follow<F: Shelf, S: Source, K: Sink>(
 }
 
 // Reads the schema, and what the feed gives in it.
-#[tactic(auto, using(crate::proofs::FollowEnded::schema_refused, crate::proofs::FollowEnded::feed_loaded, crate::proofs::Loading::asks_schema, crate::proofs::Loading::asks_load))]
+#[tactic(auto, using(crate::proofs::FollowEnded::schema_refused, crate::proofs::FollowEnded::feed_loaded, crate::proofs::Asking::asks_schema))]
 fn load_feed<F: Shelf>(
     alloc: Global,
     shelf: &mut F,
@@ -53,7 +53,7 @@ fn load_feed<F: Shelf>(
     file: &str,
 ) -> Result<Follower<BeTree>, Status>
     ensures loads { LoadsFeed (follow_files (F.content shelf.old) schema.now file.now) (F.read_faults shelf.old) (F.read_faults shelf.new) result }
-    ensures asked { AsksFor (schema.now ∷ file.now ∷ []) (F.asked shelf.old) (F.asked shelf.new) }
+    ensures asked { AsksInTurn (F.content shelf.old) schema.now None (file.now ∷ []) (F.asked shelf.old) (F.asked shelf.new) }
 {
     match load_schema(alloc, shelf, schema) {
         Ok(schema) => load_follower(alloc, shelf, schema, file),
@@ -62,7 +62,7 @@ fn load_feed<F: Shelf>(
 }
 
 // Reads what the feed gives in this schema.
-#[tactic(auto, using(crate::proofs::FollowEnded::feed_refused, crate::proofs::FollowEnded::feed_came, crate::proofs::FollowEnded::asks_file))]
+#[tactic(auto, using(crate::proofs::FollowEnded::feed_refused, crate::proofs::FollowEnded::feed_came, crate::proofs::Asking::asks_file))]
 fn load_follower<F: Shelf>(
     alloc: Global,
     shelf: &mut F,
@@ -70,7 +70,7 @@ fn load_follower<F: Shelf>(
     file: &str,
 ) -> Result<Follower<BeTree>, Status>
     ensures loads { LoadsFollower schema (F.content shelf.old file.now) (F.read_faults shelf.old) (F.read_faults shelf.new) result }
-    ensures asked { AsksFor (file.now ∷ []) (F.asked shelf.old) (F.asked shelf.new) }
+    ensures asked { MayAsk file.now (F.asked shelf.old) (F.asked shelf.new) }
 {
     match shelf.read_file(alloc, file) {
         Ok(bytes) => fed(alloc, schema, bytes.as_slice()),

@@ -11,9 +11,8 @@ ghost use Rattle.be_hub.specs.Transcripts.{AreServed};
 ghost use Rattle.be_io.specs.Outside.{sink_state};
 ghost use Rattle.be_model.specs.Lies.{row_lies};
 ghost use Rattle.be_server.specs.Drills.{drill_files, log_text};
-ghost use Rattle.be_server.specs.Files.{AsksFor};
+ghost use Rattle.be_server.specs.Asked.{AsksInTurn};
 ghost use Rattle.be_server.specs.Heats.{HeatEnds, RunsHeat, asked_line, demand_text};
-ghost use Rattle.be_server.specs.Words.{run_names};
 ghost use Rattle.be_transcript.specs.Replies.{number};
 
 use crate::drilling::mailed;
@@ -47,7 +46,7 @@ pub fn heat<R: Threads + Wait + Sync, F: Shelf, K: Sink, G: Gate + Sync>(
     requires rounds { rounds ≤ ROUNDS }
     ensures ends { HeatEnds (out.new ≡ out.old) (drill_files (F.content shelf.old) schema.now None (map now_of files.now))
         (F.read_faults shelf.old) (F.read_faults shelf.new) (sink_state K.Sink out.old) (sink_state K.Sink out.new) result }
-    ensures asked { AsksFor (run_names schema.now None ++ map now_of files.now) (F.asked shelf.old) (F.asked shelf.new) }
+    ensures asked { AsksInTurn (F.content shelf.old) schema.now None (map now_of files.now) (F.asked shelf.old) (F.asked shelf.new) }
 {
     match load_drill(alloc, shelf, schema, None, files) {
         Ok(loaded) => run_heat(rt, alloc, loaded, rounds, out, gate),

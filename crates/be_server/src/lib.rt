@@ -15,6 +15,7 @@ mod files;
 mod following;
 mod generated;
 mod heating;
+mod hubs;
 mod printing;
 mod run;
 mod scripts;

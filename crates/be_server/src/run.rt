@@ -9,11 +9,10 @@ ghost use Rattle.be_model.specs.Lies.{row_lies};
 ghost use Rattle.be_io.specs.Outside.{source_state, sink_state};
 ghost use Rattle.be_board.specs.Word.{own_in};
 ghost use Rattle.be_session.specs.Served.{SessionEnds, TakesWithin};
-ghost use Rattle.be_words.specs.Words.{run};
-ghost use Rattle.be_server.specs.Files.{AsksFor, run_files};
+ghost use Rattle.be_server.specs.Asked.{AsksInTurn};
+ghost use Rattle.be_server.specs.Files.{run_files};
 ghost use Rattle.be_server.specs.Promise.{command_state, link, RunEnds, SessionRuns};
 ghost use Rattle.be_server.specs.Status.{status_of};
-ghost use Rattle.be_server.specs.Words.{files_of};
 
 use crate::files::{Loaded, load_files};
 use crate::status::Status;
@@ -113,7 +112,7 @@ pub fn run<F: Shelf, S: Source, K: Sink>(
         (command_state (F.read_faults shelf.new) (source_state S.Source input.new) (sink_state K.Sink out.new))
         result }
     ensures within { TakesWithin (S.taken input.old) (S.taken input.new) }
-    ensures asked { AsksFor (files_of (Some (run schema.now (option_map now_of load.entry)))) (F.asked shelf.old) (F.asked shelf.new) }
+    ensures asked { AsksInTurn (F.content shelf.old) schema.now (option_map now_of load.entry) [] (F.asked shelf.old) (F.asked shelf.new) }
 {
     match load_files(alloc, shelf, schema, load) {
         Ok(loaded) => status_of(serve(alloc, loaded, input, out)),

@@ -6,8 +6,7 @@ ghost use Rattle.be_base.specs.Readers.{now_of};
 ghost use Rattle.be_base.specs.declared.limits.TheConstants.{FILE_BYTES};
 ghost use Rattle.be_model.specs.Lies.{row_lies};
 ghost use Rattle.be_server.specs.Drills.{LoadsScripts, LoadsDrill, drill_files};
-ghost use Rattle.be_server.specs.Files.{AsksFor};
-ghost use Rattle.be_server.specs.Words.{run_names};
+ghost use Rattle.be_server.specs.Asked.{AsksInOrder, AsksInTurn};
 
 use crate::files::{Loaded, load_files};
 use crate::status::Status;
@@ -35,7 +34,7 @@ pub fn load_drill<F: Shelf>(
     ensures lies { IfOk result (λ l. list_all (row_lies l.schema) l.rows.items ≡ true) }
     ensures count { IfOk result (λ l. length l.scripts.items ≡ length files.now) }
     ensures short { IfOk result (λ l. All (λ script. length script.items ≤ FILE_BYTES) l.scripts.items) }
-    ensures asked { AsksFor (run_names schema.now (option_map now_of load.entry) ++ map now_of files.now) (F.asked shelf.old) (F.asked shelf.new) }
+    ensures asked { AsksInTurn (F.content shelf.old) schema.now (option_map now_of load.entry) (map now_of files.now) (F.asked shelf.old) (F.asked shelf.new) }
 {
     let Loaded { schema, rows } = load_files(alloc, shelf, schema, load)?;
     let scripts = load_scripts(alloc, shelf, files)?;
@@ -55,7 +54,7 @@ fn load_scripts<F: Shelf>(
     ensures loads { LoadsScripts (map (F.content shelf.old) (map now_of names.now)) (F.read_faults shelf.old) (F.read_faults shelf.new) result }
     ensures count { IfOk result (λ scripts. length scripts.items ≡ length names.now) }
     ensures short { IfOk result (λ scripts. All (λ script. length script.items ≤ FILE_BYTES) scripts.items) }
-    ensures asked { AsksFor (map now_of names.now) (F.asked shelf.old) (F.asked shelf.new) }
+    ensures asked { AsksInOrder (F.content shelf.old) (map now_of names.now) (F.asked shelf.old) (F.asked shelf.new) }
 {
     let mut scripts = Vec::new(alloc);
     for name in names {

@@ -1,6 +1,6 @@
 //! The command `serve`: the links of a door, each as a session of its own, over one list.
 
-ghost use Rattle.std.specs.Prelude.{◌≡◌, ◌≤◌, ◌<◌, true, length, map, option_map, IfOk, IfErr};
+ghost use Rattle.std.specs.Prelude.{◌≡◌, ◌≤◌, ◌<◌, [], true, length, map, option_map, IfOk, IfErr};
 ghost use Rattle.std.specs.Arc.{arc_value};
 ghost use Rattle.std.specs.List.{list_all, range_with_len};
 ghost use Rattle.std.specs.Option.{is_some};
@@ -13,20 +13,20 @@ ghost use Rattle.be_io.specs.Outside.{link_state, sink_state};
 ghost use Rattle.be_mail.specs.Mailbox.{ForEachState};
 ghost use Rattle.be_mail.specs.Passes.{new_passes};
 ghost use Rattle.be_model.specs.Lies.{row_lies};
-ghost use Rattle.be_server.specs.Files.{AsksFor, run_files};
+ghost use Rattle.be_server.specs.Asked.{AsksInTurn};
+ghost use Rattle.be_server.specs.Files.{run_files};
 ghost use Rattle.be_server.specs.Serves.{FailsAt, RunsServe, ServeEnds};
-ghost use Rattle.be_server.specs.Words.{run_names};
 
 use crate::files::{Loaded, load_files};
+use crate::hubs::hub_over_trees;
 use crate::served::write_served;
 use crate::status::Status;
 use be_door::Door;
-use be_hub::{ServeFault, Served, open_hub};
+use be_hub::{ServeFault, Served};
 use be_io::{Gate, Link, Shelf, Sink};
 use be_mail::{BoxNames, Mail, MailPasses, Post, make_mail};
 use be_model::{Row, Schema};
 use be_published::{Naming, Opened};
-use be_tree::BeTree;
 use std::alloc::Global;
 use std::marker::Brand;
 use std::sync::{Arc, Wait};
@@ -58,7 +58,7 @@ pub fn serve<
     requires links { links ≤ LINKS }
     ensures ends { ServeEnds (link_state L.Source L.Sink) (out.new ≡ out.old) (run_files (F.content shelf.old) schema.now (option_map now_of load.entry)) port seats links
         (F.read_faults shelf.old) (F.read_faults shelf.new) (D.state door.old) (D.state door.new) (sink_state K.Sink out.old) (sink_state K.Sink out.new) result }
-    ensures asked { AsksFor (run_names schema.now (option_map now_of load.entry)) (F.asked shelf.old) (F.asked shelf.new) }
+    ensures asked { AsksInTurn (F.content shelf.old) schema.now (option_map now_of load.entry) [] (F.asked shelf.old) (F.asked shelf.new) }
 {
     match load_files(alloc, shelf, schema, load) {
         Ok(loaded) => run_serve(rt, alloc, loaded, port, seats, links, out, door, gate),
@@ -177,25 +177,7 @@ fn seated<
     ensures door { IfOk result (λ served. D.state door.new ≡ served_door (D.state door.old) port links seats served.sums (D.state door.new).kept) }
     ensures fault { IfErr result (λ fault. FailsAt (D.state door.old) (D.state door.new) port links seats fault) }
 {
-    let (Ok(a), Ok(b), Ok(kept)) = (
-        Arc::try_clone(schema),
-        Arc::try_clone(schema),
-        Arc::try_clone(schema),
-    ) else {
-        return Err(ServeFault::NoMemory);
-    };
-    let made = open_hub::<BeTree, J, S, R>(
-        rt,
-        alloc,
-        kept,
-        opened,
-        BeTree::make(alloc, a),
-        BeTree::make(alloc, b),
-        seats,
-        rows,
-        mail,
-        passes,
-    );
+    let made = hub_over_trees::<S, J, R>(rt, alloc, opened, schema, seats, rows, mail, passes);
     let Ok((hub, places)) = made else {
         return Err(ServeFault::NoMemory);
     };

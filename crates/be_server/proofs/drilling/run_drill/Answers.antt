@@ -1,4 +1,4 @@
-use Rattle.std.proofs.Common.{◌≡◌, map, sym, subst, ◌∙◌, rules}
+use Rattle.std.proofs.Common.{◌≡◌, map, subst, rules}
 use Rattle.std.specs.Arc.{arc_value}
 use Rattle.std.specs.Option.{is_some}
 use Rattle.be_change.specs.Opening.{opening_of}

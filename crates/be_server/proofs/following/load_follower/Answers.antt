@@ -1,5 +1,5 @@
 -- The file was asked for.
-use Rattle.be_server.proofs.FollowEnded.{asks_file}
+use Rattle.be_server.proofs.Asking.{asks_file}
 use Rattle.be_server.proofs.following.load_follower.Goals as goal
 
 pub returns-in-Err-clause-asked : goal.returns-in-Err-clause-asked

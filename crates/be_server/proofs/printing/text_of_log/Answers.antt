@@ -1,5 +1,4 @@
-use Rattle.std.proofs.Common.{◌≡◌, ◌++◌, ◌∷◌, [], Some, slice_get, ap, ◌∙◌, rules}
-use Rattle.std.specs.Arc.{arc_value}
+use Rattle.std.proofs.Common.{◌≡◌, Some, slice_get, rules}
 use Rattle.be_model.specs.Entries.{entry_of}
 use Rattle.be_model.specs.Lies.{entry_lies}
 use Rattle.be_server.proofs.DrillEnded.{stands_in, log_more}

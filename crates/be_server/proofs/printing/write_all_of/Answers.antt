@@ -1,4 +1,4 @@
-use Rattle.std.proofs.Common.{◌≡◌, ◌+◌, ◌++◌, ◌∷◌, [], drop, map, Err, Ok, ap, subst, ◌∙◌, arith, rules}
+use Rattle.std.proofs.Common.{◌≡◌, ◌+◌, ◌++◌, ◌∷◌, [], drop, map, Err, Ok, ap, subst, arith, rules}
 use Rattle.be_io.specs.Outside.{sink_state}
 use Rattle.be_io.specs.Sink.{Wrote}
 use Rattle.be_io.proofs.WroteLemmas.{Wrote-append}

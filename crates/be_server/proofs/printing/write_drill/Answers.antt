@@ -1,4 +1,4 @@
-use Rattle.std.proofs.Common.{◌≡◌, ◌++◌, List, ℕ, map, subst, ◌∙◌}
+use Rattle.std.proofs.Common.{◌++◌, List, ℕ, map, subst, ◌∙◌}
 use Rattle.std.specs.Option.{is_some}
 use Rattle.be_io.specs.Outside.{sink_state}
 use Rattle.be_io.specs.Sink.{Wrote}

@@ -1,4 +1,4 @@
-use Rattle.std.proofs.Common.{◌≡◌, ℕ, ◌+◌, ◌<◌, ◌≤◌, ◌++◌, ◌∷◌, [], Err, length, map, take, sym, ap, subst, ◌∙◌, arith, rules}
+use Rattle.std.proofs.Common.{◌≡◌, inr, ◌+◌, ◌≤◌, ◌++◌, ◌∷◌, [], Err, length, map, take, sym, ap, subst, ◌∙◌, arith, rules}
 use Rattle.std.specs.List.{All}
 use Rattle.std.proofs.lemmas.List.Elements.{All-push}
 use Rattle.std.proofs.lemmas.List.{length-map, map-append}
@@ -6,7 +6,8 @@ use Rattle.be_base.specs.Readers.{now_of}
 use Rattle.be_base.specs.declared.limits.TheConstants.{FILE_BYTES}
 use Rattle.be_server.specs.Drills.{AreScripts, LoadsScripts}
 use Rattle.be_server.specs.Status.{status_of_shelf}
-use Rattle.be_server.proofs.DrillEnded.{asks_refused_at, asks_first_at, asked_at, refused_at, read_at, scripts_count, was_pushed, take_end}
+use Rattle.be_server.proofs.Asking.{asks_file}
+use Rattle.be_server.proofs.DrillEnded.{asks_at, asks_all, asked_at, refused_at, read_at, scripts_count, was_pushed, take_end}
 use Rattle.be_server.proofs.scripts.load_scripts.Goals as goal
 
 pub returns-in_err-script-clause-loads : goal.returns-in_err-script-clause-loads
@@ -22,12 +23,19 @@ returns-in_err-script-clause-loads g c =
 
 pub returns-in_err-script-clause-asked : goal.returns-in_err-script-clause-asked
 returns-in_err-script-clause-asked g c =
-    asks_refused_at c.args.names.now c.loop-name.name-index _ c.loop-name-test.true (g.F.Shelf.asked c.args.shelf.now) (g.F.Shelf.asked c.loop-name.shelf) (g.F.Shelf.asked c.read_file.new.self)
-    c.in_err-script.field-0.0 c.loop-name.invariant.2 c.in_err-script.ensures.asked
+    asks_at c.args.names.now c.loop-name.name-index _ c.loop-name-test.true (g.F.Shelf.content c.args.shelf.now) (map (λ script. script.items) c.loop-name.scripts.items)
+    (g.F.Shelf.asked c.args.shelf.now) (g.F.Shelf.asked c.loop-name.shelf) (g.F.Shelf.asked c.read_file.new.self) c.loop-name.invariant.2 c.loop-name.invariant.3
+    (asks_file c.read_file.result (g.F.Shelf.asked c.loop-name.shelf) (g.F.Shelf.asked c.read_file.new.self) _ c.read_file.ensures.asked)
 
 pub returns-then-is_err-clause-asked : goal.returns-then-is_err-clause-asked
 returns-then-is_err-clause-asked g c =
-    asks_first_at c.args.names.now c.loop-name.name-index _ c.loop-name-test.true (g.F.Shelf.asked c.args.shelf.now) (g.F.Shelf.asked c.loop-name.shelf) (g.F.Shelf.asked c.read_file.new.self) c.loop-name.invariant.2 c.in_ok-script.ensures.asked
+    asks_at c.args.names.now c.loop-name.name-index _ c.loop-name-test.true (g.F.Shelf.content c.args.shelf.now) (map (λ script. script.items) c.loop-name.scripts.items)
+    (g.F.Shelf.asked c.args.shelf.now) (g.F.Shelf.asked c.loop-name.shelf) (g.F.Shelf.asked c.read_file.new.self) c.loop-name.invariant.2 c.loop-name.invariant.3 (inr c.in_ok-script.ensures.asked)
+
+pub returns-clause-asked : goal.returns-clause-asked
+returns-clause-asked g c =
+    asks_all c.args.names.now c.loop-name.name-index (g.F.Shelf.content c.args.shelf.now) (map (λ script. script.items) c.loop-name.scripts.items)
+    (g.F.Shelf.asked c.args.shelf.now) (g.F.Shelf.asked c.loop-name.shelf) (omega (arith, c.loop-name-test.false)) c.loop-name.invariant.2 c.loop-name.invariant.3
 
 pub loop-name-preserved : goal.loop-name-preserved
 loop-name-preserved g c =

@@ -1,6 +1,5 @@
 -- What was written is the list and the line of the links, or the text couldn't be made.
-use Rattle.std.proofs.Common.{◌≡◌, ◌∙◌, inr, subst}
-use Rattle.std.specs.Option.{is_some}
+use Rattle.std.proofs.Common.{◌∙◌, inr, subst}
 use Rattle.be_io.specs.Outside.{sink_state}
 use Rattle.be_io.specs.Sink.{Wrote}
 use Rattle.be_server.proofs.served.write_served.Goals as goal

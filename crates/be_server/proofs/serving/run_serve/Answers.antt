@@ -1,6 +1,5 @@
 -- The list was given and printed, over the schema that was read.
-use Rattle.std.proofs.Common.{◌≡◌, sym, subst, ◌∙◌, rules}
-use Rattle.std.specs.Arc.{arc_value}
+use Rattle.std.proofs.Common.{◌≡◌, sym, subst, rules}
 use Rattle.std.specs.Option.{is_some}
 use Rattle.be_change.specs.Opening.{opening_of}
 use Rattle.be_hub.specs.Serving.{LinksAreServed}
