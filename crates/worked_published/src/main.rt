@@ -46,7 +46,7 @@ fn main(rt: HostRuntime) -> io::Result<()> {
     println!(rt; "an opening is known from the beginning: {}", text(opened))?;
     let raced = race::readers_see_what_they_say(&rt, alloc, &schema);
     println!(rt;
-        "four readers beside a writer of 2000 changes find what their lengths say: {}",
+        "four readers beside a writer of 10000 changes find what their lengths say: {}",
         text(raced)
     )?;
     Ok(())

@@ -15,7 +15,7 @@ use std::marker::Brand;
 use std::sync::{Arc, Wait};
 use std::thread::{self, Threads};
 
-const CHANGES: u64 = 2_000;
+const CHANGES: u64 = 10_000;
 
 const READERS: u32 = 4;
 // A reader that has looked so often gives up.
