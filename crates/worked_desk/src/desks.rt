@@ -10,7 +10,6 @@ ghost use Rattle.be_index.specs.Rows.{plain_index};
 ghost use Rattle.be_mail.specs.Mailbox.{ForEachState};
 ghost use Rattle.be_mail.specs.Passes.{new_passes};
 
-use crate::balky::BalkyIndex;
 use crate::tables::table;
 use crate::{commands, texts};
 use be_base::{NoMemory, SEATS};
@@ -23,6 +22,7 @@ use be_tree::BeTree;
 use std::alloc::Global;
 use std::marker::Brand;
 use std::sync::{Arc, Wait};
+use worked_indexes::BalkyIndex;
 
 // How many seats a desk is to have, and what is asked there.
 #[derive(Drop)]

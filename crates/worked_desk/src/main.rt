@@ -4,7 +4,6 @@
 //! `commands.rt` what is asked, `seats.rt` what a seat asks.
 #![tactic(auto)]
 
-mod balky;
 mod commands;
 mod desks;
 mod seats;

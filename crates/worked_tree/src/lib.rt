@@ -12,8 +12,6 @@ mod looks;
 #[cfg(test)]
 mod moves;
 #[cfg(test)]
-mod plain_walk;
-#[cfg(test)]
 mod plan;
 #[cfg(test)]
 mod refused;

@@ -1,6 +1,5 @@
 //! Looks at a tree, beside a plain list.
 
-use crate::plain_walk::{Seen, look};
 use be_base::{AttrNo, NoMemory};
 use be_match::{cost_of, find_in};
 use be_model::{Event, Found, Row, Values};
@@ -8,6 +7,7 @@ use be_shape::Tree;
 use std::alloc::Global;
 use std::sync::Arc;
 use std::test::Fail;
+use worked_walks::{Seen, look};
 
 /// The visits and the tested rows of a search for these values of attributes, which rise.
 pub(crate) fn cost(alloc: Global, tree: &Tree, values: &[(u16, i64)]) -> Result<(u64, u64), Fail> {

@@ -1,7 +1,6 @@
 //! What is asked of a tree. `None` is an answer that no row wants.
 
 use crate::grown::row_of;
-use crate::plain_walk::{Seen, look};
 use be_base::AttrNo;
 use be_event::read_event;
 use be_match::{cost_of, find_in};
@@ -9,6 +8,7 @@ use be_model::{Cost, Found, Hop, Path, Schema};
 use be_shape::Tree;
 use std::alloc::Global;
 use std::sync::Arc;
+use worked_walks::{Seen, look};
 
 // A number that tells lists of rising ids apart.
 fn digest(ids: &[u64]) -> u64 {

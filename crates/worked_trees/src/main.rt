@@ -5,7 +5,6 @@
 
 mod grown;
 mod looks;
-mod plain_walk;
 mod scores;
 
 use be_base::NoMemory;

@@ -142,14 +142,17 @@ fn is_right_here(n: &Node, s: &Schema, way: &[Stage]) -> bool {
 
 /// What a walk through a tree sees.
 #[derive(Drop)]
-pub(crate) struct Seen {
+pub struct Seen {
     way: Vec<Stage>,
-    pub(crate) ids: Vec<u64>,
-    pub(crate) is_right: bool,
+    /// The ids of the rows, in the order of the walk.
+    pub ids: Vec<u64>,
+    /// Whether each node is placed, drawn, pruned and settled.
+    pub is_right: bool,
 }
 
 impl Seen {
-    pub(crate) fn make(alloc: Global) -> Seen {
+    /// Nothing was seen yet.
+    pub fn make(alloc: Global) -> Seen {
         Seen {
             way: Vec::new(alloc),
             ids: Vec::new(alloc),
@@ -168,9 +171,9 @@ impl Seen {
     }
 }
 
-// Looks at the node and at all below it.
+/// Looks at the node and at all below it.
 #[cycle(looks)]
-pub(crate) fn look(n: &Node, s: &Schema, seen: &mut Seen) -> Result<(), NoMemory> {
+pub fn look(n: &Node, s: &Schema, seen: &mut Seen) -> Result<(), NoMemory> {
     seen.note(n, s)?;
     for part in n.parts.as_slice() {
         look_in_part(part, s, seen)?;

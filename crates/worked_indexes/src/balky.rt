@@ -19,7 +19,9 @@ pub struct BalkyIndex<I: Index> {
 impl<I: Index> BalkyIndex<I> {
     /// It takes no memory.
     pub fn make(index: I, refuse: Vec<u64>) -> BalkyIndex<I>
-        ensures { result.index ≡ index }
+        ensures index { result.index ≡ index }
+        ensures refuse { result.refuse ≡ refuse }
+        ensures inserts { result.inserts ≡ 0 }
     {
         BalkyIndex {
             index,
