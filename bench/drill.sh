@@ -4,26 +4,30 @@
 # elapsed ones, less those of as many empty files. At 2 files on two cores 1.7 times the lines of 1 file are wanted, and beside
 # a writer 1.2 times the time at most; that is told where it isn't so. Other work on the machine spoils all of it, so its load
 # is told too, and the processor time of a line, which shows where files wait for each other by working. No part of the gate.
-#   bench/drill.sh [PUBS] [RUNS]
+# The PUBs are of `bench/workload.awk`, each of which finds some 26 subscriptions, or with the word `market` of `bench/market.awk`,
+# where it finds three.
+#   bench/drill.sh [PUBS] [RUNS] [market]
 # shellcheck source=common.sh
 . "$(dirname "${BASH_SOURCE[0]}")/common.sh"
 use_program
-pubs="${1:-300000}" runs="${2:-9}"
+pubs="${1:-300000}" runs="${2:-9}" kind="${3:-workload}"
 cores="$(nproc)"
 on_two=() on_four=()
 if taskset -c 0-1 true 2>/dev/null; then on_two=(taskset -c 0-1); fi
 if taskset -c 0-3 true 2>/dev/null; then on_four=(taskset -c 0-3); fi
 cd "$room" || exit 1
 
-awk -v what=schema -f "$top/bench/workload.awk" >schema.txt
-awk -v what=script -v subs=10000 -v events=0 -f "$top/bench/workload.awk" | sed 's/^SUB/ROW/' >load.txt
+awk -v what=schema -f "$top/bench/$kind.awk" >schema.txt
+awk -v what=script -v subs=10000 -v events=0 -f "$top/bench/$kind.awk" | sed 's/^SUB/ROW/' >load.txt
 # each file its own events
-awk -v what=script -v subs=1 -v events=$((4 * pubs)) -f "$top/bench/workload.awk" | sed 1d >events
+awk -v what=script -v subs=1 -v events=$((4 * pubs)) -f "$top/bench/$kind.awk" | sed 1d >events
 split -l "$pubs" --numeric-suffixes=1 -a 1 events reads
 : >none
 
-# writing CHANGES: a file of so many, of a condition that no event satisfies, since each event has one attribute
-writing() { awk -v most="$1" 'BEGIN { for (i = 1; i <= most / 2; i++) print "SUB w price < 5 and size < 5\nUNSUB w" }'; }
+# writing CHANGES: a file of so many, of a condition that no event satisfies, or hardly one
+other=size
+[ "$kind" = workload ] || other=volume
+writing() { awk -v most="$1" -v other="$other" 'BEGIN { for (i = 1; i <= most / 2; i++) print "SUB w price < 5 and " other " < 5\nUNSUB w" }'; }
 
 # took FILE..: the elapsed seconds and the processor seconds of one `drill` of them
 took() {
@@ -53,7 +57,7 @@ writing "$changes" >writes
 
 before="$(cut -d' ' -f1 /proc/loadavg)"
 for ((run = 0; run < runs; run++)); do round | paste -sd ' '; done >rows || exit 1
-awk -v pubs="$pubs" -v runs="$runs" -v changes="$changes" -v cores="$cores" -v before="$before" -v after="$(cut -d' ' -f1 /proc/loadavg)" '
+awk -v pubs="$pubs" -v runs="$runs" -v changes="$changes" -v kind="$kind" -v cores="$cores" -v before="$before" -v after="$(cut -d' ' -f1 /proc/loadavg)" '
     # the elapsed seconds of what stands at this place of a row, less those of the empty files; and the processor seconds
     function lasts(place, empty) { return $(2 * place - 1) - $(2 * empty - 1) }
     function works(place, empty) { return $(2 * place) - $(2 * empty) }
@@ -76,7 +80,7 @@ awk -v pubs="$pubs" -v runs="$runs" -v changes="$changes" -v cores="$cores" -v b
     }
     END {
         if (rows < runs) { print "a run failed"; exit 1 }
-        what = "of " pubs " PUBs over 10,000 subscriptions"
+        what = "of " pubs " PUBs over 10,000 subscriptions" (kind == "market" ? " like a market'\''s" : "")
         printf "`drill` of 1 file %s: %d lines a second\n", what, median(one)
         printf "of 2 files on two cores: %d lines a second, %.2f times as many\n", median(two), twice = median(by_two)
         printf "of 4 files on four: %d lines a second, %.2f times as many\n", median(four), median(by_four)

@@ -1,22 +1,20 @@
 -- Enough rows pass a test where few fail it, and an attribute that isn't used is had by rows that have one.
-use Rattle.std.proofs.Common.{◌≡◌, ℕ, zero, suc, ◌+◌, ◌-◌, ◌<◌, ◌≤◌, eqb, leb, Bool, true, false, true≢false, not, cond, ◌&&◌, ◌||◌, List, [], ◌∷◌, length, drop, take, slice_get, Some, refl, sym, ap, ◌∙◌, arith}
-use Rattle.std.specs.List.{list_any, count_by}
-use Rattle.std.proofs.lemmas.Bool.{leb-true, le-leb, lt-leb, eqb-true, or_left, or_right, false_from_ne_true}
+use Rattle.std.proofs.Common.{◌≡◌, ℕ, zero, suc, ◌+◌, ◌-◌, ◌<◌, ◌≤◌, eqb, leb, Bool, true, false, true≢false, not, cond, ◌&&◌, ◌||◌, List, [], ◌∷◌, length, drop, length-drop, slice_get, Some, refl, sym, ap, ◌∙◌, arith}
+use Rattle.std.specs.List.{count_by}
+use Rattle.std.proofs.lemmas.Bool.{leb-true, le-leb, lt-leb, or_left, or_right, or_from, and_from, not_from_false, false_from_ne_true}
 use Rattle.std.proofs.lemmas.Bool.Decides.{nat_tests}
-use Rattle.std.proofs.lemmas.List.{drop_more, get_or-take, length-take-le}
-use Rattle.std.proofs.lemmas.Option.{get_or_from_slice_get}
 use Rattle.std.proofs.lemmas.List.Sums.{sum_by-cons, count_by-le-length}
 use Rattle.be_base.specs.declared.names.AttrNo.{AttrNo}
 use Rattle.be_base.specs.declared.limits.TheConstants.{EARLY_ROWS}
 use Rattle.be_model.specs.declared.changes.Row.{Row}
 use Rattle.be_model.specs.declared.preds.Pred.{Pred}
-use Rattle.be_model.specs.Hulls.{is_on}
 use Rattle.be_model.specs.Rows.{has}
-use Rattle.be_model.specs.Schemas.{numbered}
 use Rattle.be_shape.specs.Shape.{is_used}
 use Rattle.be_shape.specs.Listed.{is_many, any_listed, attrs_of}
 use Rattle.be_shape.proofs.FewAttrs.{has_is_listed}
-use Rattle.be_plan.specs.Splits.{may_have, is_shared, any_is_shared, few_fail}
+use Rattle.be_plan.specs.Splits.{may_have, enough_share, is_shared, any_is_shared, few_fail}
+use Rattle.be_plan.proofs.Counts.{fewer, too_few}
+use Rattle.be_plan.proofs.Gains.{some_on}
 use Rattle.be_plan.proofs.Rows.{at_place}
 
 counted : (test : Row → Bool) (row : Row) (rows : List Row) → count_by test (row ∷ rows) ≡ cond (test row) 1 0 + count_by test rows
@@ -61,6 +59,13 @@ few_enough test rows l = few_is test (length rows - EARLY_ROWS) rows ∙ same
     same : leb (length rows) (count_by test rows + (length rows - EARLY_ROWS)) ≡ leb EARLY_ROWS (count_by test rows)
     same = grind (arith, nat_tests)
 
+-- the same of the rows from a place on
+pub from_enough : (test : Row → Bool) (rows : List Row) (from : ℕ) → from + EARLY_ROWS ≤ length rows → few_fail test (length rows - from - EARLY_ROWS) (drop from rows) ≡ leb EARLY_ROWS (count_by test (drop from rows))
+from_enough test rows from l =
+    let n = length-drop from rows in
+    let same : length rows - from - EARLY_ROWS ≡ length (drop from rows) - EARLY_ROWS = omega arith in
+    ap (λ m. few_fail test m (drop from rows)) same ∙ few_enough test (drop from rows) (omega arith)
+
 -- a step of the look at the rows
 pub passes_on : (test : Row → Bool) (spare i : ℕ) (x : Row) (rows : List Row) → slice_get rows i ≡ Some x → test x ≡ true → few_fail test spare (drop (i + 1) rows) ≡ few_fail test spare (drop i rows)
 passes_on test spare i x rows at t =
@@ -69,56 +74,6 @@ passes_on test spare i x rows at t =
 pub fails_on : (test : Row → Bool) (spare i : ℕ) (x : Row) (rows : List Row) → slice_get rows i ≡ Some x → test x ≡ false → few_fail test spare (drop i rows) ≡ cond (eqb spare 0) false (few_fail test (spare - 1) (drop (i + 1) rows))
 fails_on test spare i x rows at t =
     ap (few_fail test spare) (at_place rows i x at) ∙ ap (λ b. cond b (few_fail test spare (drop (i + 1) rows)) (cond (eqb spare 0) false (few_fail test (spare - 1) (drop (i + 1) rows)))) t
-
--- the row at a place of the front
-pub in_front_at : {X : Type 0} (xs : List X) (m i : ℕ) (x : X) → m ≤ length xs → i < m → slice_get xs i ≡ Some x → drop i (take m xs) ≡ x ∷ drop (i + 1) (take m xs)
-in_front_at xs m i x l j at =
-    drop_more (take m xs) i x (omega (arith, l, j, length-take-le m xs l)) ∙ ap (λ y. y ∷ drop (i + 1) (take m xs)) (get_or-take m xs i x j ∙ get_or_from_slice_get xs i x x at)
-
--- of 8 rows one is among all but the last 7
-in_front : {X : Type 0} (p : X → Bool) (xs : List X) (m : ℕ) → length xs ≤ m + 7 → 8 ≤ count_by p xs → list_any p (take m xs) ≡ true
-in_front p [] m l h = absurd (omega (arith, h))
-in_front p (x ∷ xs) zero l h = let c = count_by-le-length p (x ∷ xs) in absurd (omega (arith, l, h))
-in_front p (x ∷ xs) (suc m) l h = by_test (p x) refl (in_front p xs m (omega (arith, l))) (sum_by-cons (λ y. cond (p y) 1 0) x xs)
-  where
-    by_test : (b : Bool) → p x ≡ b → (8 ≤ count_by p xs → list_any p (take m xs) ≡ true) → count_by p (x ∷ xs) ≡ cond (p x) 1 0 + count_by p xs → (p x || list_any p (take m xs)) ≡ true
-    by_test true e on c = ap (λ t. t || list_any p (take m xs)) e
-    by_test false e on c =
-        let more : count_by p (x ∷ xs) ≡ 0 + count_by p xs = c ∙ ap (λ t. cond t 1 0 + count_by p xs) e in
-        or_right (p x) (list_any p (take m xs)) (on (omega (arith, h, more)))
-
--- a row that has the attribute shares it
-shares : (used : List AttrNo) (a : AttrNo) (rows : List Row) (conj : List Pred) → is_used used a ≡ false → leb EARLY_ROWS (count_by (has a) rows) ≡ true → list_any (is_on a) conj ≡ true → is_shared used rows conj ≡ true
-shares used a rows [] n h o = absurd (true≢false (sym o))
-shares used a rows (p ∷ conj) n h o = by_test (eqb p.attr.0 a.0) refl o (shares used a rows conj n h)
-  where
-    test : AttrNo → Bool
-    test b = not (is_used used b) && leb EARLY_ROWS (count_by (has b) rows)
-
-    by_test : (b : Bool) → eqb p.attr.0 a.0 ≡ b → (b || list_any (is_on a) conj) ≡ true → (list_any (is_on a) conj ≡ true → is_shared used rows conj ≡ true) → (test p.attr || is_shared used rows conj) ≡ true
-    by_test true e o on =
-        ap (λ i. test (numbered i) || is_shared used rows conj) (eqb-true p.attr.0 a.0 e) ∙ ap (λ t. (not t && leb EARLY_ROWS (count_by (has a) rows)) || is_shared used rows conj) n ∙ ap (λ t. t || is_shared used rows conj) h
-    by_test false e o on = or_right (test p.attr) (is_shared used rows conj) (on o)
-
-any_shares : (used : List AttrNo) (a : AttrNo) (rows front : List Row) → is_used used a ≡ false → leb EARLY_ROWS (count_by (has a) rows) ≡ true → list_any (has a) front ≡ true → list_any (λ (row : Row). is_shared used rows row.conj) front ≡ true
-any_shares used a rows [] n h o = absurd (true≢false (sym o))
-any_shares used a rows (row ∷ front) n h o = by_test (has a row) refl o (any_shares used a rows front n h)
-  where
-    by_test : (b : Bool) → has a row ≡ b → (b || list_any (has a) front) ≡ true → (list_any (has a) front ≡ true → list_any (λ (r : Row). is_shared used rows r.conj) front ≡ true)
-        → (is_shared used rows row.conj || list_any (λ (r : Row). is_shared used rows r.conj) front) ≡ true
-    by_test true e o on =
-        ap (λ t. t || list_any (λ (r : Row). is_shared used rows r.conj) front) (shares used a rows row.conj n h e)
-    by_test false e o on = or_right (is_shared used rows row.conj) (list_any (λ (r : Row). is_shared used rows r.conj) front) (on o)
-
--- where no attribute that isn't used is shared by enough of the rows, too few have this one
-pub too_few_share : (used : List AttrNo) (a : AttrNo) (rows : List Row) → is_used used a ≡ false → any_is_shared used rows ≡ false → leb EARLY_ROWS (count_by (has a) rows) ≡ false
-too_few_share used a rows n h = false_from_ne_true (leb EARLY_ROWS (count_by (has a) rows)) none
-  where
-    none : leb EARLY_ROWS (count_by (has a) rows) ≡ true → ⊥
-    none e =
-        let front = take (length rows - 7) rows in
-        let some = in_front (has a) rows (length rows - 7) (omega arith) (leb-true EARLY_ROWS (count_by (has a) rows) e) in
-        true≢false (sym (any_shares used a rows front n e some) ∙ h)
 
 -- a row that has the attribute may have it, for all that its place tells
 pub has_may : (a : AttrNo) (row : Row) → has a row ≡ true → may_have a row ≡ true
@@ -130,3 +85,48 @@ has_may a row h = by_many (is_many (attrs_of row.conj)) refl
     by_many : (b : Bool) → is_many (attrs_of row.conj) ≡ b → (is_many (attrs_of row.conj) || listed) ≡ true
     by_many true e = or_left (is_many (attrs_of row.conj)) listed e
     by_many false e = or_right (is_many (attrs_of row.conj)) listed (sym (has_is_listed row.conj a e) ∙ h)
+
+-- where 8 rows have an attribute that isn't used, the first of them shares it
+any_shares : (used : List AttrNo) (a : AttrNo) (rows rest : List Row) → is_used used a ≡ false → leb EARLY_ROWS (count_by (has a) rows) ≡ true → EARLY_ROWS ≤ count_by (has a) rest → any_is_shared used rows rest ≡ true
+any_shares used a rows [] n h l = absurd (omega (arith, l))
+any_shares used a rows (row ∷ rest) n h l = by_test (has a row) refl (any_shares used a rows rest n h) (counted (has a) row rest)
+  where
+    may : leb EARLY_ROWS (count_by (may_have a) (row ∷ rest)) ≡ true
+    may = let m = fewer (has a) (may_have a) (row ∷ rest) (has_may a) in le-leb EARLY_ROWS (count_by (may_have a) (row ∷ rest)) (omega arith)
+
+    here : enough_share used rows (row ∷ rest) a ≡ true
+    here =
+        and_from (not (is_used used a) && leb EARLY_ROWS (count_by (may_have a) (row ∷ rest))) (leb EARLY_ROWS (count_by (has a) rows))
+        (and_from (not (is_used used a)) (leb EARLY_ROWS (count_by (may_have a) (row ∷ rest))) (not_from_false (is_used used a) n) may) h
+
+    by_test : (b : Bool) → has a row ≡ b → (EARLY_ROWS ≤ count_by (has a) rest → any_is_shared used rows rest ≡ true) → count_by (has a) (row ∷ rest) ≡ cond (has a row) 1 0 + count_by (has a) rest
+        → (is_shared used rows (row ∷ rest) row.conj || any_is_shared used rows rest) ≡ true
+    by_test true e on c =
+        or_left (is_shared used rows (row ∷ rest) row.conj) (any_is_shared used rows rest) (some_on (enough_share used rows (row ∷ rest)) a row.conj here e)
+    by_test false e on c =
+        let less : count_by (has a) (row ∷ rest) ≡ 0 + count_by (has a) rest = c ∙ ap (λ t. cond t 1 0 + count_by (has a) rest) e in
+        or_right (is_shared used rows (row ∷ rest) row.conj) (any_is_shared used rows rest) (on (omega arith))
+
+-- where no attribute that isn't used is shared by enough of the rows, too few have this one
+pub too_few_share : (used : List AttrNo) (a : AttrNo) (rows : List Row) → is_used used a ≡ false → any_is_shared used rows rows ≡ false → leb EARLY_ROWS (count_by (has a) rows) ≡ false
+too_few_share used a rows n h = false_from_ne_true (leb EARLY_ROWS (count_by (has a) rows)) none
+  where
+    none : leb EARLY_ROWS (count_by (has a) rows) ≡ true → ⊥
+    none e = true≢false (sym (any_shares used a rows rows n e (leb-true EARLY_ROWS (count_by (has a) rows) e)) ∙ h)
+
+-- the last 7 rows share nothing of their own
+none_shared : (used : List AttrNo) (rows rest : List Row) (conj : List Pred) → length rest < EARLY_ROWS → is_shared used rows rest conj ≡ false
+none_shared used rows rest [] l = refl
+none_shared used rows rest (p ∷ conj) l =
+    let few = too_few (may_have p.attr) rest l in
+    let not_here = ap (λ t. (not (is_used used p.attr) && t) && leb EARLY_ROWS (count_by (has p.attr) rows)) few ∙ both (not (is_used used p.attr)) (leb EARLY_ROWS (count_by (has p.attr) rows)) in
+    or_from (enough_share used rows rest p.attr) (is_shared used rows rest conj) not_here (none_shared used rows rest conj l)
+  where
+    both : (b c : Bool) → ((b && false) && c) ≡ false
+    both true c = refl
+    both false c = refl
+
+pub last_share : (used : List AttrNo) (rows rest : List Row) → length rest < EARLY_ROWS → any_is_shared used rows rest ≡ false
+last_share used rows [] l = refl
+last_share used rows (row ∷ rest) l =
+    or_from (is_shared used rows (row ∷ rest) row.conj) (any_is_shared used rows rest) (none_shared used rows (row ∷ rest) row.conj l) (last_share used rows rest (omega (arith, l)))

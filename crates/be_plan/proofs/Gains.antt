@@ -79,7 +79,7 @@ heavy s from row (to ∷ attrs) l =
     ap (λ b. cond b (Some to) (find (gains s from row) attrs)) (lt-leb (weight s from row + SHIFT_GAIN) (weight s to row) (omega arith)) ∙ heavy s from row attrs l
 
 -- what holds of an attribute of a condition holds of some predicate's
-some_on : (test : AttrNo → Bool) (to : AttrNo) (conj : List Pred) → test to ≡ true → list_any (is_on to) conj ≡ true → list_any (λ (p : Pred). test p.attr) conj ≡ true
+pub some_on : (test : AttrNo → Bool) (to : AttrNo) (conj : List Pred) → test to ≡ true → list_any (is_on to) conj ≡ true → list_any (λ (p : Pred). test p.attr) conj ≡ true
 some_on test to [] t o = absurd (true≢false (sym o))
 some_on test to (p ∷ conj) t o = by_test (eqb p.attr.0 to.0) refl o (some_on test to conj t)
   where

@@ -106,7 +106,7 @@ still_half s k rows h t = by_range (can_split k.range) refl
     by_range false e = sym (halves s k.range rows false (enough_pass s Low k.range rows) (enough_pass s High k.range rows) e refl refl)
 
 -- no part is due where too few rows share an attribute that isn't used
-pub closed_part : (s : Attributes) (alpha : ℕ) (k : Known) (rows : List Row) → list_all (row_lies s) rows ≡ true → any_is_shared k.used rows ≡ false → None ≡ early_part s alpha k rows
+pub closed_part : (s : Attributes) (alpha : ℕ) (k : Known) (rows : List Row) → list_all (row_lies s) rows ≡ true → any_is_shared k.used rows rows ≡ false → None ≡ early_part s alpha k rows
 closed_part s alpha k rows lies h = by_pick (pick s rows k.used alpha) refl
   where
     by_pick : (o : Option AttrNo) → pick s rows k.used alpha ≡ o → None ≡ where_enough s k.range rows o

@@ -1,5 +1,5 @@
 -- The first splits at a node.
-use Rattle.std.specs.Prelude.{ℕ, ◌-◌, ◌==◌, ◌&&◌, ◌||◌, Bool, true, false, not, List, [], ◌∷◌, length, take, nat_le, count_by, Option, Some, None, if◌then◌else◌}
+use Rattle.std.specs.Prelude.{ℕ, ◌-◌, ◌==◌, ◌&&◌, ◌||◌, Bool, true, false, not, List, [], ◌∷◌, nat_le, count_by, Option, Some, None, if◌then◌else◌}
 use Rattle.std.specs.List.{list_any}
 use Rattle.be_base.specs.declared.names.AttrNo.{AttrNo}
 use Rattle.be_base.specs.declared.limits.TheConstants.{EARLY_ROWS}
@@ -27,17 +27,19 @@ may_list a l = is_many l || any_listed (λ b. b.0 == a.0) l
 abbrev pub may_have : AttrNo → Row → Bool
 may_have a row = may_list a (attrs_of row.conj)
 
--- the attribute isn't used, and at least 8 rows have it
-abbrev pub enough_share : List AttrNo → List Row → AttrNo → Bool
-enough_share used rows a = not (is_used used a) && nat_le EARLY_ROWS (count_by (has a) rows)
+-- the attribute isn't used, at least 8 rows have it, and of the rows from some place on they may
+abbrev pub enough_share : List AttrNo → List Row → List Row → AttrNo → Bool
+enough_share used rows rest a =
+    (not (is_used used a) && nat_le EARLY_ROWS (count_by (may_have a) rest)) && nat_le EARLY_ROWS (count_by (has a) rows)
 
-abbrev pub is_shared : List AttrNo → List Row → List Pred → Bool
-is_shared used rows conj = list_any (λ (p : Pred). enough_share used rows p.attr) conj
+abbrev pub is_shared : List AttrNo → List Row → List Row → List Pred → Bool
+is_shared used rows rest conj = list_any (λ (p : Pred). enough_share used rows rest p.attr) conj
 
--- such an attribute is one of the first rows', which are all but 7
-abbrev pub any_is_shared : List AttrNo → List Row → Bool
-any_is_shared used rows =
-    list_any (λ (row : Row). is_shared used rows row.conj) (take (length rows - (EARLY_ROWS - 1)) rows)
+-- that holds of an attribute of some row and the rows from it on
+abbrev pub any_is_shared : List AttrNo → List Row → List Row → Bool
+any_is_shared used rows [] = false
+any_is_shared used rows (row ∷ rest) =
+    is_shared used rows (row ∷ rest) row.conj || any_is_shared used rows rest
 
 -- at most so many rows fail the test
 abbrev pub few_fail : (Row → Bool) → ℕ → List Row → Bool

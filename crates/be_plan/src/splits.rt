@@ -1,6 +1,6 @@
 //! The first splits at a node.
 
-ghost use Rattle.std.specs.Prelude.{◌≡◌, ◌≤◌, ◌-◌, ◌||◌, true, not, length, nat_le, slice_get, Some};
+ghost use Rattle.std.specs.Prelude.{◌≡◌, ◌≤◌, ◌+◌, ◌-◌, ◌||◌, true, not, length, drop, nat_le, slice_get, Some};
 ghost use Rattle.std.specs.List.{count_by, list_all};
 ghost use Rattle.be_base.specs.declared.limits.TheConstants.{EARLY_ROWS, LEAF_ROWS};
 ghost use Rattle.be_model.specs.Lies.{row_lies};
@@ -68,13 +68,13 @@ fn may_have(leaf: &Leaf, place: usize, row: &Row, a: AttrNo) -> bool
     may_list(leaf.attrs(place), a)
 }
 
-// Whether that holds of at least 8 rows of the leaf. No row is looked at.
-fn enough_may_have(a: AttrNo, leaf: &Leaf) -> bool
-    requires many { EARLY_ROWS ≤ length leaf.now }
-    ensures { result ≡ nat_le EARLY_ROWS (count_by (may_have a) leaf.now) }
+// Whether that holds of at least 8 rows of the leaf, from this place on. No row is looked at.
+fn enough_may_have(a: AttrNo, from: usize, leaf: &Leaf) -> bool
+    requires { from + EARLY_ROWS ≤ length leaf.now }
+    ensures { result ≡ nat_le EARLY_ROWS (count_by (may_have a) (drop from leaf.now)) }
 {
-    let mut spare = spare_rows(leaf);
-    for place in 0..leaf.len() {
+    let mut spare = leaf.len() - from - EARLY_ROWS;
+    for place in from..leaf.len() {
         if !may_have(leaf, place, leaf.row(place), a) {
             if spare == 0 {
                 return false;
@@ -85,99 +85,100 @@ fn enough_may_have(a: AttrNo, leaf: &Leaf) -> bool
     true
 }
 
-// Whether the attribute isn't used, and at least 8 rows of the leaf have it.
-fn enough_share(a: AttrNo, leaf: &Leaf, s: &Schema, k: &Spot) -> bool
+// Whether the attribute isn't used, at least 8 rows of the leaf have it, and from this place on they may. Where the row at
+// the place is the first that has it, they do.
+fn enough_share(a: AttrNo, from: usize, leaf: &Leaf, s: &Schema, k: &Spot) -> bool
     requires lie { list_all (row_lies s.now) leaf.now ≡ true }
-    requires many { EARLY_ROWS ≤ length leaf.now }
-    ensures { result ≡ enough_share (known_of k.now).used leaf.now a }
+    requires many { from + EARLY_ROWS ≤ length leaf.now }
+    ensures { result ≡ enough_share (known_of k.now).used leaf.now (drop from leaf.now) a }
 {
     !is_used(k.used.as_slice(), a)
-        && enough_may_have(a, leaf)
+        && enough_may_have(a, from, leaf)
         && enough_pass(leaf, s, Hop::Part(a), k.range)
 }
 
-// Whether at least 8 rows of the leaf have an attribute of these predicates that isn't used.
-fn is_shared(preds: &[Pred], leaf: &Leaf, s: &Schema, k: &Spot) -> bool
+// Whether that holds of the attribute of one of these predicates.
+fn is_shared(preds: &[Pred], from: usize, leaf: &Leaf, s: &Schema, k: &Spot) -> bool
     requires lie { list_all (row_lies s.now) leaf.now ≡ true }
-    requires many { EARLY_ROWS ≤ length leaf.now }
-    ensures { result ≡ is_shared (known_of k.now).used leaf.now preds.now }
+    requires many { from + EARLY_ROWS ≤ length leaf.now }
+    ensures { result ≡ is_shared (known_of k.now).used leaf.now (drop from leaf.now) preds.now }
 {
     for pred in preds {
-        if enough_share(pred.attr, leaf, s, k) {
+        if enough_share(pred.attr, from, leaf, s, k) {
             return true;
         }
     }
     false
 }
 
-// Whether the attribute of this number isn't used, and at least 8 rows of the leaf have it.
-fn shares_one(x: u8, leaf: &Leaf, s: &Schema, k: &Spot) -> bool
+// Whether that holds of the attribute of this number.
+fn shares_one(x: u8, from: usize, leaf: &Leaf, s: &Schema, k: &Spot) -> bool
     requires lie { list_all (row_lies s.now) leaf.now ≡ true }
-    requires many { EARLY_ROWS ≤ length leaf.now }
-    ensures { result ≡ enough_share (known_of k.now).used leaf.now (numbered x) }
+    requires many { from + EARLY_ROWS ≤ length leaf.now }
+    ensures { result ≡ enough_share (known_of k.now).used leaf.now (drop from leaf.now) (numbered x) }
 {
-    enough_share(AttrNo(u16::from(x)), leaf, s, k)
+    enough_share(AttrNo(u16::from(x)), from, leaf, s, k)
 }
 
-fn shares_two(x: u8, y: u8, leaf: &Leaf, s: &Schema, k: &Spot) -> bool
+fn shares_two(x: u8, y: u8, from: usize, leaf: &Leaf, s: &Schema, k: &Spot) -> bool
     requires lie { list_all (row_lies s.now) leaf.now ≡ true }
-    requires many { EARLY_ROWS ≤ length leaf.now }
-    ensures { result ≡ (enough_share (known_of k.now).used leaf.now (numbered x) || enough_share (known_of k.now).used leaf.now (numbered y)) }
+    requires many { from + EARLY_ROWS ≤ length leaf.now }
+    ensures { result ≡ (enough_share (known_of k.now).used leaf.now (drop from leaf.now) (numbered x) || enough_share (known_of k.now).used leaf.now (drop from leaf.now) (numbered y)) }
 {
-    if shares_one(x, leaf, s, k) {
+    if shares_one(x, from, leaf, s, k) {
         return true;
     }
-    shares_one(y, leaf, s, k)
+    shares_one(y, from, leaf, s, k)
 }
 
-fn shares_three(x: u8, y: u8, z: u8, leaf: &Leaf, s: &Schema, k: &Spot) -> bool
+fn shares_three(x: u8, y: u8, z: u8, from: usize, leaf: &Leaf, s: &Schema, k: &Spot) -> bool
     requires lie { list_all (row_lies s.now) leaf.now ≡ true }
-    requires many { EARLY_ROWS ≤ length leaf.now }
-    ensures { result ≡ (enough_share (known_of k.now).used leaf.now (numbered x) || enough_share (known_of k.now).used leaf.now (numbered y) || enough_share (known_of k.now).used leaf.now (numbered z)) }
+    requires many { from + EARLY_ROWS ≤ length leaf.now }
+    ensures { result ≡ (enough_share (known_of k.now).used leaf.now (drop from leaf.now) (numbered x) || enough_share (known_of k.now).used leaf.now (drop from leaf.now) (numbered y) || enough_share (known_of k.now).used leaf.now (drop from leaf.now) (numbered z)) }
 {
-    if shares_two(x, y, leaf, s, k) {
+    if shares_two(x, y, from, leaf, s, k) {
         return true;
     }
-    shares_one(z, leaf, s, k)
+    shares_one(z, from, leaf, s, k)
 }
 
 // Whether that holds of one of the attributes.
-fn shares_any(attrs: RowAttrs, leaf: &Leaf, s: &Schema, k: &Spot) -> bool
+fn shares_any(attrs: RowAttrs, from: usize, leaf: &Leaf, s: &Schema, k: &Spot) -> bool
     requires lie { list_all (row_lies s.now) leaf.now ≡ true }
-    requires many { EARLY_ROWS ≤ length leaf.now }
-    ensures { result ≡ any_listed (enough_share (known_of k.now).used leaf.now) attrs }
+    requires many { from + EARLY_ROWS ≤ length leaf.now }
+    ensures { result ≡ any_listed (enough_share (known_of k.now).used leaf.now (drop from leaf.now)) attrs }
 {
     match attrs {
         RowAttrs::Zero => false,
-        RowAttrs::One(x) => shares_one(x, leaf, s, k),
-        RowAttrs::Two(x, y) => shares_two(x, y, leaf, s, k),
-        RowAttrs::Three(x, y, z) => shares_three(x, y, z, leaf, s, k),
+        RowAttrs::One(x) => shares_one(x, from, leaf, s, k),
+        RowAttrs::Two(x, y) => shares_two(x, y, from, leaf, s, k),
+        RowAttrs::Three(x, y, z) => shares_three(x, y, z, from, leaf, s, k),
         RowAttrs::Many => false,
     }
 }
 
-// Whether at least 8 rows of the leaf have an attribute of the row, which stands at this place, that isn't used. A row of few
-// attributes isn't looked at.
+// Whether that holds of an attribute of the row, which stands at this place. A row of few attributes isn't looked at.
 #[tactic(auto, using(be_shape::proofs::FewAttrs::any_is_listed, std::proofs::lemmas::Option::slice_get_within))]
 fn is_row_shared(place: usize, row: &Row, leaf: &Leaf, s: &Schema, k: &Spot) -> bool
     requires at { slice_get leaf.now place ≡ Some row.now }
     requires lie { list_all (row_lies s.now) leaf.now ≡ true }
-    requires many { EARLY_ROWS ≤ length leaf.now }
-    ensures { result ≡ is_shared (known_of k.now).used leaf.now row.now.conj }
+    requires many { place + EARLY_ROWS ≤ length leaf.now }
+    ensures { result ≡ is_shared (known_of k.now).used leaf.now (drop place leaf.now) row.now.conj }
 {
     let attrs = leaf.attrs(place);
     if attrs.is_many() {
-        is_shared(row.conj.preds(), leaf, s, k)
+        is_shared(row.conj.preds(), place, leaf, s, k)
     } else {
-        shares_any(attrs, leaf, s, k)
+        shares_any(attrs, place, leaf, s, k)
     }
 }
 
-// Whether at least 8 rows of the leaf have some attribute that isn't used. Of 8 rows one is among all but the last 7.
+// Whether at least 8 rows of the leaf have some attribute that isn't used. The first row that has it
+// is among all but the last 7.
 fn any_is_shared(leaf: &Leaf, s: &Schema, k: &Spot) -> bool
     requires lie { list_all (row_lies s.now) leaf.now ≡ true }
     requires many { EARLY_ROWS ≤ length leaf.now }
-    ensures { result ≡ any_is_shared (known_of k.now).used leaf.now }
+    ensures { result ≡ any_is_shared (known_of k.now).used leaf.now leaf.now }
 {
     for place in 0..leaf.len() - (EARLY_ROWS - 1) {
         if is_row_shared(place, leaf.row(place), leaf, s, k) {

@@ -3,7 +3,7 @@ use Rattle.std.specs.Arc.{arc_value}
 use Rattle.std.proofs.lemmas.Bool.{ne_eqb}
 use Rattle.std.proofs.lemmas.List.{at_drop_all}
 use Rattle.be_plan.specs.Splits.{may_have, few_fail}
-use Rattle.be_plan.proofs.Fails.{few_enough, passes_on, fails_on}
+use Rattle.be_plan.proofs.Fails.{from_enough, passes_on, fails_on}
 use Rattle.be_plan.proofs.splits.enough_may_have.Goals.{then-not-may_have+else-spare-eq0, else-not-may_have}
 use Rattle.be_plan.proofs.splits.enough_may_have.Goals as goal
 
@@ -15,7 +15,7 @@ returns-then-spare-eq0 c =
     let x = arc_value c.row.result.now in
     let fails = ap test (sym c.deref.ensures) ∙ sym c.may_have.ensures ∙ c.if-not-may_have.true in
     let none = fails_on test c.loop-place.spare i x leaf c.row.ensures fails ∙ ap (λ n. cond (eqb n 0) false (few_fail test (n - 1) (drop (i + 1) leaf))) c.if-spare-eq0.true in
-    sym (sym (few_enough test leaf c.requires.many) ∙ sym c.loop-place.invariant ∙ none)
+    sym (sym (from_enough test leaf c.args.from c.requires) ∙ sym c.loop-place.invariant ∙ none)
 
 pub loop-place-preserved : goal.loop-place-preserved
 loop-place-preserved c =
@@ -40,4 +40,4 @@ returns c =
     let leaf = c.args.leaf.now in
     let i = c.loop-place.place in
     let all : length leaf ≤ i = omega (arith, c.len-place-end.ensures, c.loop-place-test.false) in
-    sym (sym (few_enough test leaf c.requires.many) ∙ sym c.loop-place.invariant ∙ at_drop_all (few_fail test c.loop-place.spare) leaf i all)
+    sym (sym (from_enough test leaf c.args.from c.requires) ∙ sym c.loop-place.invariant ∙ at_drop_all (few_fail test c.loop-place.spare) leaf i all)

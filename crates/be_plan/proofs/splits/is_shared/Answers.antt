@@ -6,7 +6,7 @@ use Rattle.be_plan.proofs.splits.is_shared.Goals as goal
 
 pub returns-then-enough_share : goal.returns-then-enough_share
 returns-then-enough_share c =
-    let shared = is_shared (known_of c.args.k.now).used c.args.leaf.now in
+    let shared = is_shared (known_of c.args.k.now).used c.args.leaf.now (drop c.args.from c.args.leaf.now) in
     let preds = c.args.preds.now in
     let i = c.loop-pred.pred-index in
     let at = drop_more preds i c.pred-item.result c.loop-pred-test.true ∙ ap (λ p. p ∷ drop (i + 1) preds) (sym c.pred-item.is) in
@@ -14,7 +14,7 @@ returns-then-enough_share c =
 
 pub loop-pred-preserved : goal.loop-pred-preserved
 loop-pred-preserved c =
-    let shared = is_shared (known_of c.args.k.now).used c.args.leaf.now in
+    let shared = is_shared (known_of c.args.k.now).used c.args.leaf.now (drop c.args.from c.args.leaf.now) in
     let preds = c.args.preds.now in
     let i = c.loop-pred.pred-index in
     let at = drop_more preds i c.pred-item.result c.loop-pred-test.true ∙ ap (λ p. p ∷ drop (i + 1) preds) (sym c.pred-item.is) in

@@ -1,11 +1,11 @@
-use Rattle.std.proofs.Common.{◌||◌, sym, ap, ◌∙◌}
+use Rattle.std.proofs.Common.{drop, ◌||◌, sym, ap, ◌∙◌}
 use Rattle.be_model.specs.Schemas.{numbered}
 use Rattle.be_shape.specs.Spots.{known_of}
 use Rattle.be_plan.specs.Splits.{enough_share}
 use Rattle.be_plan.proofs.splits.shares_three.Goals as goal
 
 pub returns-then-shares_two : goal.returns-then-shares_two
-returns-then-shares_two c = sym (ap (λ b. b || enough_share (known_of c.args.k.now).used c.args.leaf.now (numbered c.args.z)) (sym c.shares_two.ensures ∙ c.if-shares_two.true))
+returns-then-shares_two c = sym (ap (λ b. b || enough_share (known_of c.args.k.now).used c.args.leaf.now (drop c.args.from c.args.leaf.now) (numbered c.args.z)) (sym c.shares_two.ensures ∙ c.if-shares_two.true))
 
 pub returns : goal.returns
-returns c = c.shares_one.ensures ∙ sym (ap (λ b. b || enough_share (known_of c.args.k.now).used c.args.leaf.now (numbered c.args.z)) (sym c.shares_two.ensures ∙ c.if-shares_two.false))
+returns c = c.shares_one.ensures ∙ sym (ap (λ b. b || enough_share (known_of c.args.k.now).used c.args.leaf.now (drop c.args.from c.args.leaf.now) (numbered c.args.z)) (sym c.shares_two.ensures ∙ c.if-shares_two.false))
