@@ -1,5 +1,4 @@
-//! The limits of the product. Those of generated runs, of feeds, of seats and links, of letters and of reshaping are for what
-//! is still to come (docs/promises.md says what is open).
+//! The limits of the product.
 
 /// Bytes of a name.
 pub const NAME_BYTES: usize = 64;
@@ -46,7 +45,7 @@ pub const COUNT_END: u64 = 9223372036854775808;
 /// The size that larger whole numbers in texts are read as: 2^40, which no domain holds.
 pub const INT_SIZE: u64 = 1099511627776;
 
-/// The rows of a leaf that may still be split.
+/// The rows that a leaf may have. One that has more has stuck rows alone.
 pub const LEAF_ROWS: usize = 16;
 
 /// The rows of a node, and of all below it, that may be merged into the node above.
