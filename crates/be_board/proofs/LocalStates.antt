@@ -1,5 +1,5 @@
 -- What the calls of a local board leave.
-use Rattle.std.proofs.Common.{◌≡◌, List, [], ◌∷◌, take, map, Some, refl, sym, ap, ◌∙◌, subst, arith}
+use Rattle.std.proofs.Common.{◌≡◌, ℕ, List, [], ◌∷◌, take, map, Some, refl, sym, ap, ◌∙◌, subst, arith}
 use Rattle.std.specs.Prelude.{All}
 use Rattle.std.proofs.lemmas.List.{take-append-le}
 use Rattle.std.proofs.lemmas.List.Elements.{All-nil, All-cons, All-head, All-tail}
@@ -18,11 +18,11 @@ use Rattle.be_change.proofs.Placed.{placed_kept}
 use Rattle.be_change.proofs.Places.{no_places}
 use Rattle.be_board.proofs.LocalLists.{none_opened}
 use Rattle.be_board.specs.declared.answers.Answer.{Answer}
-use Rattle.be_board.specs.declared.answers.Answer.TheVariants.{Done, Held, Split, NoMemory}
-use Rattle.be_board.specs.Word.{IsDelivered}
+use Rattle.be_board.specs.declared.answers.Answer.TheVariants.{Done, Held, Dup, NoName, Other, Split, NoMemory}
+use Rattle.be_board.specs.Word.{Word, IsDelivered}
 use Rattle.be_board.proofs.Delivered.{delivered_along}
 use Rattle.be_board.specs.Letters.{IsLetterFor, note_of, Fetches}
-use Rattle.be_board.specs.Changes.{Asked, AnswersAlone}
+use Rattle.be_board.specs.Changes.{Asked, AnswersAlone, CountsSplit}
 use Rattle.be_board.specs.LocalCopy.{local_word, IsAnswered}
 use Rattle.be_board.specs.Local.{Local, local_state, opened_state, IsLocalLetter}
 
@@ -44,6 +44,16 @@ pub record LeavesRest {X : Type 0} (b b' : Local X) : Type 0 where
   pub fulls : b'.fulls ≡ b.fulls
   pub empties : b'.empties ≡ b.empties
 
+-- nobody is told two numbers
+never_split : (w w' : Word) (r : Request) (answer : Answer) (n : ℕ) → AnswersAlone w w' r answer → CountsSplit answer n n
+never_split w w' r (Split seen written) n a = absurd a
+never_split w w' r (Done m) n a = refl
+never_split w w' r (Held m) n a = refl
+never_split w w' r (Dup m id) n a = refl
+never_split w w' r (NoName m) n a = refl
+never_split w w' r (Other m id) n a = refl
+never_split w w' r NoMemory n a = refl
+
 asked_local : {X : Type 0} (s s' : Attributes) (b b' : Local X) (r : Request) (answer : Answer) → s' ≡ s → IsAnswered b.list b'.list r answer → IsWellFormed b'.list → LeavesRest b b'
     → Asked (local_state s b) (local_state s' b') r answer
 asked_local s s' b b' r answer same a formed rest = record {
@@ -58,7 +68,7 @@ asked_local s s' b b' r answer same a formed rest = record {
   letters = record { notes = refl; box = ap (λ (l : List PlainLetter). Some (map note_of l)) rest.letters; puts = refl; fulls = rest.fulls };
   formed = formed;
   answers = a.answers;
-  split = λ seen written e. absurd (subst (λ (x : Answer). AnswersAlone (local_word b.list) (local_word b'.list) r x) e a.alone);
+  split = never_split (local_word b.list) (local_word b'.list) r answer _ a.alone;
   alone = λ _. a.alone;
 }
 

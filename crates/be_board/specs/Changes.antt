@@ -53,11 +53,16 @@ AnswersAlone w w' r (Split seen written) = ⊥
 AnswersAlone w w' (unsubscribe name) NoMemory = (w'.known ≡ w.known) × (is_live_name_of w.session name (live w.known) ≡ true)
 AnswersAlone w w' r answer = w'.known ≡ w.known
 
+-- that two numbers differ is counted where it is told, and nowhere else
+abbrev pub CountsSplit : Answer → ℕ → ℕ → Type 0
+CountsSplit (Split seen written) c c' = HasRisen c c'
+CountsSplit answer c c' = c' ≡ c
+
 -- a change was asked for, and answered so. What is known then is well formed
 pub record Asked (b b' : BoardState) (r : Request) (answer : Answer) : Type 0 where
   pub goes : GoesOn b b'
   pub letters : LeavesLetters b b'
   pub formed : IsWellFormed b'.word.known
   pub answers : Answers b.word b'.word r answer
-  pub split : (seen written : ℕ) → answer ≡ Split seen written → HasRisen b.counts.splits b'.counts.splits
+  pub split : CountsSplit answer b.counts.splits b'.counts.splits
   pub alone : b.alone ≡ true → AnswersAlone b.word b'.word r answer

@@ -1,6 +1,6 @@
 -- What the desk answers, as the board of the seat's session says it.
 use Rattle.std.proofs.Common.{◌≡◌, ℕ, ◌≤◌, map, refl, sym, ap, subst, arith}
-use Rattle.be_base.specs.Counts.{last_count, HasRisen}
+use Rattle.be_base.specs.Counts.{last_count}
 use Rattle.be_model.specs.Schemas.{Attributes}
 use Rattle.be_change.specs.History.{IsWellFormed}
 use Rattle.be_change.specs.Requests.{Request}
@@ -9,7 +9,7 @@ use Rattle.be_board.specs.declared.answers.Answer.TheVariants.{Done, Held, Dup, 
 use Rattle.be_mail.specs.Letters.{letter_in}
 use Rattle.be_mail.specs.Passes.{Passes}
 use Rattle.be_published.specs.States.{GlassState}
-use Rattle.be_board.specs.Changes.{Asked, Answers}
+use Rattle.be_board.specs.Changes.{Asked, Answers, CountsSplit}
 use Rattle.be_desk.specs.Boards.{board_of, put_count}
 use Rattle.be_desk.specs.Changes.{Continues, Counts}
 use Rattle.be_desk.specs.Seats.{SeatState, word_of}
@@ -24,12 +24,15 @@ splits_grow s s' (NoName m) c most = omega (arith, c.0)
 splits_grow s s' (Other m id) c most = omega (arith, c.0)
 splits_grow s s' NoMemory c most = omega (arith, c.0)
 
--- and rises where two numbers were told
-split_risen : (s s' : SeatState) (answer : Answer) (a b : ℕ) → Counts s s' answer → answer ≡ Split a b → HasRisen s.splits s'.splits
-split_risen s s' answer a b c is = risen (subst (λ (x : Answer). Counts s s' x) is c)
-  where
-    risen : Counts s s' (Split a b) → HasRisen s.splits s'.splits
-    risen c = omega (arith, c.0)
+-- and rises where two numbers were told, and there alone
+split_counted : (s s' : SeatState) (answer : Answer) → Counts s s' answer → CountsSplit answer s.splits s'.splits
+split_counted s s' (Split a b) c = omega (arith, c.0)
+split_counted s s' (Done n) c = c.0
+split_counted s s' (Held n) c = c.0
+split_counted s s' (Dup m id) c = c.0
+split_counted s s' (NoName m) c = c.0
+split_counted s s' (Other m id) c = c.0
+split_counted s s' NoMemory c = c.0
 
 pub asked : (schema : Attributes) (tends : ℕ) (s s' : SeatState) (r : Request) (answer : Answer) → Continues s s' → Counts s s' answer → Answers (word_of s) (word_of s') r answer → IsWellFormed s'.glass.known → s.splits ≤ last_count
     → Asked (board_of schema tends s) (board_of schema tends s') r answer
@@ -63,6 +66,6 @@ asked schema tends s s' r answer goes counts answers formed most =
       };
       formed = formed;
       answers = answers;
-      split = λ a b is. split_risen s s' answer a b counts is;
+      split = split_counted s s' answer counts;
       alone = λ is. absurd cc;
     }

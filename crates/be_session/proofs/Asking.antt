@@ -290,7 +290,7 @@ subscribe_replies s b b' name conj answer q = by answer q
     by (Dup m id) p = changed s (subscribe name conj) (dup m id) (Dup m id) b b' p (subscribe_steps s b b' name conj (Dup m id) p) refl refl refl (λ e. absurd cc) refl (λ h box. (tt, refl))
     by (NoName m) p = absurd p.answers
     by (Other m id) p = absurd p.answers
-    by (Split i j) p = changed s (subscribe name conj) (split i j) (Split i j) b b' p (subscribe_steps s b b' name conj (Split i j) p) refl refl refl (λ e. p.split i j refl) refl (λ h box. (tt, refl))
+    by (Split i j) p = changed s (subscribe name conj) (split i j) (Split i j) b b' p (subscribe_steps s b b' name conj (Split i j) p) refl refl refl (λ e. p.split) refl (λ h box. (tt, refl))
     by NoMemory p = changed s (subscribe name conj) no_memory NoMemory b b' p (subscribe_steps s b b' name conj NoMemory p) refl refl refl (λ e. absurd cc) refl (λ h box. (tt, refl))
 
 pub unsubscribe_replies : (s : Attributes) (b b' : BoardState) (name : Text) (answer : Answer) → Asked b b' (unsubscribe name) answer → Replies s (unsubscribe name, reply_of answer) b b'
@@ -302,7 +302,7 @@ unsubscribe_replies s b b' name answer q = by answer q
     by (Dup m id) p = absurd p.answers
     by (NoName m) p = changed s (unsubscribe name) (none m) (NoName m) b b' p (unsubscribe_steps s b b' name (NoName m) p) refl refl refl (λ e. absurd cc) refl (λ h box. (tt, refl))
     by (Other m id) p = changed s (unsubscribe name) (other m id) (Other m id) b b' p (unsubscribe_steps s b b' name (Other m id) p) refl refl refl (λ e. absurd cc) refl (λ h box. (tt, refl))
-    by (Split i j) p = changed s (unsubscribe name) (split i j) (Split i j) b b' p (unsubscribe_steps s b b' name (Split i j) p) refl refl refl (λ e. p.split i j refl) refl (λ h box. (tt, refl))
+    by (Split i j) p = changed s (unsubscribe name) (split i j) (Split i j) b b' p (unsubscribe_steps s b b' name (Split i j) p) refl refl refl (λ e. p.split) refl (λ h box. (tt, refl))
     by NoMemory p = changed s (unsubscribe name) no_memory NoMemory b b' p (unsubscribe_steps s b b' name NoMemory p) refl refl refl (λ e. absurd cc) refl (λ h box. (tt, refl))
 
 pub quit_replies : (s : Attributes) (b b' : BoardState) (answer : Answer) → Asked b b' quit answer → Replies s (quit, quit_reply answer) b b'
@@ -314,5 +314,5 @@ quit_replies s b b' answer q = by answer q
     by (Dup m id) p = absurd p.answers
     by (NoName m) p = absurd p.answers
     by (Other m id) p = absurd p.answers
-    by (Split i j) p = changed s quit (split i j) (Split i j) b b' p (quit_steps s b b' (Split i j) p) refl refl refl (λ e. p.split i j refl) refl (λ h box. (tt, refl))
+    by (Split i j) p = changed s quit (split i j) (Split i j) b b' p (quit_steps s b b' (Split i j) p) refl refl refl (λ e. p.split) refl (λ h box. (tt, refl))
     by NoMemory p = changed s quit no_memory NoMemory b b' p (quit_steps s b b' NoMemory p) refl refl refl (λ e. absurd cc) refl (λ h box. (tt, refl))

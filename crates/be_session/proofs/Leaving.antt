@@ -7,7 +7,7 @@ use Rattle.be_change.specs.Requests.{quit}
 use Rattle.be_change.specs.Walk.{IsChangeOf}
 use Rattle.be_board.specs.declared.answers.Answer.{Answer}
 use Rattle.be_board.specs.declared.answers.Answer.TheVariants.{Done, Held, Dup, NoName, Other, Split, NoMemory}
-use Rattle.be_board.specs.Changes.{Accepts, Answers, AnswersAlone, Asked}
+use Rattle.be_board.specs.Changes.{Accepts, Answers, AnswersAlone, Asked, CountsSplit}
 use Rattle.be_board.specs.State.{BoardState, GoesOn, is_gone}
 use Rattle.be_board.specs.Word.{Word, own_in, top}
 use Rattle.be_board.proofs.Going.{GoesOn-along, HasRisen-later}
@@ -59,7 +59,7 @@ asked_again b c d answer p q = record {
   letters = record { notes = q.letters.notes ∙ p.letters.notes; box = q.letters.box ∙ p.letters.box; puts = q.letters.puts ∙ p.letters.puts; fulls = q.letters.fulls ∙ p.letters.fulls };
   formed = q.formed;
   answers = answers_from b c d.word answer p.goes p.answers q.answers;
-  split = λ i j e. HasRisen-later b.counts.splits c.counts.splits d.counts.splits p.goes.counts.splits (q.split i j e);
+  split = subst (λ k. CountsSplit answer k d.counts.splits) p.split q.split;
   alone = λ alone. alone_from b c d.word answer p.goes p.answers (p.alone alone) q.answers (q.alone (p.goes.alone ∙ alone));
 }
 
