@@ -5,3 +5,4 @@ pub mod Lacking
 pub mod Nodes
 pub mod Roots
 pub mod FirstParts
+pub mod OneLent

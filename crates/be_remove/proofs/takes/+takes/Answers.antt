@@ -3,31 +3,36 @@ use Rattle.std.specs.Prelude.{IsPermutation}
 use Rattle.std.specs.List.{AllByRecursion}
 use Rattle.std.proofs.lemmas.List.{get_or-set_other}
 use Rattle.be_model.specs.declared.paths.Hop.{Hop}
-use Rattle.be_model.specs.declared.paths.Hop.TheVariants.{Part, Low, High}
+use Rattle.be_model.specs.declared.paths.Hop.TheVariants.{Low, High}
 use Rattle.be_shape.specs.declared.nodes.Node.{Node}
-use Rattle.be_base.specs.declared.names.AttrNo.{AttrNo}
-use Rattle.std.specs.Box.{with_value}
-use Rattle.be_shape.specs.declared.nodes.Part.{Part as PartOf, roll-Part}
-use Rattle.be_shape.specs.declared.nodes.Node.TheFolds.{fold-roll-Part}
+use Rattle.be_shape.specs.declared.nodes.Part.{Part as PartOf}
 use Rattle.be_shape.specs.declared.nodes.Node.TheOpen.{Node-F}
-use Rattle.be_shape.specs.declared.nodes.Node.TheViews.{out-Node, out-Part, the_lemmas}
-use Rattle.be_shape.specs.Plain.{Plain, plain, plain_node, plain_part, half, half_as, parts_as, part_as, rows_below}
+use Rattle.be_shape.specs.declared.nodes.Node.TheViews.{out-Node, the_lemmas}
+use Rattle.be_shape.specs.Plain.{Plain, plain, half, half_as, parts_as, rows_below}
 use Rattle.be_shape.specs.Shape.{known}
-use Rattle.be_shape.specs.Children.{root_of, roots_of, children}
+use Rattle.be_shape.specs.Children.{root_of, roots_of}
 use Rattle.be_shape.specs.Right.{IsRight}
 use Rattle.be_shape.specs.Less.{IsRightIn, IsRightBelow, IsLess}
 use Rattle.be_shape.proofs.Children.{Each-append, Each-parts}
-use Rattle.be_shape.proofs.Plains.{plain_out, part_out}
+use Rattle.be_shape.proofs.Plains.{plain_out}
 use Rattle.be_shape.proofs.OneLess.{right_below}
 use Rattle.be_remove.specs.Taken.{has_way, Lacks}
-use Rattle.be_remove.proofs.Groups.{StaysRight, half_less, part_less, at_part, one_more, at_all, same_place, same_parts, either, on_some, if_none}
+use Rattle.be_remove.proofs.Groups.{StaysRight, half_less, one_more, at_all, either, on_some, if_none}
 use Rattle.be_remove.proofs.Lacking.{no_way, a_way}
 use Rattle.be_remove.proofs.Nodes.{level, taken_at, right_at, leaf_taken_at, leaf_right_at, same_at, low_at, high_at, parts_at}
+use Rattle.be_remove.proofs.OneLent.{Lent, with_root, lent_is, lent_right, lent_less, lent_same}
 use Rattle.be_remove.proofs.takes.+takes.Goals as goal
 
--- the node's children stand right below it
-below : (s : _) (r : _) (n : Node) → IsRightIn s r (plain n) → AllByRecursion (IsRightBelow s r) (children (level (out-Node n)))
-below s r n (used, right) = right_below s r used (level (out-Node n)) (subst (IsRight s (known r used)) (plain_out n) right)
+-- the children at the node's parts, and at its halves, stand right below it
+below : (s : _) (r : _) (n : Node) → IsRightIn s r (plain n)
+    → AllByRecursion (IsRightBelow s r) (roots_of (parts_as (out-Node n).parts.items)) × AllByRecursion (IsRightBelow s r) (root_of Low (half_as (out-Node n).low)) × AllByRecursion (IsRightBelow s r) (root_of High (half_as (out-Node n).high))
+below s r n (used, right) =
+    let P = IsRightBelow s r in
+    let parts = roots_of (parts_as (out-Node n).parts.items) in
+    let low = root_of Low (half_as (out-Node n).low) in
+    let high = root_of High (half_as (out-Node n).high) in
+    let both = Each-parts P (parts ++ low) high (right_below s r used (level (out-Node n)) (subst (IsRight s (known r used)) (plain_out n) right)) in
+    let front = Each-parts P parts low both.0 in (front.0, front.1, both.1)
 
 here : (s : _) (r : _) (n : Node) → IsRightIn s r (plain n) → IsRightIn s r (level (out-Node n))
 here s r n (used, right) = (used, subst (IsRight s (known r used)) (plain_out n) right)
@@ -46,22 +51,15 @@ take_from_half-returns-clause-less t c =
 
 pub take_from-returns-then-not-has_way-clause-taken : goal.take_from-returns-then-not-has_way-clause-taken
 take_from-returns-then-not-has_way-clause-taken t c =
-    let s = c.args.s.now in
-    let r = c.args.range in
-    let row = c.args.row.now in
-    let n = c.args.n.now in
-    let x = out-Node n in
-    on_some c.take_row.result c.take_row.ensures.taken (λ h. leaf_taken_at n c.take_row.new.leaf row h)
+    on_some c.take_row.result c.take_row.ensures.taken (leaf_taken_at c.args.n.now c.take_row.new.leaf c.args.row.now)
 
 pub take_from-returns-then-not-has_way-clause-right : goal.take_from-returns-then-not-has_way-clause-right
 take_from-returns-then-not-has_way-clause-right t c =
     let s = c.args.s.now in
     let r = c.args.range in
-    let row = c.args.row.now in
     let n = c.args.n.now in
-    let x = out-Node n in
-    λ used u. either c.take_row.result c.take_row.ensures.taken c.take_row.ensures.none (λ h. leaf_right_at s r n c.take_row.new.leaf row h used u)
-    (λ e. subst (IsRight s (known r used)) (sym (same_at n (record x { leaf = c.take_row.new.leaf }) e refl refl refl)) u)
+    λ used u. either c.take_row.result c.take_row.ensures.taken c.take_row.ensures.none (λ h. leaf_right_at s r n c.take_row.new.leaf c.args.row.now h used u)
+    (λ e. subst (IsRight s (known r used)) (sym (same_at n (record (out-Node n) { leaf = c.take_row.new.leaf }) e refl refl refl)) u)
 
 pub take_from-returns-then-not-has_way-clause-lacks : goal.take_from-returns-then-not-has_way-clause-lacks
 take_from-returns-then-not-has_way-clause-lacks t c =
@@ -69,101 +67,71 @@ take_from-returns-then-not-has_way-clause-lacks t c =
     let r = c.args.range in
     let row = c.args.row.now in
     let n = c.args.n.now in
-    let x = out-Node n in
-    if_none c.take_row.result c.take_row.ensures.lacks (λ h. subst (Lacks row) (sym (plain_out n)) (no_way s r (level x) row (here s r n c.requires.right) (ap (λ m. has_way s r m row) (sym (plain_out n)) ∙ sym c.has_way.ensures ∙ c.if-not-has_way.true) h))
+    if_none c.take_row.result c.take_row.ensures.lacks
+    (λ h. subst (Lacks row) (sym (plain_out n)) (no_way s r (level (out-Node n)) row (here s r n c.requires.right) (ap (λ m. has_way s r m row) (sym (plain_out n)) ∙ sym c.has_way.ensures ∙ c.if-not-has_way.true) h))
 
 pub take_from-take_from_half-requires : goal.take_from-take_from_half-requires
 take_from-take_from_half-requires t c =
-    let s = c.args.s.now in
-    let r = c.args.range in
-    let row = c.args.row.now in
-    let n = c.args.n.now in
-    let x = out-Node n in
-    (search (rules, the_lemmas), (c.requires.lies, (c.requires.bounded, (c.requires.rising, (Each-parts (IsRightBelow s r) (roots_of (parts_as x.parts.items)) (root_of Low (half_as x.low)) (Each-parts (IsRightBelow s r) (roots_of (parts_as x.parts.items) ++ root_of Low (half_as x.low)) (root_of High (half_as x.high)) (below s r n c.requires.right)).0).1))))
+    (search (rules, the_lemmas), (c.requires.lies, (c.requires.bounded, (c.requires.rising, (below c.args.s.now c.args.range c.args.n.now c.requires.right).1))))
 
 pub take_from-returns-in-Some-clause-taken : goal.take_from-returns-in-Some-clause-taken
 take_from-returns-in-Some-clause-taken t c =
     let s = c.args.s.now in
-    let r = c.args.range in
-    let row = c.args.row.now in
     let n = c.args.n.now in
-    let x = out-Node n in
-    taken_at s r row n (record x { low = c.take_from_half.new.half }) refl (low_at s r row n c.take_from_half.new.half c.in-Some.ensures.less)
+    taken_at s c.args.range c.args.row.now n (record (out-Node n) { low = c.take_from_half.new.half }) refl (low_at s c.args.range c.args.row.now n c.take_from_half.new.half c.in-Some.ensures.less)
 
 pub take_from-returns-in-Some-clause-right : goal.take_from-returns-in-Some-clause-right
 take_from-returns-in-Some-clause-right t c =
     let s = c.args.s.now in
-    let r = c.args.range in
-    let row = c.args.row.now in
     let n = c.args.n.now in
-    let x = out-Node n in
-    right_at s r row n (record x { low = c.take_from_half.new.half }) refl (low_at s r row n c.take_from_half.new.half c.in-Some.ensures.less)
+    right_at s c.args.range c.args.row.now n (record (out-Node n) { low = c.take_from_half.new.half }) refl (low_at s c.args.range c.args.row.now n c.take_from_half.new.half c.in-Some.ensures.less)
 
 pub take_from-take_from_half-requires-2 : goal.take_from-take_from_half-requires-2
 take_from-take_from_half-requires-2 t c =
-    let s = c.args.s.now in
-    let r = c.args.range in
-    let row = c.args.row.now in
-    let n = c.args.n.now in
-    let x = out-Node n in
-    (search (rules, the_lemmas), (c.requires.lies, (c.requires.bounded, (c.requires.rising, (Each-parts (IsRightBelow s r) (roots_of (parts_as x.parts.items) ++ root_of Low (half_as x.low)) (root_of High (half_as x.high)) (below s r n c.requires.right)).1))))
+    (search (rules, the_lemmas), (c.requires.lies, (c.requires.bounded, (c.requires.rising, (below c.args.s.now c.args.range c.args.n.now c.requires.right).2))))
 
 pub take_from-returns-in-Some-take_from_half-clause-taken : goal.take_from-returns-in-Some-take_from_half-clause-taken
 take_from-returns-in-Some-take_from_half-clause-taken t c =
     let s = c.args.s.now in
-    let r = c.args.range in
-    let row = c.args.row.now in
     let n = c.args.n.now in
-    let x = out-Node n in
-    taken_at s r row n (record x { low = c.take_from_half.new.half; high = c.take_from_half-2.new.half }) refl (high_at s r row n c.take_from_half.new.half c.take_from_half-2.new.half c.in_default.ensures.none c.in-Some-take_from_half.ensures.less)
+    let low = c.take_from_half.new.half in
+    let high = c.take_from_half-2.new.half in
+    taken_at s c.args.range c.args.row.now n (record (out-Node n) { low = low; high = high }) refl (high_at s c.args.range c.args.row.now n low high c.in_default.ensures.none c.in-Some-take_from_half.ensures.less)
 
 pub take_from-returns-in-Some-take_from_half-clause-right : goal.take_from-returns-in-Some-take_from_half-clause-right
 take_from-returns-in-Some-take_from_half-clause-right t c =
     let s = c.args.s.now in
-    let r = c.args.range in
-    let row = c.args.row.now in
     let n = c.args.n.now in
-    let x = out-Node n in
-    right_at s r row n (record x { low = c.take_from_half.new.half; high = c.take_from_half-2.new.half }) refl (high_at s r row n c.take_from_half.new.half c.take_from_half-2.new.half c.in_default.ensures.none c.in-Some-take_from_half.ensures.less)
+    let low = c.take_from_half.new.half in
+    let high = c.take_from_half-2.new.half in
+    right_at s c.args.range c.args.row.now n (record (out-Node n) { low = low; high = high }) refl (high_at s c.args.range c.args.row.now n low high c.in_default.ensures.none c.in-Some-take_from_half.ensures.less)
 
 pub take_from-take_from_parts-requires : goal.take_from-take_from_parts-requires
 take_from-take_from_parts-requires t c =
-    let s = c.args.s.now in
-    let r = c.args.range in
-    let row = c.args.row.now in
-    let n = c.args.n.now in
-    let x = out-Node n in
-    (search (rules, the_lemmas), (c.requires.lies, (c.requires.bounded, (c.requires.rising, (Each-parts (IsRightBelow s r) (roots_of (parts_as x.parts.items)) (root_of Low (half_as x.low)) (Each-parts (IsRightBelow s r) (roots_of (parts_as x.parts.items) ++ root_of Low (half_as x.low)) (root_of High (half_as x.high)) (below s r n c.requires.right)).0).0))))
+    (search (rules, the_lemmas), (c.requires.lies, (c.requires.bounded, (c.requires.rising, (below c.args.s.now c.args.range c.args.n.now c.requires.right).0))))
 
 pub take_from-returns-clause-taken : goal.take_from-returns-clause-taken
 take_from-returns-clause-taken t c =
     let s = c.args.s.now in
     let r = c.args.range in
-    let row = c.args.row.now in
     let n = c.args.n.now in
-    let x = out-Node n in
-    let y : Node-F Node PartOf = record x { parts = c.take_from_parts.new.parts; low = c.take_from_half.new.half; high = c.take_from_half-2.new.half } in
-    on_some c.take_from_parts.result c.take_from_parts.ensures.less (λ l. taken_at s r row n y refl (parts_at s r row n y c.in_default.ensures.none c.in_default-take_from_half.ensures.none l))
+    let y : Node-F Node PartOf = record (out-Node n) { parts = c.take_from_parts.new.parts; low = c.take_from_half.new.half; high = c.take_from_half-2.new.half } in
+    on_some c.take_from_parts.result c.take_from_parts.ensures.less (λ l. taken_at s r c.args.row.now n y refl (parts_at s r c.args.row.now n y c.in_default.ensures.none c.in_default-take_from_half.ensures.none l))
 
 pub take_from-returns-clause-right : goal.take_from-returns-clause-right
 take_from-returns-clause-right t c =
     let s = c.args.s.now in
     let r = c.args.range in
-    let row = c.args.row.now in
     let n = c.args.n.now in
-    let x = out-Node n in
-    let y : Node-F Node PartOf = record x { parts = c.take_from_parts.new.parts; low = c.take_from_half.new.half; high = c.take_from_half-2.new.half } in
-    λ used u. either c.take_from_parts.result c.take_from_parts.ensures.less c.take_from_parts.ensures.none (λ l. right_at s r row n y refl (parts_at s r row n y c.in_default.ensures.none c.in_default-take_from_half.ensures.none l) used u)
+    let y : Node-F Node PartOf = record (out-Node n) { parts = c.take_from_parts.new.parts; low = c.take_from_half.new.half; high = c.take_from_half-2.new.half } in
+    λ used u. either c.take_from_parts.result c.take_from_parts.ensures.less c.take_from_parts.ensures.none
+    (λ l. right_at s r c.args.row.now n y refl (parts_at s r c.args.row.now n y c.in_default.ensures.none c.in_default-take_from_half.ensures.none l) used u)
     (λ e. subst (IsRight s (known r used)) (sym (same_at n y refl e c.in_default.ensures.none c.in_default-take_from_half.ensures.none)) u)
 
 pub take_from-returns-clause-none : goal.take_from-returns-clause-none
 take_from-returns-clause-none t c =
-    let s = c.args.s.now in
-    let r = c.args.range in
-    let row = c.args.row.now in
     let n = c.args.n.now in
-    let x = out-Node n in
-    let y : Node-F Node PartOf = record x { parts = c.take_from_parts.new.parts; low = c.take_from_half.new.half; high = c.take_from_half-2.new.half } in
+    let y : Node-F Node PartOf = record (out-Node n) { parts = c.take_from_parts.new.parts; low = c.take_from_half.new.half; high = c.take_from_half-2.new.half } in
     if_none c.take_from_parts.result c.take_from_parts.ensures.none (λ e. same_at n y refl e c.in_default.ensures.none c.in_default-take_from_half.ensures.none)
 
 pub take_from-returns-clause-lacks : goal.take_from-returns-clause-lacks
@@ -182,80 +150,49 @@ take_from-returns-clause-lacks t c =
 
 pub take_from_parts-take_from_child-requires : goal.take_from_parts-take_from_child-requires
 take_from_parts-take_from_child-requires t c =
-    let s = c.args.s.now in
-    let r = c.args.range in
-    let row = c.args.row.now in
-    let was = c.args.parts.now.items in
     let inv = c.loop-place.invariant in
     let ps = c.loop-place.parts.items in
-    let i = c.loop-place.place in
-    let q = c.index_mut.result.now in
-    let b = (out-Part q).attr in
-    let m = plain (out-Part q).root.value in
-    let l : i < length ps = omega (arith, c.loop-place-test.true, inv.end, inv.many) in
-    let one = same_place ps i c.index.result.now q l c.index.ensures c.index_mut.ensures.value in
-    let at : IsRightBelow s r (Part (part_as q).0, (part_as q).1) = at_part (IsRightBelow s r) ps i q l c.index_mut.ensures.value (subst (λ z. AllByRecursion (IsRightBelow s r) (roots_of z)) (sym inv.same) c.requires.right) in
-    let Q : AttrNo × Plain → Type 0 = λ z. IsRightBelow s r (Part z.0, z.1) in
-    (search (rules, the_lemmas, inv.left), (c.requires.lies, (c.requires.bounded, (c.requires.rising, subst (λ z. IsRightBelow s r (Part (out-Part z).attr, plain c.deref_mut.result.now)) (sym one) (subst (λ n. IsRightBelow s r (Part b, plain n)) (sym c.deref_mut.ensures.value) (subst Q (part_out q) at))))))
+    let P = IsRightBelow c.args.s.now c.args.range in
+    let l : c.loop-place.place < length ps = omega (arith, c.loop-place-test.true, inv.end, inv.many) in
+    let at : Lent ps c.loop-place.place c.index.result.now c.index_mut.result.now c.deref_mut.result.now = record { within = l; read = c.index.ensures; lent = c.index_mut.ensures.value; root = c.deref_mut.ensures.value } in
+    (search (rules, the_lemmas, inv.left), (c.requires.lies, (c.requires.bounded, (c.requires.rising, lent_right at P (subst (λ z. AllByRecursion P (roots_of z)) (sym inv.same) c.requires.right)))))
 
 pub take_from_parts-returns-in-Some-clause-less : goal.take_from_parts-returns-in-Some-clause-less
 take_from_parts-returns-in-Some-clause-less t c =
     let s = c.args.s.now in
     let r = c.args.range in
     let row = c.args.row.now in
-    let was = c.args.parts.now.items in
     let inv = c.loop-place.invariant in
     let ps = c.loop-place.parts.items in
-    let i = c.loop-place.place in
-    let q = c.index_mut.result.now in
-    let b = (out-Part q).attr in
-    let m = plain (out-Part q).root.value in
-    let l : i < length ps = omega (arith, c.loop-place-test.true, inv.end, inv.many) in
-    let one = same_place ps i c.index.result.now q l c.index.ensures c.index_mut.ensures.value in
-    let o = plain c.take_from_child.new.n in
-    let p : PartOf = roll-Part (record { attr = b; root = with_value (out-Part q).root c.take_from_child.new.n }) in
-    let is_p : part_as p ≡ (b, o) = fold-roll-Part Plain (AttrNo × Plain) plain_node plain_part (record { attr = b; root = with_value (out-Part q).root c.take_from_child.new.n }) in
-    let gone = subst (λ n. IsPermutation (rows_below (plain n)) (row ∷ rows_below o)) c.deref_mut.ensures.value c.in-Some.ensures.taken in
-    let right = subst (λ n. StaysRight s r (Part b) (plain n) o) c.deref_mut.ensures.value (subst (λ z. StaysRight s r (Part (out-Part z).attr) (plain c.deref_mut.result.now) o) one c.take_from_child.ensures.right) in
-    subst (λ z. IsLess s r row (roots_of z) (roots_of (parts_as c.drop_part.new.parts.items))) inv.same (subst (λ z. IsLess s r row (roots_of (parts_as ps)) (roots_of z)) (sym c.drop_part.ensures) (part_less s r row ps i p q b m o l c.index_mut.ensures.value (part_out q) is_p gone right))
+    let l : c.loop-place.place < length ps = omega (arith, c.loop-place-test.true, inv.end, inv.many) in
+    let at : Lent ps c.loop-place.place c.index.result.now c.index_mut.result.now c.deref_mut.result.now = record { within = l; read = c.index.ensures; lent = c.index_mut.ensures.value; root = c.deref_mut.ensures.value } in
+    subst (λ z. IsLess s r row (roots_of z) (roots_of (parts_as c.drop_part.new.parts.items))) inv.same
+    (subst (λ z. IsLess s r row (roots_of (parts_as ps)) (roots_of z)) (sym c.drop_part.ensures) (lent_less at s r row c.take_from_child.new.n c.in-Some.ensures.taken c.take_from_child.ensures.right))
 
 pub take_from_parts-loop-place-preserved : goal.take_from_parts-loop-place-preserved
 take_from_parts-loop-place-preserved t c =
-    let s = c.args.s.now in
-    let r = c.args.range in
     let row = c.args.row.now in
-    let was = c.args.parts.now.items in
     let inv = c.loop-place.invariant in
     let ps = c.loop-place.parts.items in
     let i = c.loop-place.place in
     let q = c.index_mut.result.now in
-    let b = (out-Part q).attr in
-    let m = plain (out-Part q).root.value in
     let l : i < length ps = omega (arith, c.loop-place-test.true, inv.end, inv.many) in
-    let one = same_place ps i c.index.result.now q l c.index.ensures c.index_mut.ensures.value in
-    let o = plain c.take_from_child.new.n in
-    let p : PartOf = roll-Part (record { attr = b; root = with_value (out-Part q).root c.take_from_child.new.n }) in
-    let is_p : part_as p ≡ (b, o) = fold-roll-Part Plain (AttrNo × Plain) plain_node plain_part (record { attr = b; root = with_value (out-Part q).root c.take_from_child.new.n }) in
+    let at : Lent ps i c.index.result.now q c.deref_mut.result.now = record { within = l; read = c.index.ensures; lent = c.index_mut.ensures.value; root = c.deref_mut.ensures.value } in
+    let p = with_root q c.take_from_child.new.n in
     let P : Hop × Plain → Type 0 = λ z. Lacks row z.1 in
-    let as_before : part_as p ≡ part_as q = is_p ∙ ap (λ z. (b, z)) (c.in_default.ensures.none ∙ ap plain c.deref_mut.ensures.value) ∙ sym (part_out q) in
-    let lacks : Lacks row (part_as q).1 = subst (λ z. Lacks row z.1) (sym (part_out q)) (subst (λ n. Lacks row (plain n)) c.deref_mut.ensures.value c.in_default.ensures.lacks) in
+    let lacks = subst (λ z. Lacks row z.1) (sym (lent_is at)) c.in_default.ensures.lacks in
     record {
-      same = same_parts ps i p q l c.index_mut.ensures.value as_before ∙ inv.same;
+      same = lent_same at c.take_from_child.new.n c.in_default.ensures.none ∙ inv.same;
       many = length-set ps i p ∙ inv.many;
       end = inv.end;
-      lacks = subst (λ j. AllByRecursion P (take j (roots_of (parts_as was)))) (sym (add-one i)) (subst (λ z. AllByRecursion P (take (suc i) (roots_of z))) inv.same (one_more P ps i q l c.index_mut.ensures.value (subst (λ z. AllByRecursion P (take i (roots_of z))) (sym inv.same) inv.lacks) lacks));
+      lacks = subst (λ j. AllByRecursion P (take j (roots_of (parts_as c.args.parts.now.items)))) (sym (add-one i)) (subst (λ z. AllByRecursion P (take (suc i) (roots_of z))) inv.same (one_more P ps i q l at.lent (subst (λ z. AllByRecursion P (take i (roots_of z))) (sym inv.same) inv.lacks) lacks));
       left = λ k d h. get_or-set_other ps i k p d (λ e. omega arith) ∙ inv.left k d (omega arith);
     }
 
 pub take_from_parts-returns-clause-lacks : goal.take_from_parts-returns-clause-lacks
 take_from_parts-returns-clause-lacks t c =
-    let s = c.args.s.now in
-    let r = c.args.range in
-    let row = c.args.row.now in
     let was = c.args.parts.now.items in
     let inv = c.loop-place.invariant in
-    let ps = c.loop-place.parts.items in
-    let i = c.loop-place.place in
-    let P : Hop × Plain → Type 0 = λ z. Lacks row z.1 in
-    let e : i ≡ length was = omega (arith, inv.end, c.loop-place-test.false, c.loop-place.auto.place-end) in
+    let P : Hop × Plain → Type 0 = λ z. Lacks c.args.row.now z.1 in
+    let e : c.loop-place.place ≡ length was = omega (arith, inv.end, c.loop-place-test.false, c.loop-place.auto.place-end) in
     at_all P was (subst (λ j. AllByRecursion P (take j (roots_of (parts_as was)))) e inv.lacks)
