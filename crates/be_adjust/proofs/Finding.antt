@@ -1,5 +1,5 @@
 -- The first row that passes a test, list by list.
-use Rattle.std.proofs.Common.{◌≡◌, ◌+◌, ℕ, zero, suc, Bool, true, false, cond, ◌||◌, List, [], ◌∷◌, ◌++◌, drop, slice_get, None, Some, refl, sym, ap, ◌∙◌, arith}
+use Rattle.std.proofs.Common.{◌≡◌, ◌+◌, ℕ, zero, suc, Bool, true, false, cond, ◌||◌, List, [], ◌∷◌, ◌++◌, drop, slice_get, Option, None, Some, refl, sym, ap, ◌∙◌, arith}
 use Rattle.std.specs.List.{list_any, Contains}
 use Rattle.be_model.specs.declared.changes.Row.{Row}
 use Rattle.be_adjust.specs.Finds.{first_of}
@@ -20,6 +20,10 @@ first_none p (z ∷ xs) ys h = by_test (p z) h (first_none p xs ys)
     by_test : (b : Bool) → cond b (Some z) (first_of p xs) ≡ None → (first_of p xs ≡ None → first_of p (xs ++ ys) ≡ first_of p ys) → cond b (Some z) (first_of p (xs ++ ys)) ≡ first_of p ys
     by_test true e f = absurd (cc)
     by_test false e f = f e
+
+-- and of the second, where that is asked after the first
+pub first_both : (p : Row → Bool) (xs ys : List Row) {a b : Option Row} → first_of p xs ≡ a → a ≡ None → b ≡ first_of p ys → first_of p (xs ++ ys) ≡ b
+first_both p xs ys h e k = first_none p xs ys (h ∙ e) ∙ sym k
 
 -- a row that was found
 pub found_one : (p : Row → Bool) (xs : List Row) (x : Row) → first_of p xs ≡ Some x → Contains xs x × (p x ≡ true)

@@ -92,6 +92,10 @@ fit_some p most left xs ys h = fit_append p most xs ys ∙ ap (option_and_then (
 pub fit_none : (p : Row → Bool) (most : ℕ) (xs ys : List Row) → fit p most xs ≡ None → fit p most (xs ++ ys) ≡ None
 fit_none p most xs ys h = fit_append p most xs ys ∙ ap (option_and_then (λ n. fit p n ys)) h
 
+-- and so do those of the second, where that is asked after the first
+pub fit_both : (p : Row → Bool) (most : ℕ) (xs ys : List Row) {left : ℕ} {a b : Option ℕ} → fit p most xs ≡ a → a ≡ Some left → b ≡ fit p left ys → fit p most (xs ++ ys) ≡ b
+fit_both p most xs ys {left = left} h e k = fit_some p most left xs ys (h ∙ e) ∙ sym k
+
 -- the rows below parts, those of the first one apart
 pub rows_apart : (ps : List Part) (i : ℕ) (p : Part) → i < length ps → p ≡ get_or ps i p → rows_in_parts (parts_as (drop i ps)) ≡ rows_in_parts (parts_of (part_as p ∷ [])) ++ rows_in_parts (parts_as (drop (i + 1) ps))
 rows_apart ps i p l is =

@@ -4,3 +4,4 @@ pub mod Merged
 pub mod Finding
 pub mod Cancelled
 pub mod Shifted
+pub mod NodeRows

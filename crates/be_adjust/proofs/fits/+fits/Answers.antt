@@ -1,81 +1,58 @@
 use Rattle.std.proofs.Common.{◌≡◌, ◌+◌, ◌++◌, ◌∷◌, [], true, rules, drop, sym, ap, ◌∙◌, arith}
 use Rattle.std.specs.List.{list_all}
+use Rattle.be_model.specs.Schemas.{Attributes}
+use Rattle.be_shape.specs.declared.nodes.Node.{Node}
 use Rattle.be_shape.specs.declared.nodes.Node.TheViews.{out-Node, the_lemmas}
-use Rattle.be_shape.specs.Plain.{plain, part_as, parts_of, parts_as, half_as, rows_below, rows_in_parts, rows_in_half}
+use Rattle.be_shape.specs.Plain.{plain, part_as, parts_of, parts_as, rows_below, rows_in_parts}
 use Rattle.be_shape.specs.Shape.{may_stand}
-use Rattle.be_shape.proofs.Plains.{plain_out}
 use Rattle.be_shape.proofs.Lists.{all_front, all_back}
 use Rattle.be_adjust.specs.Fits.{stays, fit}
-use Rattle.be_adjust.proofs.Fitting.{fit_some, fit_none, rows_apart}
+use Rattle.be_adjust.proofs.Fitting.{fit_some, fit_none, fit_both, rows_apart}
+use Rattle.be_adjust.proofs.NodeRows.{parts_rows, low_rows, high_rows, rows_out}
 use Rattle.be_adjust.proofs.fits.+fits.Goals as goal
+
+-- the rows below the halves may stand in the tree
+halves_may : (s : Attributes) (m : Node) → list_all (may_stand s) (rows_below (plain m)) ≡ true → (list_all (may_stand s) (low_rows m) ≡ true) × (list_all (may_stand s) (high_rows m) ≡ true)
+halves_may s m may =
+    let front = (out-Node m).leaf ++ parts_rows m in
+    let all : list_all (may_stand s) (front ++ low_rows m ++ high_rows m) ≡ true = sym (ap (list_all (may_stand s)) (rows_out m)) ∙ may in
+    (all_back (may_stand s) front (low_rows m) (all_front (may_stand s) (front ++ low_rows m) (high_rows m) all), all_back (may_stand s) (front ++ low_rows m) (high_rows m) all)
 
 pub fit_node-fit_half-requires : goal.fit_node-fit_half-requires
 fit_node-fit_half-requires t c =
-    let s = c.args.s.now in
-    let p = stays s c.args.hop c.args.range (plain c.args.n.now) in
-    let x = out-Node c.args.m.now in
-    let parts = rows_in_parts (parts_as x.parts.items) in
-    let low = rows_in_half (half_as x.low) in
-    let high = rows_in_half (half_as x.high) in
-    let rows : rows_below (plain c.args.m.now) ≡ x.leaf ++ parts ++ low ++ high = ap rows_below (plain_out c.args.m.now) in
-    let may : list_all (may_stand s) (x.leaf ++ parts ++ low ++ high) ≡ true = sym (ap (list_all (may_stand s)) rows) ∙ c.requires.may in
-    (search (rules, the_lemmas), (all_back (may_stand s) (x.leaf ++ parts) low (all_front (may_stand s) (x.leaf ++ parts ++ low) high may), (c.requires.rise, (c.requires.bounded, c.requires.rising))))
+    (search (rules, the_lemmas), ((halves_may c.args.s.now c.args.m.now c.requires.may).0, (c.requires.rise, (c.requires.bounded, c.requires.rising))))
 
 pub fit_node-fit_half-requires-2 : goal.fit_node-fit_half-requires-2
 fit_node-fit_half-requires-2 t c =
-    let s = c.args.s.now in
-    let p = stays s c.args.hop c.args.range (plain c.args.n.now) in
-    let x = out-Node c.args.m.now in
-    let parts = rows_in_parts (parts_as x.parts.items) in
-    let low = rows_in_half (half_as x.low) in
-    let high = rows_in_half (half_as x.high) in
-    let rows : rows_below (plain c.args.m.now) ≡ x.leaf ++ parts ++ low ++ high = ap rows_below (plain_out c.args.m.now) in
-    let may : list_all (may_stand s) (x.leaf ++ parts ++ low ++ high) ≡ true = sym (ap (list_all (may_stand s)) rows) ∙ c.requires.may in
-    (search (rules, the_lemmas), (all_back (may_stand s) (x.leaf ++ parts ++ low) high may, (c.requires.rise, (c.requires.bounded, c.requires.rising))))
+    (search (rules, the_lemmas), ((halves_may c.args.s.now c.args.m.now c.requires.may).1, (c.requires.rise, (c.requires.bounded, c.requires.rising))))
 
 pub fit_node-returns-in_err-left-2 : goal.fit_node-returns-in_err-left-2
 fit_node-returns-in_err-left-2 t c =
-    let s = c.args.s.now in
-    let p = stays s c.args.hop c.args.range (plain c.args.n.now) in
-    let x = out-Node c.args.m.now in
-    let parts = rows_in_parts (parts_as x.parts.items) in
-    let low = rows_in_half (half_as x.low) in
-    let high = rows_in_half (half_as x.high) in
-    let rows : rows_below (plain c.args.m.now) ≡ x.leaf ++ parts ++ low ++ high = ap rows_below (plain_out c.args.m.now) in
-    let first : fit p c.args.most (x.leaf ++ parts) ≡ fit p c.in_ok-left.left parts = fit_some p c.args.most c.in_ok-left.left x.leaf parts (sym c.fit_leaf.ensures ∙ c.in_ok-left.was) in
-    let is_parts : c.fit_parts.result ≡ fit p c.in_ok-left.left parts = c.fit_parts.ensures ∙ ap (λ ps. fit p c.in_ok-left.left (rows_in_parts (parts_as ps))) c.as_slice.ensures.value in
-    let none = fit_none p c.args.most (x.leaf ++ parts ++ low) high (fit_none p c.args.most (x.leaf ++ parts) low (first ∙ sym is_parts ∙ c.in_err-left-2.was)) in
-    c.from_residual-in_err-left-2.ensures ∙ sym (ap (fit p c.args.most) rows ∙ none)
+    let p = stays c.args.s.now c.args.hop c.args.range (plain c.args.n.now) in
+    let m = c.args.m.now in
+    let leaf = (out-Node m).leaf in
+    let first : fit p c.args.most (leaf ++ parts_rows m) ≡ c.fit_parts.result = fit_both p c.args.most leaf (parts_rows m) (sym c.fit_leaf.ensures) c.in_ok-left.was (c.fit_parts.ensures ∙ ap (λ ps. fit p c.in_ok-left.left (rows_in_parts (parts_as ps))) c.as_slice.ensures.value) in
+    let none = fit_none p c.args.most (leaf ++ parts_rows m ++ low_rows m) (high_rows m) (fit_none p c.args.most (leaf ++ parts_rows m) (low_rows m) (first ∙ c.in_err-left-2.was)) in
+    c.from_residual-in_err-left-2.ensures ∙ sym (ap (fit p c.args.most) (rows_out m) ∙ none)
 
 pub fit_node-returns-in_err-left-3 : goal.fit_node-returns-in_err-left-3
 fit_node-returns-in_err-left-3 t c =
-    let s = c.args.s.now in
-    let p = stays s c.args.hop c.args.range (plain c.args.n.now) in
-    let x = out-Node c.args.m.now in
-    let parts = rows_in_parts (parts_as x.parts.items) in
-    let low = rows_in_half (half_as x.low) in
-    let high = rows_in_half (half_as x.high) in
-    let rows : rows_below (plain c.args.m.now) ≡ x.leaf ++ parts ++ low ++ high = ap rows_below (plain_out c.args.m.now) in
-    let first : fit p c.args.most (x.leaf ++ parts) ≡ fit p c.in_ok-left.left parts = fit_some p c.args.most c.in_ok-left.left x.leaf parts (sym c.fit_leaf.ensures ∙ c.in_ok-left.was) in
-    let is_parts : c.fit_parts.result ≡ fit p c.in_ok-left.left parts = c.fit_parts.ensures ∙ ap (λ ps. fit p c.in_ok-left.left (rows_in_parts (parts_as ps))) c.as_slice.ensures.value in
-    let second : fit p c.args.most (x.leaf ++ parts ++ low) ≡ fit p c.in_ok-left-2.left low = fit_some p c.args.most c.in_ok-left-2.left (x.leaf ++ parts) low (first ∙ sym is_parts ∙ c.in_ok-left-2.was) in
-    let none = fit_none p c.args.most (x.leaf ++ parts ++ low) high (second ∙ sym c.fit_half.ensures ∙ c.in_err-left-3.was) in
-    c.from_residual-in_err-left-3.ensures ∙ sym (ap (fit p c.args.most) rows ∙ none)
+    let p = stays c.args.s.now c.args.hop c.args.range (plain c.args.n.now) in
+    let m = c.args.m.now in
+    let leaf = (out-Node m).leaf in
+    let first : fit p c.args.most (leaf ++ parts_rows m) ≡ c.fit_parts.result = fit_both p c.args.most leaf (parts_rows m) (sym c.fit_leaf.ensures) c.in_ok-left.was (c.fit_parts.ensures ∙ ap (λ ps. fit p c.in_ok-left.left (rows_in_parts (parts_as ps))) c.as_slice.ensures.value) in
+    let second : fit p c.args.most (leaf ++ parts_rows m ++ low_rows m) ≡ c.fit_half.result = fit_both p c.args.most (leaf ++ parts_rows m) (low_rows m) first c.in_ok-left-2.was c.fit_half.ensures in
+    let none = fit_none p c.args.most (leaf ++ parts_rows m ++ low_rows m) (high_rows m) (second ∙ c.in_err-left-3.was) in
+    c.from_residual-in_err-left-3.ensures ∙ sym (ap (fit p c.args.most) (rows_out m) ∙ none)
 
 pub fit_node-returns : goal.fit_node-returns
 fit_node-returns t c =
-    let s = c.args.s.now in
-    let p = stays s c.args.hop c.args.range (plain c.args.n.now) in
-    let x = out-Node c.args.m.now in
-    let parts = rows_in_parts (parts_as x.parts.items) in
-    let low = rows_in_half (half_as x.low) in
-    let high = rows_in_half (half_as x.high) in
-    let rows : rows_below (plain c.args.m.now) ≡ x.leaf ++ parts ++ low ++ high = ap rows_below (plain_out c.args.m.now) in
-    let first : fit p c.args.most (x.leaf ++ parts) ≡ fit p c.in_ok-left.left parts = fit_some p c.args.most c.in_ok-left.left x.leaf parts (sym c.fit_leaf.ensures ∙ c.in_ok-left.was) in
-    let is_parts : c.fit_parts.result ≡ fit p c.in_ok-left.left parts = c.fit_parts.ensures ∙ ap (λ ps. fit p c.in_ok-left.left (rows_in_parts (parts_as ps))) c.as_slice.ensures.value in
-    let second : fit p c.args.most (x.leaf ++ parts ++ low) ≡ fit p c.in_ok-left-2.left low = fit_some p c.args.most c.in_ok-left-2.left (x.leaf ++ parts) low (first ∙ sym is_parts ∙ c.in_ok-left-2.was) in
-    let third = fit_some p c.args.most c.in_ok-left-3.left (x.leaf ++ parts ++ low) high (second ∙ sym c.fit_half.ensures ∙ c.in_ok-left-3.was) in
-    c.fit_half-2.ensures ∙ sym (ap (fit p c.args.most) rows ∙ third)
+    let p = stays c.args.s.now c.args.hop c.args.range (plain c.args.n.now) in
+    let m = c.args.m.now in
+    let leaf = (out-Node m).leaf in
+    let first : fit p c.args.most (leaf ++ parts_rows m) ≡ c.fit_parts.result = fit_both p c.args.most leaf (parts_rows m) (sym c.fit_leaf.ensures) c.in_ok-left.was (c.fit_parts.ensures ∙ ap (λ ps. fit p c.in_ok-left.left (rows_in_parts (parts_as ps))) c.as_slice.ensures.value) in
+    let second : fit p c.args.most (leaf ++ parts_rows m ++ low_rows m) ≡ c.fit_half.result = fit_both p c.args.most (leaf ++ parts_rows m) (low_rows m) first c.in_ok-left-2.was c.fit_half.ensures in
+    sym (ap (fit p c.args.most) (rows_out m) ∙ fit_both p c.args.most (leaf ++ parts_rows m ++ low_rows m) (high_rows m) second c.in_ok-left-3.was c.fit_half-2.ensures)
 
 pub fit_parts-fit_part-requires : goal.fit_parts-fit_part-requires
 fit_parts-fit_part-requires t c =
