@@ -1,5 +1,5 @@
 -- What was delivered stays so as the list grows.
-use Rattle.std.proofs.Common.{◌≡◌, ◌≤◌, List, take, Some, ap, ◌∙◌, arith}
+use Rattle.std.proofs.Common.{◌≡◌, List, take, ap, ◌∙◌, arith}
 use Rattle.std.proofs.lemmas.List.{take-append-le}
 use Rattle.be_base.specs.Lists.{BeginsWith}
 use Rattle.be_base.proofs.Beginnings.{BeginsWith-length}

@@ -1,15 +1,13 @@
 -- What the calls of a local board leave.
-use Rattle.std.proofs.Common.{◌≡◌, ℕ, List, [], ◌∷◌, take, map, Some, refl, sym, ap, ◌∙◌, subst, arith}
+use Rattle.std.proofs.Common.{◌≡◌, ℕ, List, [], ◌∷◌, map, Some, refl, sym, ap, ◌∙◌, subst, arith}
 use Rattle.std.specs.Prelude.{All}
-use Rattle.std.proofs.lemmas.List.{take-append-le}
 use Rattle.std.proofs.lemmas.List.Elements.{All-nil, All-cons, All-head, All-tail}
 use Rattle.be_base.specs.Lists.{BeginsWith}
-use Rattle.be_base.proofs.Beginnings.{BeginsWith-same, BeginsWith-length}
+use Rattle.be_base.proofs.Beginnings.{BeginsWith-same}
 use Rattle.be_model.specs.Letters.{PlainLetter}
 use Rattle.be_model.specs.Rows.{id_of}
-use Rattle.be_model.specs.ByIds.{row_at}
 use Rattle.be_model.specs.Schemas.{Attributes}
-use Rattle.be_change.specs.History.{Entry, live, placed_of, IsWellFormed}
+use Rattle.be_change.specs.History.{Entry, placed_of, IsWellFormed}
 use Rattle.be_change.specs.Requests.{Request, unsubscribe}
 use Rattle.be_change.specs.Walk.{IsNoteFor}
 use Rattle.be_model.specs.declared.changes.Row.{Row}

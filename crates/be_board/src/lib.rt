@@ -12,7 +12,6 @@ mod local;
 mod local_copy;
 mod openings;
 mod posting;
-mod tails;
 
 pub use answers::{Answer, Sent};
 pub use balky::BalkyBoard;

@@ -21,9 +21,8 @@ ghost use Rattle.be_board.specs.Reads.{Looks, IsReadAt, Refuses};
 use crate::answers::{Answer, Sent};
 use crate::board::Board;
 use crate::letter_box::LetterBox;
-use crate::local_copy::LocalCopy;
+use crate::local_copy::{LocalCopy, SESSION};
 use crate::posting::{count_addressed, make_letters};
-use crate::tails::put_tail;
 use be_base::{Name, NoMemory, NoRead};
 use be_change::ChangeLog;
 use be_index::Index;
@@ -88,7 +87,7 @@ impl<I: Index> LocalBoard<I> {
         ensures form { IsLocalList self.now.list }
         ensures keeps { Keeps self.now.list (local_state (I.schema self.now.index) self.now).word }
     {
-        self.copy.log()
+        self.copy.read().log()
     }
 
     // Counts a read, and says of how many changes it is.
@@ -138,29 +137,32 @@ impl<I: Index> Board for LocalBoard<I> {
     {
         let answer = self.copy.subscribe(alloc, name, conj);
         // That the list is well formed comes to light at the list, here and below.
-        let _ = self.copy.log();
+        let _ = self.copy.read();
         answer
     }
 
     fn unsubscribe(&mut self, alloc: Global, name: &Name) -> Answer {
         let answer = self.copy.unsubscribe(alloc, name);
-        let _ = self.copy.log();
+        let _ = self.copy.read();
         answer
     }
 
     fn leave(&mut self, alloc: Global) -> Answer {
         let answer = self.copy.leave(alloc);
-        let _ = self.copy.log();
+        let _ = self.copy.read();
         answer
     }
 
     fn left(&self) -> bool {
-        let _ = self.copy.log();
+        let _ = self.copy.read();
         self.copy.gone()
     }
 
     fn find(&mut self, event: &Event, found: &mut Found) -> Result<u64, NoRead> {
-        self.copy.find(event, found).map_err(|_| NoRead::NoMemory)?;
+        self.copy
+            .read()
+            .find(event, found)
+            .map_err(|_| NoRead::NoMemory)?;
         Ok(self.count_read())
     }
 
@@ -174,27 +176,36 @@ impl<I: Index> Board for LocalBoard<I> {
         ensures memory { result ≢ Err NoRead.NoMemory }
         ensures exact { IfOk result (λ r. r.1 ≡ I.cost_of self.old.index event.now) }
     {
-        let cost = self.copy.cost(event);
+        let cost = self.copy.read().cost(event);
         Ok((self.count_read(), cost))
     }
 
     fn mine(&mut self, found: &mut Found) -> Result<u64, NoRead> {
-        self.copy.mine(found).map_err(|_| NoRead::NoMemory)?;
+        self.copy
+            .read()
+            .rows_of(SESSION, found)
+            .map_err(|_| NoRead::NoMemory)?;
         Ok(self.count_read())
     }
 
     fn all(&mut self, found: &mut Found) -> Result<u64, NoRead> {
-        self.copy.all(found).map_err(|_| NoRead::NoMemory)?;
+        self.copy.read().all(found).map_err(|_| NoRead::NoMemory)?;
         Ok(self.count_read())
     }
 
     fn tail(&mut self, from: u64, max: u64, changes: &mut Vec<Arc<Change>>) -> Result<u64, NoRead> {
-        put_tail(self.copy.log(), from, max, changes).map_err(|_| NoRead::NoMemory)?;
+        self.copy
+            .read()
+            .tail(from, max, changes)
+            .map_err(|_| NoRead::NoMemory)?;
         Ok(self.count_read())
     }
 
     fn send(&mut self, alloc: Global, event: &Event, found: &mut Found) -> Result<Sent, NoRead> {
-        self.copy.find(event, found).map_err(|_| NoRead::NoMemory)?;
+        self.copy
+            .read()
+            .find(event, found)
+            .map_err(|_| NoRead::NoMemory)?;
         self.post(alloc, event, found).map_err(|_| NoRead::NoMemory)
     }
 

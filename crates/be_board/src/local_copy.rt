@@ -1,29 +1,26 @@
 //! A copy to which one session alone appends, behind an opening.
 
-ghost use Rattle.std.specs.Prelude.{◌≡◌, ◌+◌, ◌≤◌, ◌++◌, [], ◌∷◌, length, true, false, OnOk, OnErr, IfOk, Some, slice_get};
+ghost use Rattle.std.specs.Prelude.{◌≡◌, ◌+◌, ◌≤◌, ◌++◌, [], ◌∷◌, length, true, false, OnOk, OnErr, IfOk};
 ghost use Rattle.std.specs.List.{list_all};
 ghost use Rattle.std.specs.Arc.{arc_value};
 ghost use Rattle.be_base.specs.declared.limits.TheConstants.{LOG_CHANGES};
-ghost use Rattle.be_model.specs.Bounds.{IsWithinBound};
-ghost use Rattle.be_model.specs.ByIds.{rows_of, session_rows};
-ghost use Rattle.be_model.specs.Lies.{conj_lies, event_lies, row_lies};
-ghost use Rattle.be_change.specs.Entries.{entry_of, entries_in};
-ghost use Rattle.be_change.specs.History.{live, hit_rows, has_left, entries_of, session_of, is_live_name, is_live_name_of, IsWellFormed, MayFollow};
+ghost use Rattle.be_model.specs.Lies.{conj_lies, row_lies};
+ghost use Rattle.be_change.specs.Entries.{entry_of};
+ghost use Rattle.be_change.specs.History.{live, has_left, entries_of, session_of, is_live_name, is_live_name_of, MayFollow};
 ghost use Rattle.be_change.specs.Made.{change_named, row_made};
 ghost use Rattle.be_change.specs.Opening.{IsTable, opening_of};
 ghost use Rattle.be_change.specs.Requests as asked;
 ghost use Rattle.be_change.specs.Sound.{all_lie};
-ghost use Rattle.be_change.specs.Walk.{live_rows, tail_from};
 ghost use Rattle.be_copy.specs.Edits.{fits};
 ghost use Rattle.be_board.specs.LocalCopy.{IsLocalList, IsAnswered};
 
 use crate::answers::Answer;
 use crate::openings::opened;
 use be_base::{Id, Name, NoMemory, SessionNo};
-use be_change::{ChangeLog, is_leave_of};
+use be_change::is_leave_of;
 use be_copy::{Copy2, Edit};
 use be_index::Index;
-use be_model::{Change, Conj, Cost, Event, Found, Row};
+use be_model::{Change, Conj, Row};
 use std::alloc::Global;
 use std::marker::Model;
 use std::sync::Arc;
@@ -73,12 +70,16 @@ impl<I: Index> LocalCopy<I> {
         })
     }
 
-    pub fn log(&self) -> &ChangeLog
-        ensures list { result.now.list ≡ self.now.list }
+    /// The copy, to be read.
+    pub fn read(&self) -> &Copy2<I>
+        ensures same { result.now ≡ self.now }
         ensures form { IsLocalList self.now.list }
         ensures lies { all_lie (I.schema self.now.index) self.now.list ≡ true }
+        ensures bounded { I.is_bounded self.now.index ≡ true }
     {
-        self.copy.log()
+        // That all rows lie in the schema comes to light at the list.
+        let _ = self.copy.log();
+        &self.copy
     }
 
     /// How many changes there are.
@@ -212,52 +213,6 @@ impl<I: Index> LocalCopy<I> {
         let change = Arc::new(alloc, change).map_err(|_| NoMemory)?;
         self.copy.absorb(&Edit::Change(change))?;
         self.gone = leaves;
-        Ok(())
-    }
-
-    /// What a search for the event costs.
-    pub fn cost(&self, event: &Event) -> Cost
-        requires { event_lies (I.schema self.now.index) event.now ≡ true }
-        ensures exact { result ≡ I.cost_of self.now.index event.now }
-        ensures bound { IsWithinBound (I.schema self.now.index) event.now (live_rows self.now.list) result }
-    {
-        self.copy.index().cost(event)
-    }
-
-    /// Finds the live rows that the event satisfies, by rising id, by one search.
-    pub fn find(&self, event: &Event, found: &mut Found) -> Result<(), NoMemory>
-        requires { event_lies (I.schema self.now.index) event.now ≡ true }
-        ensures found { OnOk result (found.new.rows ≡ rows_of (hit_rows self.now.list event.now)) }
-        ensures none { OnErr result (found.new.rows ≡ []) }
-    {
-        found.clear();
-        self.copy.index().find(event, found)?;
-        found.order();
-        Ok(())
-    }
-
-    /// Finds the session's live rows, by rising id.
-    pub fn mine(&self, found: &mut Found) -> Result<(), NoMemory>
-        ensures found { OnOk result (found.new.rows ≡ session_rows 1 (live self.now.list)) }
-        ensures none { OnErr result (found.new.rows ≡ []) }
-    {
-        found.clear();
-        self.copy.index().rows_of(SESSION, found)?;
-        found.order();
-        Ok(())
-    }
-
-    /// Finds all live rows, by rising id.
-    pub fn all(&self, found: &mut Found) -> Result<(), NoMemory>
-        ensures found { OnOk result (found.new.rows ≡ live_rows self.now.list) }
-        ensures none { OnErr result (found.new.rows ≡ []) }
-        ensures lies { all_lie (I.schema self.now.index) self.now.list ≡ true }
-    {
-        // That all rows lie in the schema comes to light at the list.
-        let _ = self.copy.log();
-        found.clear();
-        self.copy.index().all(found)?;
-        found.order();
         Ok(())
     }
 }

@@ -11,7 +11,7 @@ subscribe-answer-requires-clause-present g c = ap (λ v. has_left 1 v.list) c.se
 
 pub returns : goal.returns
 returns g c = record {
-  asked = asked_view g.I.Index.schema _ c.args.self.now _ (subscribe c.args.name c.args.conj) c.subscribe-answer.result c.self.view_is c.subscribe-answer.ensures.schema c.subscribe-answer.ensures.answered c.log.ensures.form.formed
+  asked = asked_view g.I.Index.schema _ c.args.self.now _ (subscribe c.args.name c.args.conj) c.subscribe-answer.result c.self.view_is c.subscribe-answer.ensures.schema c.subscribe-answer.ensures.answered c.read.ensures.form.formed
       (record { letters = refl; reads = refl; fulls = refl; empties = refl });
   free = λ e. subst (λ v. is_live_name c.args.name (live v.list) ≡ false) c.self.view_is (c.subscribe-answer.ensures.free e);
 }

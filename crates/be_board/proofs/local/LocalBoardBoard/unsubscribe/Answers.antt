@@ -11,6 +11,6 @@ unsubscribe-answer-requires g c = record { present = ap (λ v. has_left 1 v.list
 
 pub returns : goal.returns
 returns g c = record {
-  asked = asked_view g.I.Index.schema _ c.args.self.now _ (unsubscribe c.args.name.now) c.unsubscribe-answer.result c.self.view_is c.unsubscribe-answer.ensures.schema c.unsubscribe-answer.ensures.answered c.log.ensures.form.formed
+  asked = asked_view g.I.Index.schema _ c.args.self.now _ (unsubscribe c.args.name.now) c.unsubscribe-answer.result c.self.view_is c.unsubscribe-answer.ensures.schema c.unsubscribe-answer.ensures.answered c.read.ensures.form.formed
       (record { letters = refl; reads = refl; fulls = refl; empties = refl });
 }
