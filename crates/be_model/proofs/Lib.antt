@@ -23,3 +23,4 @@ pub mod Pieces
 pub mod SetsBuilt
 pub mod TextsBack
 pub mod SetsLie
+pub mod EventPlaces

@@ -15,3 +15,4 @@ pub mod Bounds
 pub mod SetTexts
 pub mod Letters
 pub mod Kinds
+pub mod Events

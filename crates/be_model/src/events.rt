@@ -1,6 +1,7 @@
 //! Events: sets of values of attributes.
 
-ghost use Rattle.std.specs.Prelude.{◌≡◌, ◌↔◌, [], ◌∷◌, ◌++◌, true, length, option_copied, IsTrue, OnOk, OnErr, IfOk};
+ghost use Rattle.std.specs.Prelude.{◌≡◌, ◌↔◌, ◌<◌, ◌≤◌, [], ◌∷◌, ◌++◌, true, length, option_copied, IsTrue, OnOk, OnErr, IfOk};
+ghost use Rattle.be_model.specs.Events.{noted};
 ghost use Rattle.be_model.specs.Forms.{attrs_rise, IsEvent};
 ghost use Rattle.be_model.specs.Matching.{attrs_of, values_of};
 ghost use Rattle.be_model.specs.Lies.{item_lies, event_lies};
@@ -11,10 +12,15 @@ use be_base::{AttrNo, NoMemory};
 use std::alloc::Global;
 use std::marker::Model;
 
+/// Of an attribute below this number the event notes where its item stands.
+const NOTED: usize = 64;
+
 /// Sets of values of attributes, rising by attribute, each once.
 #[derive(Drop)]
 pub struct Event {
     items: Vec<(AttrNo, Values)>,
+    /// By attribute, the place of its item where it has one, so that it is found by one look.
+    places: [u8; NOTED],
 }
 
 impl Model for Event {
@@ -23,11 +29,11 @@ impl Model for Event {
 
     ghost Value = { List (AttrNo × List ℤ) };
 
-    ghost use Rattle.be_model.specs.Forms.{IsEvent};
+    ghost use Rattle.be_model.specs.Events.{IsNoted};
 
     ghost view = { λ e. e.items.items };
 
-    ghost invariant = { λ e. IsEvent e.items.items };
+    ghost invariant = { λ e. IsNoted e.items.items e.places };
 }
 
 impl Event {
@@ -37,6 +43,7 @@ impl Event {
     {
         Event {
             items: Vec::new(alloc),
+            places: [u8::MAX; NOTED],
         }
     }
 
@@ -48,7 +55,10 @@ impl Event {
     {
         // A slice shows the form of the values.
         let _ = item.1.as_slice();
+        let attr = item.0;
+        let place = self.items.len();
         self.items.push(item)?;
+        note(&mut self.places, attr, place);
         Ok(())
     }
 
@@ -85,6 +95,31 @@ impl Event {
     pub fn values(&self, a: AttrNo) -> Option<&Values>
         ensures { option_copied result ≡ values_of self.now a }
     {
+        if usize::from(a.0) < NOTED {
+            self.values_noted(a)
+        } else {
+            self.values_searched(a)
+        }
+    }
+
+    // The values of an attribute, by its noted place.
+    fn values_noted(&self, a: AttrNo) -> Option<&Values>
+        requires { a.0 < NOTED }
+        ensures { option_copied result ≡ values_of self.now a }
+    {
+        let items = self.items.as_slice();
+        let place = usize::from(self.places[usize::from(a.0)]);
+        if place < items.len() && items[place].0.0 == a.0 {
+            Some(&items[place].1)
+        } else {
+            None
+        }
+    }
+
+    // The values of an attribute, by a search.
+    fn values_searched(&self, a: AttrNo) -> Option<&Values>
+        ensures { option_copied result ≡ values_of self.now a }
+    {
         let items = self.items.as_slice();
         match items.binary_search_by_key(&a.0, |item| item.0.0) {
             Ok(place) => Some(&items[place].1),
@@ -109,7 +144,20 @@ impl Event {
         for item in items {
             copies.push((item.0, item.1.copy()?))?;
         }
-        Ok(Event { items: copies })
+        Ok(Event {
+            items: copies,
+            places: self.places,
+        })
+    }
+}
+
+// Notes where the item of an attribute stands.
+fn note(places: &mut [u8; NOTED], a: AttrNo, place: usize)
+    requires { place ≤ a.0 }
+    ensures { places.new ≡ noted places.old a place }
+{
+    if usize::from(a.0) < NOTED {
+        places[usize::from(a.0)] = place as u8;
     }
 }
 

@@ -9,5 +9,5 @@ pub returns-in-len1-up : goal.returns-in-len1-up
 returns-in-len1-up c =
     let same = c.as_slice.ensures.value in
     ap (λ (item : AttrNo × List ℤ). ltb item.0.0 c.args.a.0) c.last-item.is
-    ∙ sym (attrs_rise-last c.as_slice.result.now c.args.a c.last-item.result (ap (λ e. attrs_rise (attrs_of e)) same ∙ c.self.invariant.rising) (omega arith))
+    ∙ sym (attrs_rise-last c.as_slice.result.now c.args.a c.last-item.result (ap (λ e. attrs_rise (attrs_of e)) same ∙ c.self.invariant.form.rising) (omega arith))
     ∙ ap (λ e. attrs_rise (attrs_of e ++ c.args.a ∷ [])) (same ∙ c.self.view_is)
