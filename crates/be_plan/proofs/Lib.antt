@@ -6,6 +6,7 @@ pub mod Gains
 pub mod Moves
 pub mod Counts
 pub mod Fails
+pub mod Counting
 pub mod Stuck
 pub mod Places
 pub mod Firsts

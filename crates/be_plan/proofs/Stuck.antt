@@ -16,9 +16,9 @@ use Rattle.be_score.specs.Picks.{pick}
 use Rattle.be_score.proofs.Picks.{picked}
 use Rattle.be_shape.specs.Shape.{NodeRange, Known, is_used, can_split, is_stuck, spans_inside, lower, upper}
 use Rattle.be_shape.specs.Children.{may_pass}
-use Rattle.be_plan.specs.Splits.{enough_pass, any_is_shared, where_enough, early_part, early_half}
+use Rattle.be_plan.specs.Splits.{enough_pass, any_is_had, where_enough, early_part, early_half}
 use Rattle.be_plan.proofs.Counts.{too_few, not_enough}
-use Rattle.be_plan.proofs.Fails.{too_few_share}
+use Rattle.be_plan.proofs.Counting.{too_few_have}
 
 -- which leaves are looked at
 abbrev pub still : List Row → Bool
@@ -105,11 +105,11 @@ still_half s k rows h t = by_range (can_split k.range) refl
     by_range true e = let z = by_still (still_is s k rows h t) e in sym (halves s k.range rows true false false e z.0 z.1)
     by_range false e = sym (halves s k.range rows false (enough_pass s Low k.range rows) (enough_pass s High k.range rows) e refl refl)
 
--- no part is due where too few rows share an attribute that isn't used
-pub closed_part : (s : Attributes) (alpha : ℕ) (k : Known) (rows : List Row) → list_all (row_lies s) rows ≡ true → any_is_shared k.used rows rows ≡ false → None ≡ early_part s alpha k rows
+-- no part is due where no attribute that isn't used is had by enough of the rows
+pub closed_part : (s : Attributes) (alpha : ℕ) (k : Known) (rows : List Row) → list_all (row_lies s) rows ≡ true → any_is_had k.used rows (length s) ≡ false → None ≡ early_part s alpha k rows
 closed_part s alpha k rows lies h = by_pick (pick s rows k.used alpha) refl
   where
     by_pick : (o : Option AttrNo) → pick s rows k.used alpha ≡ o → None ≡ where_enough s k.range rows o
     by_pick None e = refl
     by_pick (Some a) e =
-        let c = picked s rows k.used alpha a lies e in sym (ap (λ b. cond b (Some a) None) (too_few_share k.used a rows c.unused h))
+        let c = picked s rows k.used alpha a lies e in sym (ap (λ b. cond b (Some a) None) (too_few_have s k.used a rows lies c.some c.unused h))

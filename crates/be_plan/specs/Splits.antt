@@ -1,14 +1,12 @@
 -- The first splits at a node.
-use Rattle.std.specs.Prelude.{ℕ, ◌-◌, ◌==◌, ◌&&◌, ◌||◌, Bool, true, false, not, List, [], ◌∷◌, nat_le, count_by, Option, Some, None, if◌then◌else◌}
-use Rattle.std.specs.List.{list_any}
+use Rattle.std.specs.Prelude.{ℕ, zero, suc, ◌+◌, ◌-◌, ◌<◌, ◌≤◌, ◌==◌, ◌&&◌, ◌||◌, Bool, true, false, not, List, [], ◌∷◌, nat_le, count_by, slice_index_or, Option, Some, None, if◌then◌else◌}
 use Rattle.be_base.specs.declared.names.AttrNo.{AttrNo}
-use Rattle.be_base.specs.declared.limits.TheConstants.{EARLY_ROWS}
+use Rattle.be_base.specs.declared.limits.TheConstants.{ATTRIBUTES, EARLY_ROWS}
 use Rattle.be_model.specs.declared.changes.Row.{Row}
-use Rattle.be_model.specs.declared.preds.Pred.{Pred}
 use Rattle.be_model.specs.declared.paths.Hop.{Hop}
 use Rattle.be_model.specs.declared.paths.Hop.TheVariants.{Part, Low, High}
 use Rattle.be_model.specs.Rows.{has}
-use Rattle.be_model.specs.Schemas.{Attributes}
+use Rattle.be_model.specs.Schemas.{Attributes, numbered}
 use Rattle.be_score.specs.Picks.{pick}
 use Rattle.be_shape.specs.Shape.{NodeRange, Known, is_used, can_split}
 use Rattle.be_shape.specs.Children.{may_pass}
@@ -27,19 +25,30 @@ may_list a l = is_many l || any_listed (λ b. b.0 == a.0) l
 abbrev pub may_have : AttrNo → Row → Bool
 may_have a row = may_list a (attrs_of row.conj)
 
--- the attribute isn't used, at least 8 rows have it, and of the rows from some place on they may
-abbrev pub enough_share : List AttrNo → List Row → List Row → AttrNo → Bool
-enough_share used rows rest a =
-    (not (is_used used a) && nat_le EARLY_ROWS (count_by (may_have a) rest)) && nat_le EARLY_ROWS (count_by (has a) rows)
+-- the attribute isn't used, and at least 8 rows have it
+abbrev pub is_had : List AttrNo → List Row → AttrNo → Bool
+is_had used rows a =
+    not (is_used used a) && nat_le EARLY_ROWS (count_by (has a) rows)
 
-abbrev pub is_shared : List AttrNo → List Row → List Row → List Pred → Bool
-is_shared used rows rest conj = list_any (λ (p : Pred). enough_share used rows rest p.attr) conj
+-- that holds of an attribute below n
+abbrev pub any_is_had : List AttrNo → List Row → ℕ → Bool
+any_is_had used rows zero = false
+any_is_had used rows (suc n) =
+    any_is_had used rows n || is_had used rows (numbered n)
 
--- that holds of an attribute of some row and the rows from it on
-abbrev pub any_is_shared : List AttrNo → List Row → List Row → Bool
-any_is_shared used rows [] = false
-any_is_shared used rows (row ∷ rest) =
-    is_shared used rows (row ∷ rest) row.conj || any_is_shared used rows rest
+-- how often an attribute is listed, with the rows that list none
+abbrev pub most_of : List ℕ → ℕ → ℕ → ℕ
+most_of counts many a = slice_index_or counts a 0 + many
+
+-- no attribute is had by more of the rows than that
+abbrev pub IsMost : List Row → List ℕ → ℕ → Type 0
+IsMost rows counts many =
+    (a : ℕ) → a < ATTRIBUTES → count_by (may_have (numbered a)) rows ≤ most_of counts many a
+
+-- of each attribute one more is counted where a test holds, as long as there are fewer than a bound
+abbrev pub Counts : ℕ → (ℕ → Bool) → List ℕ → ℕ → List ℕ → ℕ → Type 0
+Counts bound test counts many counts' many' =
+    (a n : ℕ) → a < ATTRIBUTES → n < bound → n ≤ most_of counts many a → n + (if test a then 1 else 0) ≤ most_of counts' many' a
 
 -- at most so many rows fail the test
 abbrev pub few_fail : (Row → Bool) → ℕ → List Row → Bool
