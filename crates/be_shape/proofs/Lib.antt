@@ -26,3 +26,4 @@ pub mod LeafLess
 pub mod Exchanges
 pub mod Replacements
 pub mod Reshaping
+pub mod SightHulls

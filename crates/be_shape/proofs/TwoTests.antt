@@ -20,17 +20,17 @@ use Rattle.be_shape.specs.declared.glances.Bounds.{Bounds}
 use Rattle.be_shape.specs.declared.glances.Glance.{Glance}
 use Rattle.be_shape.specs.Glances.{least, greatest, is_in, has_in, small, bounds, bounds_of, of_none, is_narrower, unsure, with_first, with_second, with_test, with_bounds, with_pred, with_preds, glance_of, may_meet}
 
-both : (a b : Bool) → a ≡ true → b ≡ true → (a && b) ≡ true
+pub both : (a b : Bool) → a ≡ true → b ≡ true → (a && b) ≡ true
 both a b h k = ap (λ c. c && b) h ∙ k
 
-le_test : (x y : ℤ) → x ≤ℤ y → le_z x y ≡ true
+pub le_test : (x y : ℤ) → x ≤ℤ y → le_z x y ≡ true
 le_test x y h = by_test (le_z x y) refl
   where
     by_test : (b : Bool) → le_z x y ≡ b → b ≡ true
     by_test true e = refl
     by_test false e = absurd (omega (arith, ints))
 
-equal_from : (x y : ℤ) → int_eq x y ≡ true → x ≡ y
+pub equal_from : (x y : ℤ) → int_eq x y ≡ true → x ≡ y
 equal_from x y h = (Decides-int_eq x y).0 h
 
 -- a number above the least is no sign for no bound

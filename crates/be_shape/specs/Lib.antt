@@ -15,3 +15,4 @@ pub mod Right
 pub mod Spots
 pub mod Less
 pub mod Swaps
+pub mod Sights

@@ -9,6 +9,7 @@ ghost use Rattle.be_model.specs.Lies.{conj_lies};
 ghost use Rattle.be_model.specs.Matching.{values_of, satisfies};
 ghost use Rattle.be_shape.specs.Glances.{is_in, has_in, small, bounds_of, of_none, spread, is_narrower, unsure, with_first, with_second, with_test, with_bounds, with_pred, glance_of, may_meet, test_on, hull_low, hull_high, hull_in};
 
+use crate::sights::Sight;
 use be_base::AttrNo;
 use be_model::{Conj, Event, Op, Pred, Schema, Values};
 
@@ -276,6 +277,30 @@ impl Glance {
         ensures { result ≡ satisfies e.now conj.now }
     {
         self.may_meet(e) && (self.whole || conj.satisfied_by(e))
+    }
+
+    // Whether what is seen of the event lets it meet the tests.
+    fn is_worth(&self, e: &Sight) -> bool
+        ensures { may_meet e.now self.now ≡ true → result ≡ true }
+    {
+        (!self.has_first || e.may_have(self.first, self.first_attr))
+            && (!self.has_second || e.may_have(self.second, self.second_attr))
+    }
+
+    /// The same of an event that is seen: most often the table of the sight says no.
+    #[tactic(auto, using(crate::proofs::TwoTests::told))]
+    pub(crate) fn is_met_at(&self, conj: &Conj, e: &Sight) -> bool
+        requires told { self.now ≡ glance_of conj.now }
+        requires form { IsConj conj.now }
+        ensures { result ≡ satisfies e.now conj.now }
+    {
+        if !self.is_worth(e) {
+            false
+        } else if self.whole {
+            self.may_meet(e.event())
+        } else {
+            conj.satisfied_by(e.event())
+        }
     }
 
     // The test on an attribute.

@@ -12,6 +12,7 @@ ghost use Rattle.be_model.specs.Matching.{satisfies};
 use crate::hints::Hints;
 use crate::listings::RowAttrs;
 use crate::places::{Kept, low_part};
+use crate::sights::Sight;
 use be_base::AttrNo;
 use be_model::{Event, Row, RowList, Schema};
 use smallvec::SmallVec;
@@ -81,6 +82,14 @@ impl Leaf {
         ensures { option_map (λ row. satisfies e.now row.conj) (slice_get self.now place) ≡ Some result }
     {
         self.kept(place).is_met(e)
+    }
+
+    /// The same of an event that is seen, whose table passes over most rows.
+    pub fn is_met_at(&self, place: usize, e: &Sight) -> bool
+        requires { place < length self.now }
+        ensures { option_map (λ row. satisfies e.now row.conj) (slice_get self.now place) ≡ Some result }
+    {
+        self.kept(place).is_met_at(e)
     }
 
     /// The span on the attribute of the row at a place. The row is looked at only where no test of it is on the attribute.

@@ -15,6 +15,7 @@ mod looks;
 mod nodes;
 mod places;
 mod ranges;
+mod sights;
 mod spots;
 mod swaps;
 mod trees;
@@ -32,6 +33,7 @@ pub use looks::{
 };
 pub use nodes::{Node, Part};
 pub use ranges::{NodeRange, holds_value, lower_range, upper_range, whole_range};
+pub use sights::Sight;
 pub use spots::Spot;
 pub use swaps::{place_on, swap_at};
 pub use trees::Tree;

@@ -12,6 +12,7 @@ ghost use Rattle.be_shape.specs.Held.{GlanceTells};
 use crate::glances::{Ends, Glance};
 use crate::listings::RowAttrs;
 use crate::looks::has_attr;
+use crate::sights::Sight;
 use be_base::{AttrNo, Id};
 use be_model::{Event, Row, Schema};
 use std::marker::Model;
@@ -190,6 +191,14 @@ impl Kept {
         ensures { option_map (λ row. satisfies e.now row.conj) self.now ≡ Some result }
     {
         self.glance().is_met(&self.row().conj, e)
+    }
+
+    /// The same of an event that is seen.
+    pub(crate) fn is_met_at(&self, e: &Sight) -> bool
+        requires { IsSome self.now }
+        ensures { option_map (λ row. satisfies e.now row.conj) self.now ≡ Some result }
+    {
+        self.glance().is_met_at(&self.row().conj, e)
     }
 
     /// The row's span on the attribute.
