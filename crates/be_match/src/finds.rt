@@ -12,8 +12,8 @@ ghost use Rattle.be_match.specs.Leaves.{FindsSome, KeepsRoom};
 use crate::counts::node_cost;
 use crate::searches::search_node;
 use be_base::NoMemory;
-use be_model::{Cost, Event, Found};
-use be_shape::Tree;
+use be_model::{Cost, Event, Found, Schema};
+use be_shape::{Sight, Tree};
 
 /// Appends the rows that the event satisfies, each once. It takes memory for the list of found rows alone,
 /// and further references to rows, of which there may be no more.
@@ -33,7 +33,9 @@ pub fn find_in(t: &Tree, e: &Event, found: &mut Found) -> Result<Cost, NoMemory>
     let _ = t.schema.count();
     let _ = e.items();
     let before = found.len();
-    match search_node(&t.root, &t.schema, e, None, found) {
+    let s: &Schema = &t.schema;
+    let sight = Sight::of(s, e);
+    match search_node(&t.root, s, &sight, None, found) {
         Ok(cost) => Ok(cost),
         Err(NoMemory) => {
             found.cut(before);

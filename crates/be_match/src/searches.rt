@@ -4,15 +4,15 @@ ghost use Rattle.std.specs.Prelude.{◌≡◌, ◌++◌, ◌∷◌, [], true, sl
 ghost use Rattle.std.specs.Arc.{arc_value};
 ghost use Rattle.be_shape.specs.Plain.{plain, parts_as, half_as, part_as, parts_of};
 ghost use Rattle.be_shape.specs.Ranges.{is_bounded, is_rising};
-ghost use Rattle.be_shape.specs.Search.{visited, visited_in_parts, visited_in_half, all_of};
-ghost use Rattle.be_model.specs.Matching.{satisfied};
+ghost use Rattle.be_shape.specs.Search.{visited, visited_in_parts, visited_in_half, all_of, holds_value};
+ghost use Rattle.be_model.specs.Matching.{satisfied, is_assigned};
 ghost use Rattle.be_base.specs.Lists.{BeginsWith};
 ghost use Rattle.be_match.specs.Leaves.{AreCountable, FindsSome, KeepsRoom, cost_of_leaves};
 
-use crate::counts::{enters_part, joined};
-use be_base::NoMemory;
-use be_model::{Cost, Event, Found, Row, Schema};
-use be_shape::{Leaf, Node, NodeRange, Part, holds_value, lower_range, upper_range, whole_range};
+use crate::counts::{self, joined};
+use be_base::{AttrNo, NoMemory};
+use be_model::{Cost, Found, Row, Schema};
+use be_shape::{Leaf, Node, NodeRange, Part, Sight, lower_range, upper_range, whole_range};
 use std::sync::Arc;
 
 // Appends what the event satisfies in a node and in all below it.
@@ -20,7 +20,7 @@ use std::sync::Arc;
 pub(crate) fn search_node(
     n: &Node,
     s: &Schema,
-    e: &Event,
+    e: &Sight,
     range: NodeRange,
     found: &mut Found,
 ) -> Result<Cost, NoMemory>
@@ -41,7 +41,7 @@ pub(crate) fn search_node(
 }
 
 #[cycle(searches)]
-fn search_parts(parts: &[Part], s: &Schema, e: &Event, found: &mut Found) -> Result<Cost, NoMemory>
+fn search_parts(parts: &[Part], s: &Schema, e: &Sight, found: &mut Found) -> Result<Cost, NoMemory>
     requires countable { AreCountable (visited_in_parts s.now e.now (parts_as parts.now)) }
     ensures put { OnOk result (found.new.rows ≡ found.old.rows ++ satisfied e.now (all_of (visited_in_parts s.now e.now (parts_as parts.now)))) }
     ensures refused { OnErr result (FindsSome e.now (all_of (visited_in_parts s.now e.now (parts_as parts.now)))) }
@@ -57,7 +57,7 @@ fn search_parts(parts: &[Part], s: &Schema, e: &Event, found: &mut Found) -> Res
 }
 
 #[cycle(searches)]
-fn search_part(part: &Part, s: &Schema, e: &Event, found: &mut Found) -> Result<Cost, NoMemory>
+fn search_part(part: &Part, s: &Schema, e: &Sight, found: &mut Found) -> Result<Cost, NoMemory>
     requires countable { AreCountable (visited_in_parts s.now e.now (parts_of (part_as part.now ∷ []))) }
     ensures put { OnOk result (found.new.rows ≡ found.old.rows ++ satisfied e.now (all_of (visited_in_parts s.now e.now (parts_of (part_as part.now ∷ []))))) }
     ensures refused { OnErr result (FindsSome e.now (all_of (visited_in_parts s.now e.now (parts_of (part_as part.now ∷ []))))) }
@@ -76,7 +76,7 @@ fn search_part(part: &Part, s: &Schema, e: &Event, found: &mut Found) -> Result<
 fn search_half(
     half: &Option<Box<Node>>,
     s: &Schema,
-    e: &Event,
+    e: &Sight,
     range: NodeRange,
     found: &mut Found,
 ) -> Result<Cost, NoMemory>
@@ -101,7 +101,7 @@ fn search_half(
 }
 
 // Appends the rows of a leaf that the event satisfies.
-fn search_leaf(leaf: &Leaf, e: &Event, found: &mut Found) -> Result<(), NoMemory>
+fn search_leaf(leaf: &Leaf, e: &Sight, found: &mut Found) -> Result<(), NoMemory>
     ensures put { OnOk result (found.new.rows ≡ found.old.rows ++ satisfied e.now leaf.now) }
     ensures refused { OnErr result (FindsSome e.now leaf.now) }
     ensures front { BeginsWith found.new.rows found.old.rows }
@@ -119,7 +119,7 @@ fn test(
     leaf: &Leaf,
     place: usize,
     row: &Arc<Row>,
-    e: &Event,
+    e: &Sight,
     found: &mut Found,
 ) -> Result<(), NoMemory>
     requires { slice_get leaf.now place ≡ Some (arc_value row.now) }
@@ -128,9 +128,24 @@ fn test(
     ensures front { BeginsWith found.new.rows found.old.rows }
     ensures room { KeepsRoom found.old found.new }
 {
-    if leaf.is_met(place, e) {
+    if leaf.is_met_at(place, e) {
         found.reserve(1)?;
         found.push_again(row)?;
     }
     Ok(())
+}
+
+// Whether a search for the event enters the parts of the attribute.
+fn enters_part(a: AttrNo, e: &Sight) -> bool
+    ensures { result ≡ is_assigned e.now a }
+{
+    counts::enters_part(a, e.event())
+}
+
+// Whether the range holds at least one of the event's values of its attribute.
+fn holds_value(range: NodeRange, e: &Sight) -> bool
+    ensures value { result ≡ holds_value e.now range }
+    ensures rising { result ≡ true → is_rising range ≡ true }
+{
+    be_shape::holds_value(range, e.event())
 }

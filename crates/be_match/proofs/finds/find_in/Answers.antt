@@ -19,7 +19,7 @@ search_node-requires-clause-countable c =
     let e = c.args.e.now in
     let n = plain t.root in
     let w = searched t e (subst IsSchema c.deref.ensures c.count.ensures.form) c.items.ensures.form c.requires in
-    subst (λ a. AreCountable (visited a e None n)) (sym c.deref-2.ensures) (countable s e n w)
+    subst (λ x. AreCountable (visited c.deref-s.result.now x None n)) (sym c.of-sight.ensures) (subst (λ a. AreCountable (visited a e None n)) (sym c.deref-s.ensures) (countable s e n w))
 
 pub returns-in-Ok-clause-found : goal.returns-in-Ok-clause-found
 returns-in-Ok-clause-found c =
@@ -31,7 +31,7 @@ returns-in-Ok-clause-found c =
     let w = searched t e (subst IsSchema c.deref.ensures c.count.ensures.form) c.items.ensures.form c.requires in
     record {
       found = satisfied e (rows_below n);
-      put = c.in-Ok.ensures.put ∙ ap (λ a. old ++ satisfied e (all_of (visited a e None n))) c.deref-2.ensures ∙ ap (λ rows. old ++ rows) (all_found s e n w);
+      put = c.in-Ok.ensures.put ∙ ap (λ x. old ++ satisfied x (all_of (visited c.deref-s.result.now x None n))) c.of-sight.ensures ∙ ap (λ a. old ++ satisfied e (all_of (visited a e None n))) c.deref-s.ensures ∙ ap (λ rows. old ++ rows) (all_found s e n w);
       exact = IsPermutation-sym (satisfied e (rows_below n)) (satisfied e (rows_of (contents n))) (filter_permuted (λ (row : Row). satisfies e row.conj) (rows_below n));
     }
 
@@ -42,7 +42,7 @@ returns-in-Err-clause-some c =
     let e = c.args.e.now in
     let n = plain t.root in
     let w = searched t e (subst IsSchema c.deref.ensures c.count.ensures.form) c.items.ensures.form c.requires in
-    some_in_tree s e n w (subst (λ a. FindsSome e (all_of (visited a e None n))) c.deref-2.ensures c.in-Err.ensures.refused)
+    some_in_tree s e n w (subst (λ a. FindsSome e (all_of (visited a e None n))) c.deref-s.ensures (subst (λ x. FindsSome x (all_of (visited c.deref-s.result.now x None n))) c.of-sight.ensures c.in-Err.ensures.refused))
 
 pub returns-in-Ok-clause-bound : goal.returns-in-Ok-clause-bound
 returns-in-Ok-clause-bound c =
@@ -51,5 +51,5 @@ returns-in-Ok-clause-bound c =
     let e = c.args.e.now in
     let n = plain t.root in
     let w = searched t e (subst IsSchema c.deref.ensures c.count.ensures.form) c.items.ensures.form c.requires in
-    within_bound s e n c.in-Ok.cost w (ap (λ x. x.visits) c.in-Ok.ensures.cost ∙ ap (λ a. length (visited a e None n)) c.deref-2.ensures)
-    (ap (λ x. x.tested) c.in-Ok.ensures.cost ∙ ap (λ a. length (all_of (visited a e None n))) c.deref-2.ensures)
+    within_bound s e n c.in-Ok.cost w (ap (λ x. x.visits) c.in-Ok.ensures.cost ∙ ap (λ x. length (visited c.deref-s.result.now x None n)) c.of-sight.ensures ∙ ap (λ a. length (visited a e None n)) c.deref-s.ensures)
+    (ap (λ x. x.tested) c.in-Ok.ensures.cost ∙ ap (λ x. length (all_of (visited c.deref-s.result.now x None n))) c.of-sight.ensures ∙ ap (λ a. length (all_of (visited a e None n))) c.deref-s.ensures)
