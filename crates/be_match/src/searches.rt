@@ -128,7 +128,7 @@ fn test(
     ensures front { BeginsWith found.new.rows found.old.rows }
     ensures room { KeepsRoom found.old found.new }
 {
-    if leaf.is_met_at(place, e) {
+    if leaf.is_met(place, e) {
         found.reserve(1)?;
         found.push_again(row)?;
     }

@@ -269,16 +269,6 @@ impl Glance {
             && (!self.has_second || has_in(self.second, self.second_attr, e))
     }
 
-    /// Whether the event satisfies the condition that this is told of.
-    #[tactic(auto, using(crate::proofs::TwoTests::told))]
-    pub(crate) fn is_met(&self, conj: &Conj, e: &Event) -> bool
-        requires told { self.now ≡ glance_of conj.now }
-        requires form { IsConj conj.now }
-        ensures { result ≡ satisfies e.now conj.now }
-    {
-        self.may_meet(e) && (self.whole || conj.satisfied_by(e))
-    }
-
     // Whether what is seen of the event lets it meet the tests.
     fn is_worth(&self, e: &Sight) -> bool
         ensures { may_meet e.now self.now ≡ true → result ≡ true }
@@ -287,9 +277,9 @@ impl Glance {
             && (!self.has_second || e.may_have(self.second, self.second_attr))
     }
 
-    /// The same of an event that is seen: most often the table of the sight says no.
+    /// Whether the event satisfies the condition that this is told of. Most often the table of the sight says no.
     #[tactic(auto, using(crate::proofs::TwoTests::told))]
-    pub(crate) fn is_met_at(&self, conj: &Conj, e: &Sight) -> bool
+    pub(crate) fn is_met(&self, conj: &Conj, e: &Sight) -> bool
         requires told { self.now ≡ glance_of conj.now }
         requires form { IsConj conj.now }
         ensures { result ≡ satisfies e.now conj.now }

@@ -14,7 +14,7 @@ use crate::listings::RowAttrs;
 use crate::places::{Kept, low_part};
 use crate::sights::Sight;
 use be_base::AttrNo;
-use be_model::{Event, Row, RowList, Schema};
+use be_model::{Row, RowList, Schema};
 use smallvec::SmallVec;
 use std::alloc::Global;
 use std::marker::Model;
@@ -76,20 +76,13 @@ impl Leaf {
         self.kept(place).row()
     }
 
-    /// Whether the event satisfies the row at a place. The row is looked at only where two tests of it are met and don't say all.
-    pub fn is_met(&self, place: usize, e: &Event) -> bool
+    /// Whether the event satisfies the row at a place. The row is looked at only where two tests of it are met and don't say all;
+    /// most others are passed over by the table of the sight.
+    pub fn is_met(&self, place: usize, e: &Sight) -> bool
         requires { place < length self.now }
         ensures { option_map (λ row. satisfies e.now row.conj) (slice_get self.now place) ≡ Some result }
     {
         self.kept(place).is_met(e)
-    }
-
-    /// The same of an event that is seen, whose table passes over most rows.
-    pub fn is_met_at(&self, place: usize, e: &Sight) -> bool
-        requires { place < length self.now }
-        ensures { option_map (λ row. satisfies e.now row.conj) (slice_get self.now place) ≡ Some result }
-    {
-        self.kept(place).is_met_at(e)
     }
 
     /// The span on the attribute of the row at a place. The row is looked at only where no test of it is on the attribute.

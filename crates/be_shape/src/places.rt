@@ -14,7 +14,7 @@ use crate::listings::RowAttrs;
 use crate::looks::has_attr;
 use crate::sights::Sight;
 use be_base::{AttrNo, Id};
-use be_model::{Event, Row, Schema};
+use be_model::{Row, Schema};
 use std::marker::Model;
 use std::sync::Arc;
 
@@ -186,19 +186,11 @@ impl Kept {
     }
 
     /// Whether the event satisfies the row.
-    pub(crate) fn is_met(&self, e: &Event) -> bool
+    pub(crate) fn is_met(&self, e: &Sight) -> bool
         requires { IsSome self.now }
         ensures { option_map (λ row. satisfies e.now row.conj) self.now ≡ Some result }
     {
         self.glance().is_met(&self.row().conj, e)
-    }
-
-    /// The same of an event that is seen.
-    pub(crate) fn is_met_at(&self, e: &Sight) -> bool
-        requires { IsSome self.now }
-        ensures { option_map (λ row. satisfies e.now row.conj) self.now ≡ Some result }
-    {
-        self.glance().is_met_at(&self.row().conj, e)
     }
 
     /// The row's span on the attribute.
