@@ -1,24 +1,28 @@
 -- A row gains only on an attribute that it has.
-use Rattle.std.proofs.Common.{◌≡◌, ℕ, ◌+◌, ◌<◌, ◌≤◌, ltb, eqb, Bool, true, false, true≢false, cond, ◌&&◌, ◌||◌, List, [], ◌∷◌, Option, Some, None, refl, sym, ap, ◌∙◌, arith}
-use Rattle.std.specs.Prelude.{is_some, option_map, option_and_then}
+use Rattle.std.proofs.Common.{◌≡◌, ℕ, zero, suc, ◌+◌, ◌-◌, ◌*◌, ◌/◌, ◌<◌, ◌≤◌, leb, ltb, eqb, Bool, true, false, true≢false, cond, ◌&&◌, ◌||◌, List, [], ◌∷◌, Option, Some, None, refl, sym, ap, ◌∙◌, subst, arith}
+use Rattle.std.specs.Prelude.{IfSome, is_some, option_map, option_and_then}
+use Rattle.std.proofs.Math.Nat.{div-lt_iff_lt-mul}
+use Rattle.std.proofs.lemmas.Int.{ints}
 use Rattle.std.specs.List.{find, list_any}
 use Rattle.std.proofs.lemmas.Bool.{leb-true, lt-leb, and_parts, and_from, or_left, or_right, eq-eqb, eqb-true, false_from_ne_true}
 use Rattle.be_base.specs.declared.names.AttrNo.{AttrNo}
 use Rattle.be_base.specs.declared.limits.TheConstants.{SHIFT_GAIN, LOG_CHANGES}
 use Rattle.be_model.specs.declared.changes.Row.{Row}
 use Rattle.be_model.specs.declared.preds.Pred.{Pred}
-use Rattle.be_model.specs.Domains.{Range}
+use Rattle.be_model.specs.Domains.{Range, width}
+use Rattle.be_model.specs.Laws.{IsPart}
+use Rattle.be_model.proofs.Spans.{spans_lie}
 use Rattle.be_model.specs.Hulls.{is_on, hull, span_in}
 use Rattle.be_model.specs.Forms.{IsConj, is_conj}
 use Rattle.be_model.specs.Lies.{row_lies}
-use Rattle.be_model.specs.Schemas.{Attributes, range_of, numbered}
+use Rattle.be_model.specs.Schemas.{Attributes, IsSchema, range_of, numbered}
 use Rattle.be_model.specs.Rows.{id_of, has}
 use Rattle.be_model.proofs.FormTests.{IsConj-from_is_conj}
 use Rattle.be_model.proofs.Lists.{is_some-find}
 use Rattle.be_score.specs.Scores.{weight_in, weight}
-use Rattle.be_shape.specs.Shape.{is_used, may_stand}
+use Rattle.be_shape.specs.Shape.{whole, is_used, may_stand}
 use Rattle.be_plan.specs.Plan.{gains}
-use Rattle.be_plan.specs.Shifts.{gains_among, any_gains}
+use Rattle.be_plan.specs.Shifts.{gains_among, any_gains, is_small, are_small, least_share}
 
 -- what may stand in a tree has the form of a condition and lies in the schema
 pub may_form : (s : Attributes) (row : Row) → may_stand s row ≡ true → IsConj row.conj
@@ -72,11 +76,47 @@ weight_most s a row = by_parts (range_of s a) (span_in s a row.conj)
     by_parts (Some d) (Some r) = omega arith
 
 -- a row that weighs more than 500 gains nowhere
-pub heavy : (s : Attributes) (from : AttrNo) (row : Row) (attrs : List AttrNo) → 1000 < weight s from row + SHIFT_GAIN → find (gains s from row) attrs ≡ None
-heavy s from row [] l = refl
-heavy s from row (to ∷ attrs) l =
+over_half : (s : Attributes) (from : AttrNo) (row : Row) (attrs : List AttrNo) → 1000 < weight s from row + SHIFT_GAIN → find (gains s from row) attrs ≡ None
+over_half s from row [] l = refl
+over_half s from row (to ∷ attrs) l =
     let m = weight_most s to row in
-    ap (λ b. cond b (Some to) (find (gains s from row) attrs)) (lt-leb (weight s from row + SHIFT_GAIN) (weight s to row) (omega arith)) ∙ heavy s from row attrs l
+    ap (λ b. cond b (Some to) (find (gains s from row) attrs)) (lt-leb (weight s from row + SHIFT_GAIN) (weight s to row) (omega arith)) ∙ over_half s from row attrs l
+
+-- of a domain of at most 1000 values a span takes a thousandth
+one_share : (w d : ℕ) → 0 < w → 0 < d → d ≤ 1000 → 1000 - 1000 * w / d ≤ 999
+one_share w d some there few = by_share (1000 * w / d) refl
+  where
+    by_share : (q : ℕ) → 1000 * w / d ≡ q → 1000 - q ≤ 999
+    by_share zero e = let l = (div-lt_iff_lt-mul {k = d} {x = 1000 * w} {y = 1} there).0 (omega (arith, e)) in absurd (omega (arith, l, some, few))
+    by_share (suc q) e = omega arith
+
+small_weight : (s : Attributes) (a : AttrNo) (row : Row) → IsSchema s → may_stand s row ≡ true → is_small (whole s a) ≡ true → weight s a row ≤ 999
+small_weight s a row f may h = by_range (range_of s a) refl h
+  where
+    by_span : (d : Range) (o : Option Range) → range_of s a ≡ Some d → span_in s a row.conj ≡ o → leb (width d) 1000 ≡ true → weight_in (Some d) o ≤ 999
+    by_span d None e g l = omega arith
+    by_span d (Some x) e g l =
+        let part = subst (λ o. IfSome o (IsPart d)) g (spans_lie s a row.conj d f (may_form s row may) (may_lies s row may) e) in
+        let low = part.low in
+        let rising = part.rising in
+        let high = part.high in
+        one_share (width x) (width d) (omega (arith, ints, rising)) (omega (arith, ints, low, rising, high)) (leb-true (width d) 1000 l)
+
+    by_range : (o : Option Range) → range_of s a ≡ o → is_small (option_map (λ d. (a, d)) o) ≡ true → weight s a row ≤ 999
+    by_range None e l = let z = ap (λ o. weight_in o (span_in s a row.conj)) e in omega (arith, z)
+    by_range (Some d) e l = subst (λ o. weight_in o (span_in s a row.conj) ≤ 999) (sym e) (by_span d (span_in s a row.conj) e refl l)
+
+at_half : (s : Attributes) (from : AttrNo) (row : Row) (attrs : List AttrNo) → IsSchema s → may_stand s row ≡ true → are_small s attrs ≡ true → 1000 < weight s from row + (SHIFT_GAIN + 1) → find (gains s from row) attrs ≡ None
+at_half s from row [] f may h l = refl
+at_half s from row (to ∷ attrs) f may h l =
+    let k = and_parts (is_small (whole s to)) (are_small s attrs) h in
+    let m = small_weight s to row f may k.0 in
+    ap (λ b. cond b (Some to) (find (gains s from row) attrs)) (lt-leb (weight s from row + SHIFT_GAIN) (weight s to row) (omega (arith, l, m))) ∙ at_half s from row attrs f may k.1 l
+
+-- a row that takes little of its part's domain gains nowhere
+pub heavy : (s : Attributes) (from : AttrNo) (row : Row) (attrs : List AttrNo) (small : Bool) → small ≡ are_small s attrs → IsSchema s → may_stand s row ≡ true → 1000 < weight s from row + least_share small → find (gains s from row) attrs ≡ None
+heavy s from row attrs true e f may l = at_half s from row attrs f may (sym e) l
+heavy s from row attrs false e f may l = over_half s from row attrs l
 
 -- what holds of an attribute of a condition holds of some predicate's
 pub some_on : (test : AttrNo → Bool) (to : AttrNo) (conj : List Pred) → test to ≡ true → list_any (is_on to) conj ≡ true → list_any (λ (p : Pred). test p.attr) conj ≡ true

@@ -1,9 +1,10 @@
 -- The first shift at a node.
-use Rattle.std.specs.Prelude.{◌≡◌, ◌*◌, ◌==◌, ◌&&◌, ◌||◌, Bool, true, false, not, List, [], ◌∷◌, nat_lt, Option, Some, None, option_map, if◌then◌else◌}
+use Rattle.std.specs.Prelude.{◌≡◌, ◌+◌, ◌*◌, ◌==◌, ◌&&◌, ◌||◌, Bool, true, false, not, List, [], ◌∷◌, nat_lt, nat_le, ℕ, Option, Some, None, option_map, if◌then◌else◌}
 use Rattle.std.specs.List.{find, list_all, list_any, AllByRecursion}
 use Rattle.std.specs.Option.{option_or}
 use Rattle.be_base.specs.declared.names.AttrNo.{AttrNo}
 use Rattle.be_base.specs.declared.names.Id.{Id}
+use Rattle.be_base.specs.declared.limits.TheConstants.{SHIFT_GAIN}
 use Rattle.be_model.specs.declared.changes.Row.{Row}
 use Rattle.be_model.specs.declared.preds.Pred.{Pred}
 use Rattle.be_model.specs.declared.paths.Hop.{Hop}
@@ -11,7 +12,7 @@ use Rattle.be_model.specs.declared.paths.Hop.TheVariants.{Part, Low, High}
 use Rattle.be_model.specs.Schemas.{Attributes}
 use Rattle.be_model.specs.Domains.{width}
 use Rattle.be_shape.specs.Plain.{Plain, Parts, no_part, part, rows_below}
-use Rattle.be_shape.specs.Shape.{NodeRange, Known, known, is_used}
+use Rattle.be_shape.specs.Shape.{NodeRange, Known, known, whole, is_used}
 use Rattle.be_shape.specs.Paths.{range_below}
 use Rattle.be_shape.specs.Children.{roots_of}
 use Rattle.be_shape.specs.Ranges.{is_bounded, is_rising}
@@ -47,12 +48,29 @@ first_shift s attrs no_part = None
 first_shift s attrs (part a root more) =
     option_or (option_map (λ (g : Id × AttrNo). (a, g.0, g.1)) (least_gain s attrs a (rows_below root))) (first_shift s attrs more)
 
--- the range is less than half of the whole, on the same attribute
-abbrev pub is_narrow : NodeRange → NodeRange → Bool
-is_narrow None w = false
-is_narrow (Some r) None = false
-is_narrow (Some r) (Some w) =
-    r.0.0 == w.0.0 && nat_lt (2 * width r.1) (width w.1)
+-- no domain of these attributes has more than 1000 values, so that no row weighs more than 999 on one
+abbrev pub is_small : NodeRange → Bool
+is_small None = true
+is_small (Some r) = nat_le (width r.1) 1000
+
+abbrev pub are_small : Attributes → List AttrNo → Bool
+are_small s attrs = list_all (λ a. is_small (whole s a)) attrs
+
+-- how many thousandths of its own part's domain a row takes at least that gains among such attributes, or among others
+abbrev pub least_share : Bool → ℕ
+least_share true = SHIFT_GAIN + 1
+least_share false = SHIFT_GAIN
+
+-- so many values are fewer thousandths of the domain than that
+abbrev pub is_light : Bool → ℕ → ℕ → Bool
+is_light small w d = nat_lt (1000 * w) (least_share small * d)
+
+-- the range is as little of the whole, on the same attribute
+abbrev pub is_narrow : Bool → NodeRange → NodeRange → Bool
+is_narrow small None w = false
+is_narrow small (Some r) None = false
+is_narrow small (Some r) (Some w) =
+    r.0.0 == w.0.0 && is_light small (width r.1) (width w.1)
 
 -- the attribute is the one that rows may leave, or isn't used
 abbrev pub is_apart : AttrNo → List AttrNo → AttrNo → Bool

@@ -1,20 +1,20 @@
 //! Rows that may leave their part, as their places in a leaf tell it.
 
-ghost use Rattle.std.specs.Prelude.{◌≡◌, ◌≤◌, ◌<◌, ◌≤ℤ◌, ◌*◌, ◌/◌, ◌||◌, negsuc, pos, true, slice_get, Some};
+ghost use Rattle.std.specs.Prelude.{◌≡◌, ◌≤◌, ◌<◌, ◌≤ℤ◌, ◌+◌, ◌-◌, ◌*◌, ◌/◌, ◌||◌, negsuc, pos, true, slice_get, Some, IfSome, IfNone};
 ghost use Rattle.std.specs.List.{list_any};
 ghost use Rattle.be_model.specs.declared.preds.Pred.{Pred};
 ghost use Rattle.be_model.specs.Domains.{width};
 ghost use Rattle.be_model.specs.Laws.{IsPart};
-ghost use Rattle.be_model.specs.Schemas.{numbered};
+ghost use Rattle.be_model.specs.Schemas.{numbered, IsSchema};
 ghost use Rattle.be_score.specs.Scores.{weight};
 ghost use Rattle.be_shape.specs.Listed.{any_listed};
 ghost use Rattle.be_shape.specs.Plain.{parts_as};
-ghost use Rattle.be_shape.specs.Shape.{attrs_of, is_used, may_stand};
-ghost use Rattle.be_plan.specs.Shifts.{gains_among, any_gains};
+ghost use Rattle.be_shape.specs.Shape.{attrs_of, is_used, may_stand, whole};
+ghost use Rattle.be_plan.specs.Shifts.{gains_among, any_gains, is_small, are_small, is_light, least_share};
 
 use be_base::{AttrNo, SHIFT_GAIN};
 use be_model::{Pred, Row, Schema};
-use be_shape::{Leaf, Part, RowAttrs};
+use be_shape::{Leaf, Part, RowAttrs, whole_range};
 
 /// How many values a range has.
 pub(crate) fn width_of(range: (i64, i64)) -> u64
@@ -52,6 +52,81 @@ pub(crate) fn weight_at(leaf: &Leaf, place: usize, row: &Row, s: &Schema, a: Att
         (Some(domain), Some(span)) => (1000 - share(span, domain)) as i64,
         _ => 0,
     }
+}
+
+/// Whether so many values are fewer thousandths of the domain than a row takes at least that gains.
+pub(crate) fn is_light(small: bool, values: u64, domain: u64) -> bool
+    requires values { values ≤ 4294967296 }
+    requires domain { domain ≤ 4294967296 }
+    ensures { result ≡ is_light small values domain }
+{
+    if small {
+        1000 * values < (SHIFT_GAIN as u64 + 1) * domain
+    } else {
+        1000 * values < SHIFT_GAIN as u64 * domain
+    }
+}
+
+// What a span weighs, or none where it is light.
+fn own_in(span: (i64, i64), domain: (i64, i64), small: bool) -> Option<i64>
+    requires part { IsPart domain span }
+    requires low { negsuc 2147483647 ≤ℤ domain.0 }
+    requires high { domain.1 ≤ℤ pos 2147483647 }
+    ensures some { IfSome result (λ own. own ≡ pos (1000 - 1000 * width span / width domain)) }
+    ensures none { IfNone result (1000 < (1000 - 1000 * width span / width domain) + least_share small) }
+{
+    if is_light(small, width_of(span), width_of(domain)) {
+        None
+    } else {
+        Some((1000 - share(span, domain)) as i64)
+    }
+}
+
+/// What the row, which stands at this place of the leaf, weighs on the attribute of its own part, or none where it takes so
+/// little of the domain that it gains nowhere. Mostly the row isn't looked at.
+#[tactic(auto, using(std::proofs::lemmas::Option::slice_get_within))]
+pub(crate) fn own_at(
+    leaf: &Leaf,
+    place: usize,
+    row: &Row,
+    s: &Schema,
+    a: AttrNo,
+    small: bool,
+) -> Option<i64>
+    requires at { slice_get leaf.now place ≡ Some row.now }
+    requires may { may_stand s.now row.now ≡ true }
+    ensures some { IfSome result (λ own. own ≡ pos (weight s.now a row.now)) }
+    ensures none { IfNone result (1000 < weight s.now a row.now + least_share small) }
+    ensures form { IsSchema s.now }
+{
+    // The count shows the form of the schema.
+    let _ = s.count();
+    match (s.range(a), leaf.span(place, s, a)) {
+        (Some(domain), Some(span)) => own_in(span, domain, small),
+        _ => Some(0),
+    }
+}
+
+// Whether the attribute's domain has at most 1000 values.
+fn is_small(s: &Schema, a: AttrNo) -> bool
+    ensures { result ≡ is_small (whole s.now a) }
+{
+    match whole_range(s, a) {
+        Some((_, domain)) => width_of(domain) <= 1000,
+        None => true,
+    }
+}
+
+/// Whether that holds of the attribute of each part.
+pub(crate) fn are_small(parts: &[Part], s: &Schema) -> bool
+    ensures { result ≡ are_small s.now (attrs_of (parts_as parts.now)) }
+{
+    for part in parts {
+        if !is_small(s, part.attr) {
+            return false;
+        }
+    }
+    true
 }
 
 /// Whether there is a part of the attribute.

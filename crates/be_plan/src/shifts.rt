@@ -11,19 +11,22 @@ ghost use Rattle.be_shape.specs.Ranges.{is_bounded, is_rising};
 ghost use Rattle.be_shape.specs.Paths.{in_half};
 ghost use Rattle.be_shape.specs.Plain.{Plain, plain, parts_as, half_as, part_as, parts_of, rows_below, rows_in_parts, rows_in_half, parts_under};
 ghost use Rattle.be_shape.specs.Shape.{attrs_of, may_stand, whole};
-ghost use Rattle.be_plan.specs.Shifts.{gain_of, lower_id, least_gain, first_shift, is_narrow, IsBelow, ChildBelow, PartsBelow, IsRightSomewhere};
+ghost use Rattle.be_plan.specs.Shifts.{gain_of, lower_id, least_gain, first_shift, are_small, is_narrow, IsBelow, ChildBelow, PartsBelow, IsRightSomewhere};
 
-use crate::movers::{Mover, gains_somewhere, is_among, weight_at, width_of};
+use crate::movers::{Mover, are_small, gains_somewhere, is_among, is_light, own_at, width_of};
 use be_base::{AttrNo, Id, LEAF_ROWS, SHIFT_GAIN};
 use be_model::{Row, Schema};
 use be_score::weight;
 use be_shape::{Leaf, Node, NodeRange, Part, has_attr, lower_range, upper_range, whole_range};
 
-// The part that rows may leave, and the parts of the node.
+// The part that rows may leave, and the parts of the node, with whether all their domains are small.
 #[derive(Drop)]
 struct From<'a> {
     attr: AttrNo,
     parts: &'a [Part],
+    s: &'a Schema,
+    small: bool,
+    ghost is: { small ≡ are_small s.now (attrs_of (parts_as parts.now)) },
 }
 
 // Of two gains that of the lower id.
@@ -47,13 +50,13 @@ fn gains(row: &Row, s: &Schema, own: i64, to: AttrNo) -> bool
 }
 
 // The first part in which the row weighs so much more than this, with the row's id.
-fn first_gain(row: &Row, from: &From, s: &Schema, own: i64) -> Option<(Id, AttrNo)>
-    requires lies { row_lies s.now row.now ≡ true }
-    requires own { own ≡ pos (weight s.now from.now.attr row.now) }
-    ensures { result ≡ gain_of s.now (attrs_of (parts_as from.now.parts.now)) from.now.attr row.now }
+fn first_gain(row: &Row, from: &From, own: i64) -> Option<(Id, AttrNo)>
+    requires lies { row_lies from.now.s.now row.now ≡ true }
+    requires own { own ≡ pos (weight from.now.s.now from.now.attr row.now) }
+    ensures { result ≡ gain_of from.now.s.now (attrs_of (parts_as from.now.parts.now)) from.now.attr row.now }
 {
     for part in from.parts {
-        if gains(row, s, own, part.attr) {
+        if gains(row, from.s, own, part.attr) {
             return Some((row.id, part.attr));
         }
     }
@@ -61,21 +64,20 @@ fn first_gain(row: &Row, from: &From, s: &Schema, own: i64) -> Option<(Id, AttrN
 }
 
 // The first part in which the row, which stands at this place of the leaf, weighs enough more, with the row's id. A row that
-// weighs more than 500 gains nowhere. The row itself is mostly looked at only where it gains.
-fn gain_at(leaf: &Leaf, place: usize, row: &Row, from: &From, s: &Schema) -> Option<(Id, AttrNo)>
+// takes little of its own part's domain gains nowhere. The row itself is mostly looked at only where it gains.
+fn gain_at(leaf: &Leaf, place: usize, row: &Row, from: &From) -> Option<(Id, AttrNo)>
     requires at { slice_get leaf.now place ≡ Some row.now }
-    requires may { may_stand s.now row.now ≡ true }
-    ensures { result ≡ gain_of s.now (attrs_of (parts_as from.now.parts.now)) from.now.attr row.now }
+    requires may { may_stand from.now.s.now row.now ≡ true }
+    ensures { result ≡ gain_of from.now.s.now (attrs_of (parts_as from.now.parts.now)) from.now.attr row.now }
 {
-    let own = weight_at(leaf, place, row, s, from.attr);
-    if own > 1000 - SHIFT_GAIN as i64 {
+    let Some(own) = own_at(leaf, place, row, from.s, from.attr, from.small) else {
         return None;
-    }
+    };
     let mover = Mover {
         leaf,
         place,
         row,
-        s,
+        s: from.s,
         from: from.attr,
         own,
         parts: from.parts,
@@ -83,20 +85,22 @@ fn gain_at(leaf: &Leaf, place: usize, row: &Row, from: &From, s: &Schema) -> Opt
     if !gains_somewhere(&mover) {
         return None;
     }
-    first_gain(row, from, s, own)
+    first_gain(row, from, own)
 }
 
-// Whether the range is less than half of the attribute's domain: a row inside weighs more than 500.
-fn is_narrow(range: NodeRange, a: AttrNo, s: &Schema) -> bool
+// Whether the range is so little of the attribute's domain that no row inside gains.
+fn is_narrow(range: NodeRange, from: &From) -> bool
     requires bounded { is_bounded range ≡ true }
     requires rising { is_rising range ≡ true }
-    ensures narrow { result ≡ is_narrow range (whole s.now a) }
-    ensures form { IsSchema s.now }
+    ensures narrow { result ≡ is_narrow from.now.small range (whole from.now.s.now from.now.attr) }
+    ensures form { IsSchema from.now.s.now }
 {
     // The count shows the form of the schema.
-    let _ = s.count();
-    match (range, whole_range(s, a)) {
-        (Some((b, inner)), Some((_, outer))) => b.0 == a.0 && 2 * width_of(inner) < width_of(outer),
+    let _ = from.s.count();
+    match (range, whole_range(from.s, from.attr)) {
+        (Some((b, inner)), Some((_, outer))) => {
+            b.0 == from.attr.0 && is_light(from.small, width_of(inner), width_of(outer))
+        }
         _ => false,
     }
 }
@@ -109,19 +113,18 @@ fn least_below(
     range: NodeRange,
     met: bool,
     from: &From,
-    s: &Schema,
     best: Option<(Id, AttrNo)>,
 ) -> Option<(Id, AttrNo)>
-    requires { IsBelow s.now (attrs_of (parts_as from.now.parts.now)) from.now.attr met range (plain n.now) }
-    ensures { result ≡ lower_id best (least_gain s.now (attrs_of (parts_as from.now.parts.now)) from.now.attr (rows_below (plain n.now))) }
+    requires { IsBelow from.now.s.now (attrs_of (parts_as from.now.parts.now)) from.now.attr met range (plain n.now) }
+    ensures { result ≡ lower_id best (least_gain from.now.s.now (attrs_of (parts_as from.now.parts.now)) from.now.attr (rows_below (plain n.now))) }
 {
-    if is_narrow(range, from.attr, s) {
+    if is_narrow(range, from) {
         return best;
     }
-    let best = least_in_leaf(&n.leaf, met, from, s, best);
-    let best = least_in_parts(n.parts.as_slice(), met, from, s, best);
-    let best = least_in_half(&n.low, lower_range(range), met, from, s, best);
-    least_in_half(&n.high, upper_range(range), met, from, s, best)
+    let best = least_in_leaf(&n.leaf, met, from, best);
+    let best = least_in_parts(n.parts.as_slice(), met, from, best);
+    let best = least_in_half(&n.low, lower_range(range), met, from, best);
+    least_in_half(&n.high, upper_range(range), met, from, best)
 }
 
 #[cycle(gains)]
@@ -129,15 +132,14 @@ fn least_in_parts(
     parts: &[Part],
     met: bool,
     from: &From,
-    s: &Schema,
     best: Option<(Id, AttrNo)>,
 ) -> Option<(Id, AttrNo)>
-    requires { PartsBelow s.now (attrs_of (parts_as from.now.parts.now)) from.now.attr met (parts_as parts.now) }
-    ensures { result ≡ lower_id best (least_gain s.now (attrs_of (parts_as from.now.parts.now)) from.now.attr (rows_in_parts (parts_as parts.now))) }
+    requires { PartsBelow from.now.s.now (attrs_of (parts_as from.now.parts.now)) from.now.attr met (parts_as parts.now) }
+    ensures { result ≡ lower_id best (least_gain from.now.s.now (attrs_of (parts_as from.now.parts.now)) from.now.attr (rows_in_parts (parts_as parts.now))) }
 {
     let mut best = best;
     for part in parts {
-        best = least_in_part(part, met, from, s, best);
+        best = least_in_part(part, met, from, best);
     }
     best
 }
@@ -147,15 +149,14 @@ fn least_in_part(
     part: &Part,
     met: bool,
     from: &From,
-    s: &Schema,
     best: Option<(Id, AttrNo)>,
 ) -> Option<(Id, AttrNo)>
-    requires { ChildBelow s.now (attrs_of (parts_as from.now.parts.now)) from.now.attr met None (Hop.Part (part_as part.now).0, (part_as part.now).1) }
-    ensures { result ≡ lower_id best (least_gain s.now (attrs_of (parts_as from.now.parts.now)) from.now.attr (rows_in_parts (parts_of (part_as part.now ∷ [])))) }
+    requires { ChildBelow from.now.s.now (attrs_of (parts_as from.now.parts.now)) from.now.attr met None (Hop.Part (part_as part.now).0, (part_as part.now).1) }
+    ensures { result ≡ lower_id best (least_gain from.now.s.now (attrs_of (parts_as from.now.parts.now)) from.now.attr (rows_in_parts (parts_of (part_as part.now ∷ [])))) }
 {
-    let range = whole_range(s, part.attr);
+    let range = whole_range(from.s, part.attr);
     let met = met || is_among(from.parts, part.attr);
-    least_below(&part.root, range, met, from, s, best)
+    least_below(&part.root, range, met, from, best)
 }
 
 #[cycle(gains)]
@@ -164,14 +165,13 @@ fn least_in_half(
     range: NodeRange,
     met: bool,
     from: &From,
-    s: &Schema,
     best: Option<(Id, AttrNo)>,
 ) -> Option<(Id, AttrNo)>
-    requires { (m : Plain) → in_half (half_as half.now) ≡ Some m → IsBelow s.now (attrs_of (parts_as from.now.parts.now)) from.now.attr met range m }
-    ensures { result ≡ lower_id best (least_gain s.now (attrs_of (parts_as from.now.parts.now)) from.now.attr (rows_in_half (half_as half.now))) }
+    requires { (m : Plain) → in_half (half_as half.now) ≡ Some m → IsBelow from.now.s.now (attrs_of (parts_as from.now.parts.now)) from.now.attr met range m }
+    ensures { result ≡ lower_id best (least_gain from.now.s.now (attrs_of (parts_as from.now.parts.now)) from.now.attr (rows_in_half (half_as half.now))) }
 {
     match half {
-        Some(n) => least_below(n, range, met, from, s, best),
+        Some(n) => least_below(n, range, met, from, best),
         None => best,
     }
 }
@@ -182,19 +182,18 @@ fn least_in_leaf(
     leaf: &Leaf,
     met: bool,
     from: &From,
-    s: &Schema,
     best: Option<(Id, AttrNo)>,
 ) -> Option<(Id, AttrNo)>
-    requires may { list_all (may_stand s.now) leaf.now ≡ true }
-    requires stuck { met ≡ false → LEAF_ROWS < length leaf.now → least_gain s.now (attrs_of (parts_as from.now.parts.now)) from.now.attr leaf.now ≡ None }
-    ensures { result ≡ lower_id best (least_gain s.now (attrs_of (parts_as from.now.parts.now)) from.now.attr leaf.now) }
+    requires may { list_all (may_stand from.now.s.now) leaf.now ≡ true }
+    requires stuck { met ≡ false → LEAF_ROWS < length leaf.now → least_gain from.now.s.now (attrs_of (parts_as from.now.parts.now)) from.now.attr leaf.now ≡ None }
+    ensures { result ≡ lower_id best (least_gain from.now.s.now (attrs_of (parts_as from.now.parts.now)) from.now.attr leaf.now) }
 {
     if !met && LEAF_ROWS < leaf.len() {
         return best;
     }
     let mut best = best;
     for place in 0..leaf.len() {
-        best = lower_id(best, gain_at(leaf, place, leaf.row(place), from, s));
+        best = lower_id(best, gain_at(leaf, place, leaf.row(place), from));
     }
     best
 }
@@ -207,13 +206,16 @@ pub(crate) fn shift_at(n: &Node, s: &Schema) -> Option<(AttrNo, Id, AttrNo)>
     if n.parts.len() < 2 {
         return None;
     }
+    let small = are_small(n.parts.as_slice(), s);
     for part in n.parts.as_slice() {
         let from = From {
             attr: part.attr,
             parts: n.parts.as_slice(),
+            s,
+            small,
         };
         let range = whole_range(s, part.attr);
-        if let Some((id, to)) = least_below(&part.root, range, false, &from, s, None) {
+        if let Some((id, to)) = least_below(&part.root, range, false, &from, None) {
             return Some((part.attr, id, to));
         }
     }

@@ -18,26 +18,26 @@ use Rattle.be_plan.proofs.shifts.+gains.Goals as goal
 
 pub least_below-returns-then-is_narrow : goal.least_below-returns-then-is_narrow
 least_below-returns-then-is_narrow t c =
-    let s = c.args.s.now in
+    let s = c.args.from.now.s.now in
     let from = c.args.from.now in
     let n = plain c.args.n.now in
     let b = c.requires in
-    let none = narrow_gains s (attrs_of (parts_as from.parts.now)) from.attr c.args.range (rows_below n) c.is_narrow.ensures.form (sym c.is_narrow.ensures.narrow ∙ c.if-is_narrow.true) b.right.may (placed_at s (known c.args.range b.used) n b.right).inside in
+    let none = narrow_gains from.small s (attrs_of (parts_as from.parts.now)) from.attr c.args.range (rows_below n) from.is c.is_narrow.ensures.form (sym c.is_narrow.ensures.narrow ∙ c.if-is_narrow.true) b.right.may (placed_at s (known c.args.range b.used) n b.right).inside in
     sym (ap (lower_id c.args.best) none ∙ lower_none c.args.best)
 
 pub least_below-least_in_leaf-best-requires-clause-may : goal.least_below-least_in_leaf-best-requires-clause-may
 least_below-least_in_leaf-best-requires-clause-may t c =
     let x = out-Node c.args.n.now in
-    let may = may_stand c.args.s.now in
+    let may = may_stand c.args.from.now.s.now in
     (all_four may x.leaf (rows_in_parts (parts_as x.parts.items)) (rows_in_half (half_as x.low)) (rows_in_half (half_as x.high)) (subst (λ rows. list_all may rows ≡ true) (rows_out c.args.n.now) c.requires.right.may)).0
 
 pub least_below-least_in_leaf-best-requires-clause-stuck : goal.least_below-least_in_leaf-best-requires-clause-stuck
 least_below-least_in_leaf-best-requires-clause-stuck t c =
-    leaf_gains c.args.s.now (attrs_of (parts_as c.args.from.now.parts.now)) c.args.from.now.attr c.args.met c.args.range (plain c.args.n.now) (out-Node c.args.n.now).leaf c.requires (ap leaf_of (plain_out c.args.n.now))
+    leaf_gains c.args.from.now.s.now (attrs_of (parts_as c.args.from.now.parts.now)) c.args.from.now.attr c.args.met c.args.range (plain c.args.n.now) (out-Node c.args.n.now).leaf c.requires (ap leaf_of (plain_out c.args.n.now))
 
 pub least_below-least_in_parts-best-requires : goal.least_below-least_in_parts-best-requires
 least_below-least_in_parts-best-requires t c =
-    let s = c.args.s.now in
+    let s = c.args.from.now.s.now in
     let from = c.args.from.now in
     let attrs = attrs_of (parts_as from.parts.now) in
     let x = out-Node c.args.n.now in
@@ -47,7 +47,7 @@ least_below-least_in_parts-best-requires t c =
 
 pub least_below-least_in_half-best-requires : goal.least_below-least_in_half-best-requires
 least_below-least_in_half-best-requires t c =
-    let s = c.args.s.now in
+    let s = c.args.from.now.s.now in
     let from = c.args.from.now in
     let attrs = attrs_of (parts_as from.parts.now) in
     let x = out-Node c.args.n.now in
@@ -59,7 +59,7 @@ least_below-least_in_half-best-requires t c =
 
 pub least_below-least_in_half-requires : goal.least_below-least_in_half-requires
 least_below-least_in_half-requires t c =
-    let s = c.args.s.now in
+    let s = c.args.from.now.s.now in
     let from = c.args.from.now in
     let attrs = attrs_of (parts_as from.parts.now) in
     let x = out-Node c.args.n.now in
@@ -74,7 +74,7 @@ least_below-least_in_half-requires t c =
 
 pub least_in_parts-least_in_part-best-requires : goal.least_in_parts-least_in_part-best-requires
 least_in_parts-least_in_part-best-requires t c =
-    let s = c.args.s.now in
+    let s = c.args.from.now.s.now in
     let from = c.args.from.now in
     let ps = c.args.parts.now in
     let i = c.loop-part.part-index in (
@@ -84,7 +84,7 @@ least_in_parts-least_in_part-best-requires t c =
 
 pub least_below-returns : goal.least_below-returns
 least_below-returns t c =
-    let s = c.args.s.now in
+    let s = c.args.from.now.s.now in
     let from = c.args.from.now in
     let attrs = attrs_of (parts_as from.parts.now) in
     let x = out-Node c.args.n.now in
@@ -94,7 +94,7 @@ least_below-returns t c =
 
 pub least_in_parts-loop-part-preserved : goal.least_in_parts-loop-part-preserved
 least_in_parts-loop-part-preserved t c =
-    let s = c.args.s.now in
+    let s = c.args.from.now.s.now in
     let from = c.args.from.now in
     let attrs = attrs_of (parts_as from.parts.now) in
     let ps = c.args.parts.now in

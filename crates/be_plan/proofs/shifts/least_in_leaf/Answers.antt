@@ -10,11 +10,11 @@ use Rattle.be_plan.proofs.shifts.least_in_leaf.Goals as goal
 
 pub gain_at-requires-clause-may : goal.gain_at-requires-clause-may
 gain_at-requires-clause-may c =
-    ap (may_stand c.args.s.now) c.deref.ensures ∙ all_at (may_stand c.args.s.now) c.args.leaf.now c.loop-place.place (arc_value c.row.result.now) c.requires.may c.row.ensures
+    ap (may_stand c.args.from.now.s.now) c.deref.ensures ∙ all_at (may_stand c.args.from.now.s.now) c.args.leaf.now c.loop-place.place (arc_value c.row.result.now) c.requires.may c.row.ensures
 
 pub loop-place-preserved : goal.loop-place-preserved
 loop-place-preserved c =
-    let s = c.args.s.now in
+    let s = c.args.from.now.s.now in
     let from = c.args.from.now in
     let attrs = attrs_of (parts_as from.parts.now) in
     let i = c.loop-place.place in

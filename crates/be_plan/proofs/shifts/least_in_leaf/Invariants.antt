@@ -7,4 +7,4 @@ use Rattle.be_plan.proofs.shifts.least_in_leaf.Given as goal
 -- the least of those so far and of those that are left is the least of all
 abbrev pub invariant-loop-place : goal.invariant-loop-place
 invariant-loop-place l =
-    lower_id l.best (least_gain l.s (attrs_of (parts_as l.from.parts.now)) l.from.attr (drop l.place l.leaf)) ≡ lower_id l.initial.best (least_gain l.s (attrs_of (parts_as l.from.parts.now)) l.from.attr l.leaf)
+    lower_id l.best (least_gain l.from.s.now (attrs_of (parts_as l.from.parts.now)) l.from.attr (drop l.place l.leaf)) ≡ lower_id l.initial.best (least_gain l.from.s.now (attrs_of (parts_as l.from.parts.now)) l.from.attr l.leaf)

@@ -37,8 +37,8 @@ least_below-requires c =
     let there = subst (λ (z : AttrNo × Plain). child (Part z.0) n ≡ Some z.1) (part_out c.part-item.result) (part_there n items c.loop-part.part-index c.part-item.result c.loop-part-test.true c.part-item.is each) in
     let is = c.whole_range-range.ensures.range in
     let below = first_below s k n (plain (out-Part c.part-item.result).root.value) a r there (ap is_bounded (sym is) ∙ c.whole_range-range.ensures.bounded) (ap is_rising (sym is) ∙ c.whole_range-range.ensures.rising) in
-    let moved = subst (λ q. IsBelow s (attrs_of q) a false c.whole_range-range.result (plain (out-Part c.part-item.result).root.value)) (under ∙ ap parts_as (c.as_slice-part-items.ensures.value ∙ sym c.as_slice.ensures.value)) (subst (λ q. IsBelow s (attrs_of (parts_under n)) a false q (plain (out-Part c.part-item.result).root.value)) (sym is) below) in
-    subst (λ m. IsBelow s (attrs_of (parts_as c.as_slice.result.now)) a false c.whole_range-range.result (plain m)) (sym c.deref.ensures) moved
+    let moved = subst (λ q. IsBelow s (attrs_of q) a false c.whole_range-range.result (plain (out-Part c.part-item.result).root.value)) (under ∙ ap parts_as (c.as_slice-part-items.ensures.value ∙ sym c.as_slice-in-loop-part.ensures.value)) (subst (λ q. IsBelow s (attrs_of (parts_under n)) a false q (plain (out-Part c.part-item.result).root.value)) (sym is) below) in
+    subst (λ m. IsBelow s (attrs_of (parts_as c.as_slice-in-loop-part.result.now)) a false c.whole_range-range.result (plain m)) (sym c.deref.ensures) moved
 
 pub returns-in-Some : goal.returns-in-Some
 returns-in-Some c =
@@ -46,7 +46,7 @@ returns-in-Some c =
     let items = c.as_slice-part-items.result.now in
     let is = c.as_slice-part-items.ensures.value in
     let a = (out-Part c.part-item.result).attr in
-    let e = c.in-Some.ensures ∙ ap (λ ps. least_gain s (attrs_of (parts_as ps)) a (rows_below (plain c.deref.result.now))) (c.as_slice.ensures.value ∙ sym is) ∙ ap (λ m. least_gain s (attrs_of (parts_as items)) a (rows_below (plain m))) c.deref.ensures in
+    let e = c.in-Some.ensures ∙ ap (λ ps. least_gain s (attrs_of (parts_as ps)) a (rows_below (plain c.deref.result.now))) (c.as_slice-in-loop-part.ensures.value ∙ sym is) ∙ ap (λ m. least_gain s (attrs_of (parts_as items)) a (rows_below (plain m))) c.deref.ensures in
     let step = next_part s (attrs_of (parts_as items)) items c.loop-part.part-index c.part-item.result (Some (c.in-Some.id, c.in-Some.to)) c.loop-part-test.true c.part-item.is e in
     sym step ∙ c.loop-part.invariant ∙ ap (λ q. first_shift s (attrs_of q) q) (sym (ap parts_under (plain_out c.args.n.now) ∙ sym (ap parts_as is)))
 
@@ -56,7 +56,7 @@ loop-part-preserved c =
     let items = c.as_slice-part-items.result.now in
     let is = c.as_slice-part-items.ensures.value in
     let a = (out-Part c.part-item.result).attr in
-    let e = sym c.in_default.is ∙ c.least_below.ensures ∙ ap (λ ps. least_gain s (attrs_of (parts_as ps)) a (rows_below (plain c.deref.result.now))) (c.as_slice.ensures.value ∙ sym is) ∙ ap (λ m. least_gain s (attrs_of (parts_as items)) a (rows_below (plain m))) c.deref.ensures in
+    let e = sym c.in_default.is ∙ c.least_below.ensures ∙ ap (λ ps. least_gain s (attrs_of (parts_as ps)) a (rows_below (plain c.deref.result.now))) (c.as_slice-in-loop-part.ensures.value ∙ sym is) ∙ ap (λ m. least_gain s (attrs_of (parts_as items)) a (rows_below (plain m))) c.deref.ensures in
     let step = next_part s (attrs_of (parts_as items)) items c.loop-part.part-index c.part-item.result None c.loop-part-test.true c.part-item.is e in
     sym step ∙ c.loop-part.invariant
 
