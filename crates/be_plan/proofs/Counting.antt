@@ -1,8 +1,9 @@
 -- How often attributes are listed, row by row, and what that says of how many rows have them.
-use Rattle.std.proofs.Common.{◌≡◌, ℕ, zero, suc, ◌+◌, ◌<◌, ◌≤◌, leb, eqb, Bool, true, false, true≢false, not, cond, ◌&&◌, ◌||◌, List, [], ◌∷◌, length, take, get_or, slice_get, Some, refl, sym, ap, ◌∙◌, subst, arith}
+use Rattle.std.proofs.Common.{◌≡◌, ℕ, zero, suc, ◌+◌, ◌-◌, ◌<◌, ◌≤◌, leb, Bool, true, false, true≢false, not, cond, ◌&&◌, ◌||◌, List, [], ◌∷◌, length, take, drop, length-drop, get_or, slice_get, Some, refl, sym, ap, ◌∙◌, subst, arith}
 use Rattle.std.specs.List.{list_all, list_any, count_by}
-use Rattle.std.proofs.lemmas.Bool.{leb-false, lt-leb, and_parts, and_from, or_left, or_right, not_from_false, false_from_ne_true}
-use Rattle.std.proofs.lemmas.List.Sums.{count_by_more_yes, count_by_more_no, count_by-le-length, sum_by-take-le}
+use Rattle.std.proofs.lemmas.Bool.{leb-false, lt-leb, le-leb, and_parts, and_from, or_left, or_right, not_from_false, false_from_ne_true}
+use Rattle.std.proofs.lemmas.List.Sums.{count_by_more_yes, count_by_more_no, count_by-le-length, sum_by-take-le, sum_by-take-drop}
+use Rattle.std.proofs.lemmas.List.{take_all}
 use Rattle.std.proofs.lemmas.Option.{slice_get_within, get_or_from_slice_get}
 use mathlib.Core.Logic.{dite}
 use native.Mathlib.Decide.{ℕ_discrete}
@@ -45,6 +46,24 @@ most_more rows i x c c1 m m1 few at counts most a l =
     let all = count_by-le-length p rows in
     let e = one_more p rows i x at in
     let k = counts a (count_by p (take i rows)) l (omega arith) (most a l) in omega (arith, e, k)
+
+-- rows of which some pass and the others fail
+abbrev pub Fail : (Row → Bool) → List Row → ℕ → ℕ → Type 0
+Fail p rows i fails = fails + count_by p (take i rows) ≡ i
+
+pub fail_more : (p : Row → Bool) (rows : List Row) (i : ℕ) (x : Row) (fails next : ℕ) → slice_get rows i ≡ Some x → next + cond (p x) 1 0 ≡ fails + 1 → Fail p rows i fails → Fail p rows (i + 1) next
+fail_more p rows i x fails next at e h = let m = one_more p rows i x at in omega (arith, m, e, h)
+
+-- where too many fail, not enough pass
+pub too_many : (p : Row → Bool) (rows : List Row) (i fails : ℕ) → EARLY_ROWS ≤ length rows → i ≤ length rows → Fail p rows i fails → length rows - EARLY_ROWS < fails → leb EARLY_ROWS (count_by p rows) ≡ false
+too_many p rows i fails many in_rows h l =
+    let both = sum_by-take-drop (λ row. cond (p row) 1 0) rows i in
+    let rest = count_by-le-length p (drop i rows) in
+    let left = length-drop i rows in lt-leb EARLY_ROWS (count_by p rows) (omega (arith, both, rest, left, many, in_rows, h, l))
+
+pub few_enough : (p : Row → Bool) (rows : List Row) (i fails : ℕ) → EARLY_ROWS ≤ length rows → length rows ≤ i → i ≤ length rows → Fail p rows i fails → fails ≤ length rows - EARLY_ROWS → leb EARLY_ROWS (count_by p rows) ≡ true
+few_enough p rows i fails many all in_rows h l =
+    let e = ap (count_by p) (take_all i rows all) in le-leb EARLY_ROWS (count_by p rows) (omega (arith, e, many, all, in_rows, h, l))
 
 -- where the tally tells that fewer than 8 rows have the attribute
 pub not_had : (used : List AttrNo) (a : AttrNo) (rows : List Row) (c : List ℕ) (m : ℕ) → a.0 < ATTRIBUTES → IsMost rows c m → leb EARLY_ROWS (most_of c m a.0) ≡ false → is_had used rows a ≡ false

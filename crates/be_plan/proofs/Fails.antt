@@ -1,20 +1,16 @@
 -- Enough rows pass a test where few fail it, and a row that has an attribute may have it.
-use Rattle.std.proofs.Common.{◌≡◌, ℕ, zero, suc, ◌+◌, ◌-◌, ◌<◌, ◌≤◌, eqb, leb, Bool, true, false, true≢false, not, cond, ◌&&◌, ◌||◌, List, [], ◌∷◌, length, drop, length-drop, slice_get, Some, refl, sym, ap, ◌∙◌, arith}
+use Rattle.std.proofs.Common.{◌≡◌, ℕ, zero, suc, ◌+◌, ◌-◌, ◌≤◌, eqb, leb, Bool, true, false, cond, ◌||◌, List, [], ◌∷◌, length, drop, slice_get, Some, refl, sym, ap, ◌∙◌, arith}
 use Rattle.std.specs.List.{count_by}
-use Rattle.std.proofs.lemmas.Bool.{leb-true, le-leb, lt-leb, or_left, or_right, or_from, and_from, not_from_false, false_from_ne_true}
+use Rattle.std.proofs.lemmas.Bool.{le-leb, lt-leb, or_left, or_right}
 use Rattle.std.proofs.lemmas.Bool.Decides.{nat_tests}
 use Rattle.std.proofs.lemmas.List.Sums.{sum_by-cons, count_by-le-length}
 use Rattle.be_base.specs.declared.names.AttrNo.{AttrNo}
 use Rattle.be_base.specs.declared.limits.TheConstants.{EARLY_ROWS}
 use Rattle.be_model.specs.declared.changes.Row.{Row}
-use Rattle.be_model.specs.declared.preds.Pred.{Pred}
 use Rattle.be_model.specs.Rows.{has}
-use Rattle.be_shape.specs.Shape.{is_used}
 use Rattle.be_shape.specs.Listed.{is_many, any_listed, attrs_of}
 use Rattle.be_shape.proofs.FewAttrs.{has_is_listed}
 use Rattle.be_plan.specs.Splits.{may_have, few_fail}
-use Rattle.be_plan.proofs.Counts.{fewer, too_few}
-use Rattle.be_plan.proofs.Gains.{some_on}
 use Rattle.be_plan.proofs.Rows.{at_place}
 
 counted : (test : Row → Bool) (row : Row) (rows : List Row) → count_by test (row ∷ rows) ≡ cond (test row) 1 0 + count_by test rows

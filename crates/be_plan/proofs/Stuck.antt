@@ -89,7 +89,7 @@ between s k (row ∷ rows) c h =
     let rest = between s k rows c j.1 in
     (and_from (not low) (list_all (λ r. not (may_pass s Low k.range r)) rows) (ap not z.0) rest.0, and_from (not high) (list_all (λ r. not (may_pass s High k.range r)) rows) (ap not z.1) rest.1)
 
-halves : (s : Attributes) (r : NodeRange) (rows : List Row) (c l h : Bool) → can_split r ≡ c → enough_pass s Low r rows ≡ l → enough_pass s High r rows ≡ h
+pub halves : (s : Attributes) (r : NodeRange) (rows : List Row) (c l h : Bool) → can_split r ≡ c → enough_pass s Low r rows ≡ l → enough_pass s High r rows ≡ h
     → early_half s r rows ≡ cond (c && l) (Some Low) (cond (c && h) (Some High) None)
 halves s r rows c l h e f g =
     ap (λ t. cond (t && enough_pass s Low r rows) (Some Low) (cond (t && enough_pass s High r rows) (Some High) None)) e ∙ ap (λ t. cond (c && t) (Some Low) (cond (c && enough_pass s High r rows) (Some High) None)) f ∙ ap (λ t. cond (c && l) (Some Low) (cond (c && t) (Some High) None)) g

@@ -1,19 +1,21 @@
 //! The first splits at a node.
 
-ghost use Rattle.std.specs.Prelude.{◌≡◌, ◌≤◌, ◌<◌, ◌-◌, ◌||◌, true, not, length, nat_le};
+ghost use Rattle.std.specs.Prelude.{◌≡◌, ◌≤◌, ◌<◌, ◌+◌, ◌-◌, ◌||◌, true, not, length, nat_le, slice_get, Some, if◌then◌else◌};
 ghost use Rattle.std.specs.List.{list_all};
 ghost use Rattle.be_base.specs.declared.limits.TheConstants.{ATTRIBUTES, EARLY_ROWS, LEAF_ROWS};
 ghost use Rattle.be_model.specs.Lies.{row_lies};
-ghost use Rattle.be_shape.specs.Shape.{is_stuck};
+ghost use Rattle.be_model.specs.declared.paths.Hop.TheVariants.{Low, High};
+ghost use Rattle.be_shape.specs.Shape.{can_split, is_inside, is_stuck};
+ghost use Rattle.be_shape.specs.Children.{may_pass};
 ghost use Rattle.be_shape.specs.Ranges.{is_bounded, is_rising};
 ghost use Rattle.be_shape.specs.Spots.{known_of};
 ghost use Rattle.be_plan.specs.Splits.{enough_pass, is_had, any_is_had, IsMost, early_part, early_half};
 
 use crate::tallies::Tally;
 use be_base::{AttrNo, EARLY_ROWS, LEAF_ROWS};
-use be_model::{Hop, Schema};
+use be_model::{Hop, Row, Schema};
 use be_score::pick_attr;
-use be_shape::{Leaf, NodeRange, Spot, can_split, is_used, may_pass_at};
+use be_shape::{Leaf, NodeRange, Spot, can_split, is_used, lower_range, may_pass_at, upper_range};
 
 // How many rows of the leaf may fail a test that at least 8 are to pass.
 fn spare_rows(leaf: &Leaf) -> usize
@@ -83,6 +85,70 @@ fn is_still(leaf: &Leaf) -> bool
     leaf.len() < EARLY_ROWS || LEAF_ROWS < leaf.len()
 }
 
+// Whether the row, which stands at this place of the leaf, may stand in the low half of the range, and whether in the high
+// one. Mostly the row isn't looked at.
+#[tactic(auto, using(std::proofs::lemmas::Option::slice_get_within))]
+fn sides_at(leaf: &Leaf, place: usize, row: &Row, s: &Schema, range: NodeRange) -> (bool, bool)
+    requires at { slice_get leaf.now place ≡ Some row.now }
+    requires lies { row_lies s.now row.now ≡ true }
+    requires bounded { is_bounded range ≡ true }
+    requires rising { is_rising range ≡ true }
+    ensures low { result.0 ≡ may_pass s.now Low range row.now }
+    ensures high { result.1 ≡ may_pass s.now High range row.now }
+{
+    match (lower_range(range), upper_range(range)) {
+        (Some((a, low)), Some((_, high))) => match leaf.span(place, s, a) {
+            Some(span) => (is_inside(low, span), is_inside(high, span)),
+            None => (false, false),
+        },
+        _ => (true, true),
+    }
+}
+
+fn is_inside(whole: (i64, i64), span: (i64, i64)) -> bool
+    ensures { result ≡ is_inside whole (Some span) }
+{
+    whole.0 <= span.0 && span.1 <= whole.1
+}
+
+// One more that fails, where it does.
+fn with_fail(fails: usize, passes: bool) -> usize
+    requires { fails < 18446744073709551615 }
+    ensures { result + (if passes then 1 else 0) ≡ fails + 1 }
+{
+    if passes { fails } else { fails + 1 }
+}
+
+// The first half of the range that encloses at least 8 rows of the leaf. It looks no further once too many are outside of
+// either.
+fn half_for(leaf: &Leaf, s: &Schema, range: NodeRange) -> Option<Hop>
+    requires lie { list_all (row_lies s.now) leaf.now ≡ true }
+    requires bounded { is_bounded range ≡ true }
+    requires rising { is_rising range ≡ true }
+    requires splits { can_split range ≡ true }
+    requires many { EARLY_ROWS ≤ length leaf.now }
+    ensures { result ≡ early_half s.now range leaf.now }
+{
+    let spare = spare_rows(leaf);
+    let mut low = 0;
+    let mut high = 0;
+    for place in 0..leaf.len() {
+        let sides = sides_at(leaf, place, leaf.row(place), s, range);
+        low = with_fail(low, sides.0);
+        high = with_fail(high, sides.1);
+        if spare < low && spare < high {
+            return None;
+        }
+    }
+    if low <= spare {
+        Some(Hop::Low)
+    } else if high <= spare {
+        Some(Hop::High)
+    } else {
+        None
+    }
+}
+
 /// The attribute that divides the leaf best, where at least 8 of its rows have it.
 pub(crate) fn part_split_at(leaf: &Leaf, s: &Schema, k: &Spot, alpha: u8) -> Option<AttrNo>
     requires lie { list_all (row_lies s.now) leaf.now ≡ true }
@@ -113,11 +179,5 @@ pub(crate) fn half_split_at(leaf: &Leaf, s: &Schema, k: &Spot) -> Option<Hop>
     if !can_split(k.range) {
         return None;
     }
-    if enough_pass(leaf, s, Hop::Low, k.range) {
-        return Some(Hop::Low);
-    }
-    if enough_pass(leaf, s, Hop::High, k.range) {
-        return Some(Hop::High);
-    }
-    None
+    half_for(leaf, s, k.range)
 }
