@@ -5,7 +5,6 @@
 #![tactic(auto)]
 
 mod answers;
-mod balky;
 mod board;
 mod letter_box;
 mod local;
@@ -14,7 +13,6 @@ mod openings;
 mod posting;
 
 pub use answers::{Answer, Sent};
-pub use balky::BalkyBoard;
 pub use board::Board;
 pub use local::LocalBoard;
 pub use local_copy::SESSION;

@@ -21,8 +21,9 @@ use be_published::{Naming, Opened, Page};
 use be_tree::BeTree;
 use std::alloc::Global;
 use std::marker::Brand;
+use std::sync::atomic::AtomicU64;
 use std::sync::{Arc, Wait};
-use worked_indexes::BalkyIndex;
+use worked_indexes::Watched;
 
 // How many seats a desk is to have, and what is asked there.
 #[derive(Drop)]
@@ -88,7 +89,7 @@ fn over_balky<R: Wait>(
 ) -> Option<String> {
     let (a, b) = (balky(alloc, schema)?, balky(alloc, schema)?);
     let rows = Vec::new(alloc);
-    mailed::<BalkyIndex<ListIndex>, Brand, R>(rt, alloc, schema, a, b, rows, script)
+    mailed::<Watched<ListIndex>, Brand, R>(rt, alloc, schema, a, b, rows, script)
 }
 
 fn plain(alloc: Global, schema: &Arc<Schema>) -> Option<ListIndex>
@@ -98,11 +99,12 @@ fn plain(alloc: Global, schema: &Arc<Schema>) -> Option<ListIndex>
 }
 
 // It refuses its first two inserts.
-fn balky(alloc: Global, schema: &Arc<Schema>) -> Option<BalkyIndex<ListIndex>>
+fn balky(alloc: Global, schema: &Arc<Schema>) -> Option<Watched<ListIndex>>
     ensures { IfSome result (λ balky. balky.index ≡ plain_index (arc_value schema.now) []) }
 {
+    let finds = Arc::new(alloc, AtomicU64::new(0)).ok()?;
     let refuse = Vec::from_array(alloc, [1, 2]).ok()?;
-    Some(BalkyIndex::make(plain(alloc, schema)?, refuse))
+    Some(Watched::make(plain(alloc, schema)?, finds, refuse))
 }
 
 // Makes the mail of the seats. A call that picks has no `&str`.

@@ -23,7 +23,7 @@ use std::marker::Brand;
 use std::sync::atomic::{AtomicU64, Ordering};
 use std::sync::{Arc, Wait};
 use std::thread::Threads;
-use worked_indexes::Tallied;
+use worked_indexes::Watched;
 
 /// The transcripts of the files, parted by ` || `, how often the maintainer was called, how many changes the list has at its end,
 /// and how many searches the trees were asked for.
@@ -64,17 +64,12 @@ fn begun<S: Post + Send + Sync, J: Naming + BoxNames + Send + Sync, R: Threads +
     requires passes { passes.items ≡ map (new_passes mail) (range_with_len 0 (length script.files.items)) }
 {
     let finds = Arc::new(alloc, AtomicU64::new(0)).ok()?;
-    let a = Tallied {
-        index: BeTree::make(alloc, again(schema)?),
-        finds: Arc::try_clone(&finds).ok()?,
-    };
-    let b = Tallied {
-        index: BeTree::make(alloc, again(schema)?),
-        finds: Arc::try_clone(&finds).ok()?,
-    };
+    let (a, b) = (BeTree::make(alloc, again(schema)?), BeTree::make(alloc, again(schema)?));
+    let a = Watched::make(a, Arc::try_clone(&finds).ok()?, Vec::new(alloc));
+    let b = Watched::make(b, Arc::try_clone(&finds).ok()?, Vec::new(alloc));
     let kept = again(schema)?;
     let seats = script.files.len() as u32;
-    let made = make_hub::<Tallied<BeTree>, J, S, R>(
+    let made = make_hub::<Watched<BeTree>, J, S, R>(
         rt, alloc, kept, opened, a, b, seats, mail, passes,
     );
     let Ok((hub, seats)) = made else {

@@ -5,7 +5,7 @@
 //! searches. `sessions.rt` says what is seen.
 #![tactic(auto)]
 
-mod counting;
+mod balky;
 mod gate;
 mod serving;
 mod sessions;

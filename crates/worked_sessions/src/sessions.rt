@@ -2,11 +2,11 @@
 
 ghost use Rattle.std.specs.Prelude.{◌≡◌, [], true};
 
-use crate::counting::CountingBoard;
+use crate::balky::BalkyBoard;
 use crate::gate::CountingGate;
 use crate::serving::{Setting, WORKER, serve};
 use be_base::NoMemory;
-use be_board::{BalkyBoard, LocalBoard};
+use be_board::LocalBoard;
 use be_change::ChangeLog;
 use be_index::{Index, ListIndex};
 use be_model::{Change, Schema};
@@ -14,7 +14,7 @@ use be_session::SessionEnd;
 use std::alloc::Global;
 use std::sync::Arc;
 use std::sync::atomic::{AtomicU64, Ordering};
-use worked_indexes::Tallied;
+use worked_indexes::Watched;
 
 // How a session ended, how often the board was asked to leave, and tended, and how often the gate was called before and after a
 // line, each time in its turn.
@@ -61,10 +61,8 @@ pub fn counted(alloc: Global, schema: &Arc<Schema>, lines: &str) -> Result<Strin
         refused_leaves: 0,
     };
     let finds = Arc::new(alloc, AtomicU64::new(0)).map_err(|_| NoMemory)?;
-    let index = Tallied {
-        index: ListIndex::make(alloc, Arc::try_clone(schema)?),
-        finds: Arc::try_clone(&finds)?,
-    };
+    let index = ListIndex::make(alloc, Arc::try_clone(schema)?);
+    let index = Watched::make(index, Arc::try_clone(&finds)?, Vec::new(alloc));
     let text = over(alloc, schema, index, &setting)?;
     let count = finds.load(Ordering::SeqCst);
     Ok(format!(in alloc; "{text}; {count}")?)
@@ -82,7 +80,7 @@ fn over<I: Index>(
 {
     let board = LocalBoard::make(alloc, index)?;
     let refused = first_numbers(alloc, setting.refused_leaves)?;
-    let mut board = CountingBoard::make(BalkyBoard::make(board, refused));
+    let mut board = BalkyBoard::make(board, refused);
     let gate = CountingGate::make(WORKER);
     let (replies, end) = serve(alloc, schema, &mut board, &gate, setting)?;
     let seen = Seen {
@@ -92,7 +90,7 @@ fn over<I: Index>(
         gate: gate.calls(),
         in_turn: gate.is_in_turn(),
     };
-    let list = list(alloc, board.board().board().log())?;
+    let list = list(alloc, board.board().log())?;
     Ok(format!(in alloc; "{replies}{seen:?}{list}")?)
 }
 

@@ -1,4 +1,4 @@
-//! An index that refuses some inserts, as one does where memory is wanting.
+//! An index that counts its searches, and refuses some inserts.
 
 ghost use Rattle.std.specs.Prelude.{◌≡◌};
 
@@ -6,47 +6,51 @@ use be_base::{NoMemory, SessionNo};
 use be_index::Index;
 use be_model::{Cost, Event, Found, Row, Step, StepDone};
 use std::sync::Arc;
+use std::sync::atomic::{AtomicU64, Ordering};
 
-/// An index, and which of its inserts are refused, counted from 1.
+/// An index, with a number that grows by 1 at each search, which several may share, and which of its inserts are refused, counted
+/// from 1.
 #[derive(Drop)]
-pub struct BalkyIndex<I: Index> {
+pub struct Watched<I: Index> {
     index: I,
+    finds: Arc<AtomicU64>,
     refuse: Vec<u64>,
     // How many inserts were asked for.
     inserts: u64,
 }
 
-impl<I: Index> BalkyIndex<I> {
+impl<I: Index> Watched<I> {
     /// It takes no memory.
-    pub fn make(index: I, refuse: Vec<u64>) -> BalkyIndex<I>
+    pub fn make(index: I, finds: Arc<AtomicU64>, refuse: Vec<u64>) -> Watched<I>
         ensures index { result.index ≡ index }
         ensures refuse { result.refuse ≡ refuse }
         ensures inserts { result.inserts ≡ 0 }
     {
-        BalkyIndex {
+        Watched {
             index,
+            finds,
             refuse,
             inserts: 0,
         }
     }
 }
 
-impl<I: Index> Index for BalkyIndex<I> {
-    ghost schema = { λ b. I.schema b.index };
+impl<I: Index> Index for Watched<I> {
+    ghost schema = { λ w. I.schema w.index };
 
-    ghost rows = { λ b. I.rows b.index };
+    ghost rows = { λ w. I.rows w.index };
 
-    ghost is_bounded = { λ b. I.is_bounded b.index };
+    ghost is_bounded = { λ w. I.is_bounded w.index };
 
-    ghost cost_of = { λ b e. I.cost_of b.index e };
+    ghost cost_of = { λ w e. I.cost_of w.index e };
 
-    ghost can_step = { λ b step. I.can_step b.index step };
+    ghost can_step = { λ w step. I.can_step w.index step };
 
-    ghost is_made = { λ step b c. I.is_made step b.index c.index };
+    ghost is_made = { λ step w x. I.is_made step w.index x.index };
 
-    ghost is_unchanged = { λ b c. I.is_unchanged b.index c.index };
+    ghost is_unchanged = { λ w x. I.is_unchanged w.index x.index };
 
-    ghost planned = { λ b. I.planned b.index };
+    ghost planned = { λ w. I.planned w.index };
 
     fn lies(&self, row: &Row) -> bool {
         self.index.lies(row)
@@ -65,6 +69,7 @@ impl<I: Index> Index for BalkyIndex<I> {
     }
 
     fn find(&self, event: &Event, found: &mut Found) -> Result<Cost, NoMemory> {
+        self.finds.fetch_add(1, Ordering::SeqCst);
         self.index.find(event, found)
     }
 

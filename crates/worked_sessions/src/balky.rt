@@ -1,4 +1,5 @@
-//! A board that refuses some calls of `leave`, as one does where memory is wanting.
+//! A board that counts how often it is asked to leave, and tended, and refuses some calls of `leave`, as one does where memory is
+//! wanting.
 
 ghost use Rattle.std.specs.Prelude.{◌≡◌, ◌==◌, true, false};
 ghost use Rattle.std.specs.List.{list_any};
@@ -7,20 +8,21 @@ ghost use Rattle.be_change.specs.Requests as asked;
 ghost use Rattle.be_board.specs.Changes.{Asked};
 ghost use Rattle.be_board.specs.State.{is_gone};
 
-use crate::answers::{Answer, Sent};
-use crate::board::Board;
 use be_base::{Name, NoRead};
+use be_board::{Answer, Board, Sent};
 use be_model::{Change, Conj, Cost, Event, Found, Letter};
 use std::alloc::Global;
 use std::sync::Arc;
 
-/// A board, and which of its calls of `leave` are refused, counted from 1. It is for tests of whoever leaves.
+/// A board, and which of its calls of `leave` are refused, counted from 1.
 #[derive(Drop)]
 pub struct BalkyBoard<B: Board> {
     board: B,
     refuse: Vec<u64>,
     // How often `leave` was called.
     leaves: u64,
+    // How often it was tended.
+    tends: u64,
 }
 
 impl<B: Board> BalkyBoard<B> {
@@ -34,6 +36,7 @@ impl<B: Board> BalkyBoard<B> {
             board,
             refuse,
             leaves: 0,
+            tends: 0,
         }
     }
 
@@ -41,6 +44,14 @@ impl<B: Board> BalkyBoard<B> {
         ensures { result.now ≡ self.now.board }
     {
         &self.board
+    }
+
+    pub fn leaves(&self) -> u64 {
+        self.leaves
+    }
+
+    pub fn tends(&self) -> u64 {
+        self.tends
     }
 }
 
@@ -103,6 +114,7 @@ impl<B: Board> Board for BalkyBoard<B> {
     }
 
     fn tend(&mut self) {
+        self.tends = self.tends.saturating_add(1);
         self.board.tend();
     }
 }
