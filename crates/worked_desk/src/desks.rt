@@ -10,20 +10,23 @@ ghost use Rattle.be_index.specs.Rows.{plain_index};
 ghost use Rattle.be_mail.specs.Mailbox.{ForEachState};
 ghost use Rattle.be_mail.specs.Passes.{new_passes};
 
-use crate::tables::table;
 use crate::{commands, texts};
-use be_base::{NoMemory, SEATS};
-use be_desk::{Desk, Seat, make_desk, open_desk};
+use be_base::SEATS;
+use be_desk::{make_desk, open_desk};
 use be_index::{Index, ListIndex};
 use be_mail::{BoxNames, Mail, MailPasses, Post, make_mail};
 use be_model::{Row, Schema};
 use be_published::{Naming, Opened, Page};
+use be_table::read_table;
 use be_tree::BeTree;
 use std::alloc::Global;
 use std::marker::Brand;
 use std::sync::atomic::AtomicU64;
 use std::sync::{Arc, Wait};
 use worked_indexes::Watched;
+
+// With which a desk may be opened.
+const TABLE: &[u8] = b"ROW x all\nROW y price < 5\n";
 
 // How many seats a desk is to have, and what is asked there.
 #[derive(Drop)]
@@ -51,7 +54,10 @@ pub fn answers<R: Wait>(
         "list" => over_list(rt, alloc, schema, Vec::new(alloc), &script),
         "tree" => over_tree(rt, alloc, schema, &script),
         "balky" => over_balky(rt, alloc, schema, &script),
-        "opened" => over_list(rt, alloc, schema, table(alloc, schema)?, &script),
+        "opened" => {
+            let rows = read_table(alloc, schema, TABLE).ok()?;
+            over_list(rt, alloc, schema, rows, &script)
+        }
         _ => None,
     }
 }
@@ -153,37 +159,14 @@ fn with_desk<I: Index, S: Post, J: Naming + BoxNames, R: Wait>(
     requires passes { passes.items ≡ map (new_passes mail.now) (range_with_len 0 script.now.seats) }
 {
     let seats = script.seats;
-    let (mut desk, mut seats) = begun::<I, J, R>(
-        rt, alloc, opened, index_a, index_b, seats, rows, passes,
-    ).ok()?;
+    let made = if rows.is_empty() {
+        make_desk::<I, J, R>(rt, alloc, opened, index_a, index_b, seats, passes)
+    } else {
+        open_desk(rt, alloc, opened, index_a, index_b, seats, rows, passes)
+    };
+    let (mut desk, mut seats) = made.ok()?;
     let commands = script.commands.as_str();
     let answers = commands::answers(rt, alloc, schema, &mut desk, &mut seats, commands);
     let list = texts::log_text(alloc, &desk.into_log(rt));
     format!(in alloc; "{} |{}", answers?, list?).ok()
-}
-
-// A desk whose list begins with these rows, or with none.
-fn begun<I: Index, J: Naming + BoxNames, R: Wait>(
-    rt: &R,
-    alloc: Global,
-    opened: Opened,
-    index_a: I,
-    index_b: I,
-    seats: u32,
-    rows: Vec<Row>,
-    passes: Vec<MailPasses>,
-) -> Result<(Desk<Page<I, J>, J>, Vec<Seat<Page<I, J>, J>>), NoMemory>
-    requires named { (opened.seen.book ≡ J.book) × (J.opening ≡ opening_of rows.items) }
-    requires schema { (I.schema index_a ≡ J.schema) × (I.schema index_b ≡ J.schema) }
-    requires bounded { (I.is_bounded index_a ≡ true) × (I.is_bounded index_b ≡ true) }
-    requires empty { (I.rows index_a ≡ []) × (I.rows index_b ≡ []) }
-    requires seats { (0 < seats) × (seats ≤ SEATS) × (length J.boxes ≡ seats) }
-    requires table { IsTable rows.items }
-    requires lie { list_all (row_lies J.schema) rows.items ≡ true }
-    requires passes { passes.items ≡ map (new_passes J.boxes) (range_with_len 0 seats) }
-{
-    if rows.is_empty() {
-        return make_desk(rt, alloc, opened, index_a, index_b, seats, passes);
-    }
-    open_desk(rt, alloc, opened, index_a, index_b, seats, rows, passes)
 }

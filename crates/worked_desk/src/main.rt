@@ -7,7 +7,6 @@
 mod commands;
 mod desks;
 mod seats;
-mod tables;
 mod texts;
 
 use be_event::read_schema;
