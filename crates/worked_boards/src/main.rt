@@ -9,40 +9,20 @@ mod commands;
 mod letters;
 mod reads;
 
-use be_base::NoMemory;
-use be_event::read_schema;
 use be_model::Schema;
 use std::alloc::Global;
 use std::io;
 use std::sync::Arc;
+use worked_lines::answer_each_in;
 
 const SCHEMA: &[u8] = b"int price 0 1000\n";
 
-// What is printed for a line.
-fn printed(alloc: Global, schema: &Arc<Schema>, line: &str) -> Result<String, NoMemory> {
+fn answers(alloc: Global, schema: &Arc<Schema>, line: &str) -> Option<String> {
     let (kind, script) = line.split_once(": ").unwrap_or((line, ""));
-    let answers = boards::answers(alloc, schema, kind, script)?;
-    Ok(format!(in alloc; "{line} -> {answers}\n")?)
-}
-
-fn answer(alloc: Global, schema: &Arc<Schema>, line: &str) -> String {
-    match printed(alloc, schema, line) {
-        Ok(text) => text,
-        Err(_) => String::new(alloc),
-    }
+    boards::answers(alloc, schema, kind, script).ok()
 }
 
 fn main(rt: HostRuntime) -> io::Result<()> {
     let alloc = rt.alloc();
-    let Ok(schema) = read_schema(alloc, SCHEMA) else {
-        return Ok(());
-    };
-    let Ok(schema) = Arc::new(alloc, schema) else {
-        return Ok(());
-    };
-    for line in rt.lines(alloc) {
-        let text = answer(alloc, &schema, line?.as_str());
-        rt.print(text.as_str())?;
-    }
-    Ok(())
+    answer_each_in(&rt, alloc, SCHEMA, |schema, line| answers(alloc, schema, line))
 }

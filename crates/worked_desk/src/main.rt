@@ -9,11 +9,11 @@ mod desks;
 mod seats;
 mod texts;
 
-use be_event::read_schema;
 use be_model::Schema;
 use std::alloc::Global;
 use std::io;
 use std::sync::{Arc, Wait};
+use worked_lines::answer_each_in;
 
 const SCHEMA: &[u8] = b"int price 0 1000\n";
 
@@ -23,26 +23,7 @@ fn answers<R: Wait>(rt: &R, alloc: Global, schema: &Arc<Schema>, line: &str) -> 
     desks::answers(rt, alloc, schema, kind, seats.parse().ok()?, script)
 }
 
-// What is printed for a line.
-fn printed<R: Wait>(rt: &R, alloc: Global, schema: &Arc<Schema>, line: &str) -> Option<String> {
-    match answers(rt, alloc, schema, line) {
-        Some(answers) => format!(in alloc; "{line} -> {answers}\n").ok(),
-        None => format!(in alloc; "{line} -> no desk\n").ok(),
-    }
-}
-
 fn main(rt: HostRuntime) -> io::Result<()> {
     let alloc = rt.alloc();
-    let Ok(schema) = read_schema(alloc, SCHEMA) else {
-        return Ok(());
-    };
-    let Ok(schema) = Arc::new(alloc, schema) else {
-        return Ok(());
-    };
-    for line in rt.lines(alloc) {
-        if let Some(text) = printed(&rt, alloc, &schema, line?.as_str()) {
-            rt.print(text.as_str())?;
-        }
-    }
-    Ok(())
+    answer_each_in(&rt, alloc, SCHEMA, |schema, line| answers(&rt, alloc, schema, line))
 }

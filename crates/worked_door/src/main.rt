@@ -16,6 +16,7 @@ use std::io;
 use std::net::{Net, TcpListener, TcpStream};
 use std::sync::Wait;
 use std::thread::Threads;
+use worked_lines::answer_each;
 
 // What came of a row.
 fn served<R: Threads + Wait + Sync + Net<Listener = TcpListener, Stream = TcpStream> + Copy>(
@@ -31,22 +32,7 @@ fn served<R: Threads + Wait + Sync + Net<Listener = TcpListener, Stream = TcpStr
     }
 }
 
-// What is printed for a line.
-fn printed(alloc: Global, line: &str, text: Option<String>) -> Option<String> {
-    match text {
-        Some(text) => format!(in alloc; "{line} -> {text}\n").ok(),
-        None => format!(in alloc; "{line} -> nothing\n").ok(),
-    }
-}
-
 fn main(rt: HostRuntime) -> io::Result<()> {
     let alloc = rt.alloc();
-    for line in rt.lines(alloc) {
-        let line = line?;
-        let text = served(rt, alloc, line.as_str());
-        if let Some(text) = printed(alloc, line.as_str(), text) {
-            rt.print(text.as_str())?;
-        }
-    }
-    Ok(())
+    answer_each(&rt, alloc, |line| served(rt, alloc, line))
 }

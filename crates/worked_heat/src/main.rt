@@ -11,22 +11,17 @@ mod shown;
 use std::alloc::Global;
 use std::io;
 use std::thread::Threads;
+use worked_lines::answer_each;
 
-// What is printed for a line.
-fn printed<R: Threads + Sync>(rt: &R, alloc: Global, line: &str) -> Option<String> {
+// What was counted for a line.
+fn counted<R: Threads + Sync>(rt: &R, alloc: Global, line: &str) -> Option<String> {
     let Some(script) = scripts::read_script(alloc, line) else {
-        return format!(in alloc; "{line} -> no heat\n").ok();
+        return String::from_str(alloc, "no heat").ok();
     };
-    let counts = counting::counts(rt, alloc, script)?;
-    format!(in alloc; "{line} -> {counts}\n").ok()
+    counting::counts(rt, alloc, script)
 }
 
 fn main(rt: HostRuntime) -> io::Result<()> {
     let alloc = rt.alloc();
-    for line in rt.lines(alloc) {
-        if let Some(text) = printed(&rt, alloc, line?.as_str()) {
-            rt.print(text.as_str())?;
-        }
-    }
-    Ok(())
+    answer_each(&rt, alloc, |line| counted(&rt, alloc, line))
 }

@@ -10,17 +10,17 @@ mod files;
 mod hubs;
 mod shown;
 
-use be_event::read_schema;
 use be_model::Schema;
 use std::alloc::Global;
 use std::io;
 use std::sync::{Arc, Wait};
 use std::thread::Threads;
+use worked_lines::answer_each_in;
 
 const SCHEMA: &[u8] = b"int price 0 1000\nint qty -5 5\n";
 
-// What is printed for a line.
-fn printed<R: Threads + Wait + Sync>(
+// What came of a line.
+fn served<R: Threads + Wait + Sync>(
     rt: &R,
     alloc: Global,
     schema: &Arc<Schema>,
@@ -28,24 +28,10 @@ fn printed<R: Threads + Wait + Sync>(
 ) -> Option<String> {
     let (rounds, texts) = line.split_once(": ")?;
     let script = files::read_script(alloc, rounds.parse().ok()?, texts)?;
-    match hubs::served(rt, alloc, schema, script) {
-        Some(transcripts) => format!(in alloc; "{line} -> {transcripts}\n").ok(),
-        None => format!(in alloc; "{line} -> nothing\n").ok(),
-    }
+    hubs::served(rt, alloc, schema, script)
 }
 
 fn main(rt: HostRuntime) -> io::Result<()> {
     let alloc = rt.alloc();
-    let Ok(schema) = read_schema(alloc, SCHEMA) else {
-        return Ok(());
-    };
-    let Ok(schema) = Arc::new(alloc, schema) else {
-        return Ok(());
-    };
-    for line in rt.lines(alloc) {
-        if let Some(text) = printed(&rt, alloc, &schema, line?.as_str()) {
-            rt.print(text.as_str())?;
-        }
-    }
-    Ok(())
+    answer_each_in(&rt, alloc, SCHEMA, |schema, line| served(&rt, alloc, schema, line))
 }

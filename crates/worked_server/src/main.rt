@@ -13,7 +13,6 @@ mod row;
 mod shown;
 mod stage;
 
-use crate::row::Row;
 use crate::stage::Stage;
 use be_door::Metered;
 use be_server::{Status, be_main};
@@ -21,6 +20,7 @@ use std::alloc::Global;
 use std::io;
 use std::sync::Wait;
 use std::thread::Threads;
+use worked_lines::answer_each;
 
 fn call<R: Threads + Wait + Sync>(rt: &R, alloc: Global, stage: &mut Stage<R>) -> Status {
     be_main::<_, _, _, _, Metered<links::Peer>, _, _>(
@@ -36,27 +36,14 @@ fn call<R: Threads + Wait + Sync>(rt: &R, alloc: Global, stage: &mut Stage<R>) -
 }
 
 // What came of a row.
-fn served<R: Threads + Wait + Sync + Copy>(rt: R, alloc: Global, row: &Row<'_>) -> Option<String> {
-    let mut stage = stage::stage_of(rt, alloc, row)?;
-    let status = call(&rt, alloc, &mut stage);
-    shown::shown(alloc, row, &stage, &status)
-}
-
-// What is printed for a line.
-fn printed<R: Threads + Wait + Sync + Copy>(rt: R, alloc: Global, line: &str) -> Option<String> {
+fn served<R: Threads + Wait + Sync + Copy>(rt: R, alloc: Global, line: &str) -> Option<String> {
     let row = row::read_row(alloc, line)?;
-    let text = served(rt, alloc, &row)?;
-    format!(in alloc; "{line} -> {text}\n").ok()
+    let mut stage = stage::stage_of(rt, alloc, &row)?;
+    let status = call(&rt, alloc, &mut stage);
+    shown::shown(alloc, &row, &stage, &status)
 }
 
 fn main(rt: HostRuntime) -> io::Result<()> {
     let alloc = rt.alloc();
-    for line in rt.lines(alloc) {
-        let line = line?;
-        match printed(rt, alloc, line.as_str()) {
-            Some(text) => rt.print(text.as_str())?,
-            None => rt.print("no row\n")?,
-        }
-    }
-    Ok(())
+    answer_each(&rt, alloc, |line| served(rt, alloc, line))
 }

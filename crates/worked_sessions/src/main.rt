@@ -10,49 +10,25 @@ mod gate;
 mod serving;
 mod sessions;
 
-use be_base::NoMemory;
-use be_event::read_schema;
 use be_model::Schema;
 use std::alloc::Global;
 use std::io;
 use std::sync::Arc;
+use worked_lines::answer_each_in;
 
 const SCHEMA: &[u8] = b"int price 0 1000\n";
 
-fn seen(alloc: Global, schema: &Arc<Schema>, row: &str) -> Result<String, NoMemory> {
+fn seen(alloc: Global, schema: &Arc<Schema>, row: &str) -> Option<String> {
     let (kind, lines) = row.split_once(": ").unwrap_or((row, ""));
     let (kind, refused) = kind.split_once(' ').unwrap_or((kind, ""));
     match kind {
-        "session" => sessions::refused(alloc, schema, refused, lines),
-        "searches" => sessions::counted(alloc, schema, lines),
-        _ => Ok(String::from_str(alloc, "no session")?),
-    }
-}
-
-// What is printed for a row.
-fn printed(alloc: Global, schema: &Arc<Schema>, row: &str) -> Result<String, NoMemory> {
-    let seen = seen(alloc, schema, row)?;
-    Ok(format!(in alloc; "{row} -> {seen}\n")?)
-}
-
-fn answer(alloc: Global, schema: &Arc<Schema>, row: &str) -> String {
-    match printed(alloc, schema, row) {
-        Ok(text) => text,
-        Err(_) => String::new(alloc),
+        "session" => sessions::refused(alloc, schema, refused, lines).ok(),
+        "searches" => sessions::counted(alloc, schema, lines).ok(),
+        _ => None,
     }
 }
 
 fn main(rt: HostRuntime) -> io::Result<()> {
     let alloc = rt.alloc();
-    let Ok(schema) = read_schema(alloc, SCHEMA) else {
-        return Ok(());
-    };
-    let Ok(schema) = Arc::new(alloc, schema) else {
-        return Ok(());
-    };
-    for row in rt.lines(alloc) {
-        let text = answer(alloc, &schema, row?.as_str());
-        rt.print(text.as_str())?;
-    }
-    Ok(())
+    answer_each_in(&rt, alloc, SCHEMA, |schema, row| seen(alloc, schema, row))
 }
