@@ -7,15 +7,15 @@
 . "$(dirname "${BASH_SOURCE[0]}")/common.sh"
 crates=(be_base be_io be_model be_expr be_event be_shape be_score be_match be_insert)
 
-# build: proves and builds the program in this room, with the tree that grows by rows of `worked_trees`.
+# build: proves and builds the program in this room, with the tree that grows of `worked_walks` and the rows of `worked_trees`.
 build() {
     own_crate leafbench "${crates[@]}"
-    local worked="$top/crates/worked_trees" own_folder="$room/crates/leafbench"
+    local walks="$top/crates/worked_walks" own_folder="$room/crates/leafbench"
     mkdir -p "$own_folder/proofs" "$own_folder/specs"
-    cp "$worked/src/grown.rt" "$own_folder/src"
-    tar -C "$worked/proofs" -cf - Lib.antt Below.antt grown | tar -C "$own_folder/proofs" -xf -
-    sed -i '/mod Below/!d' "$own_folder/proofs/Lib.antt"
-    find "$own_folder/proofs" -name '*.antt' -exec sed -i 's/worked_trees/leafbench/g' {} +
+    cp "$walks/src/grown.rt" "$top/crates/worked_trees/src/rows.rt" "$own_folder/src"
+    sed -i 's/worked_walks::Grown/crate::grown::Grown/' "$own_folder/src/rows.rt"
+    tar -C "$walks/proofs" -cf - . | tar -C "$own_folder/proofs" -xf -
+    find "$own_folder/proofs" -name '*.antt' -exec sed -i 's/worked_walks/leafbench/g' {} +
     sed -i '$s/$/ anyhow/' "$room/crates.txt"
     [ -z "${1-}" ] || { rm -rf "$room/crates/be_shape" "$room/crates/be_match"; git -C "$top" archive "$1" crates/be_shape crates/be_match | tar -C "$room" -xf -; }
     build_own leafbench 1

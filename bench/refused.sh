@@ -4,8 +4,8 @@
 # proves nothing. It ends with status 1 where a run saw something wrong. No part of the gate.
 # shellcheck source=common.sh
 . "$(dirname "${BASH_SOURCE[0]}")/common.sh"
-own_crate refused be_base be_model be_score be_shape be_match be_insert be_remove be_adjust
-cp "$top"/crates/worked_tree/src/{grown,looks,plain_walk,refused}.rt "$room/crates/refused/src"
+own_crate refused be_base be_model be_score be_shape be_match be_insert worked_walks
+cp "$top"/crates/worked_tree/src/{looks,refused}.rt "$room/crates/refused/src"
 
 # the number of the allocation that fails, of which so many may be taken before the test
 last=240

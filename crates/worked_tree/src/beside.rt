@@ -2,9 +2,9 @@
 
 use crate::by_ways;
 use crate::by_ways::{BOUNDS, HIGH, Kept, LOW, Way};
-use crate::grown::{Grown, row_of, schema_of_four};
 use crate::looks::{cost, has_ids};
 use crate::moves::{self, Move};
+use crate::rows::{apply_step, row_of, schema_of_four, take_row};
 use be_base::{AttrNo, Id, NoMemory};
 use be_model::{Conj, Hop, Op, Path, Pred, Row, Step, StepDone};
 use be_plan::plan;
@@ -13,6 +13,7 @@ use std::alloc::Global;
 use std::process::Abort;
 use std::sync::Arc;
 use std::test::Fail;
+use worked_walks::Grown;
 
 /// A small linear congruence.
 #[derive(Drop)]
@@ -229,11 +230,15 @@ impl Both {
         if place < self.rows.len() && place < self.kept.len() {
             let row = self.rows.remove(place);
             let _ = self.kept.remove(place);
-            match self.grown.take(&row) {
+            match take_row(&mut self.grown, &row) {
                 Some(taken) => assert_eq!(rt; taken.id.0, row.id.0),
                 None => panic!(rt; "row {} isn't there", row.id.0),
             }
-            assert!(rt; self.grown.take(&row).is_none(), "row {}", row.id.0);
+            assert!(rt;
+                take_row(&mut self.grown, &row).is_none(),
+                "row {}",
+                row.id.0
+            );
             count_up(&mut self.changes, 1);
             count_up(&mut self.changes, 2);
         }
@@ -246,7 +251,7 @@ impl Both {
         } else {
             StepDone::NotHere
         };
-        let done = self.grown.apply(&step_of(alloc, step)?);
+        let done = apply_step(&mut self.grown, &step_of(alloc, step)?);
         assert!(rt; done == want, "a step of the kind {}", kind_of(step));
         if stands {
             moves::make(self.kept.as_mut_slice(), step);

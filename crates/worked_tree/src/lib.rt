@@ -6,8 +6,6 @@ mod beside;
 #[cfg(test)]
 mod by_ways;
 #[cfg(test)]
-mod grown;
-#[cfg(test)]
 mod looks;
 #[cfg(test)]
 mod moves;
@@ -17,5 +15,7 @@ mod plan;
 mod refused;
 #[cfg(test)]
 mod remove;
+#[cfg(test)]
+mod rows;
 #[cfg(test)]
 mod steps;

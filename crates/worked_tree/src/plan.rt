@@ -1,78 +1,12 @@
 //! Of the plan, what no clause says: that it answers where there is memory, and trees whose plan was worked out by hand.
 
-ghost use Rattle.std.specs.Prelude.{◌≡◌, ◌<◌, ◌+◌, true, nat_lt};
-ghost use Rattle.std.specs.List.{list_all};
-ghost use Rattle.std.specs.Arc.{arc_value};
-ghost use Rattle.be_base.specs.declared.limits.TheConstants.{LOG_CHANGES};
-ghost use Rattle.be_model.specs.Lies.{row_lies};
-ghost use Rattle.be_model.specs.Rows.{id_of};
-ghost use Rattle.be_shape.specs.Plain.{plain, contents};
-
-use be_base::{AttrNo, Id, LOG_CHANGES, Name, SessionNo};
-use be_insert::place;
-use be_model::{Conj, Domain, Hop, Op, Path, Pred, Row, Schema, Step};
+use crate::rows::{row_of, schema_of_two};
+use be_base::AttrNo;
+use be_model::{Conj, Hop, Op, Pred, Step};
 use be_plan::plan;
-use be_shape::Tree;
 use std::alloc::Global;
-use std::sync::Arc;
 use std::test::Fail;
-
-/// A tree whose ids are below the next.
-#[derive(Drop)]
-struct Grown {
-    tree: Tree,
-    next: u64,
-    ghost below: { list_all (λ r. nat_lt r.0 next) (contents (plain tree.root)) ≡ true },
-}
-
-impl Grown {
-    fn make(alloc: Global, schema: Arc<Schema>) -> Grown {
-        Grown {
-            tree: Tree::make(alloc, schema, 50),
-            next: 0,
-        }
-    }
-
-    // Places a row that has the next id and lies in the schema, and says whether it stands there then.
-    fn put(&mut self, row: Arc<Row>) -> bool {
-        if row.id.0 != self.next
-            || LOG_CHANGES as u64 <= self.next
-            || !row.lies(&self.tree.schema)
-        {
-            return false;
-        }
-        let next = self.next;
-        self.next += 1;
-        place_next(&mut self.tree, next, row)
-    }
-}
-
-// Places a row of the next id, and says whether it stands there then.
-fn place_next(tree: &mut Tree, next: u64, row: Arc<Row>) -> bool
-    requires below { list_all (λ r. nat_lt r.0 next) (contents (plain tree.old.root)) ≡ true }
-    requires id { id_of (arc_value row) ≡ next }
-    requires few { next < LOG_CHANGES }
-    requires lies { row_lies (arc_value tree.old.schema) (arc_value row) ≡ true }
-    ensures { list_all (λ r. nat_lt r.0 (next + 1)) (contents (plain tree.new.root)) ≡ true }
-{
-    match place(tree, row) {
-        Ok(()) => true,
-        Err(_) => false,
-    }
-}
-
-// The schema `int price 0 1000`, `int qty -5 5`.
-fn schema_of_two(alloc: Global) -> Result<Arc<Schema>, Fail> {
-    let mut schema = Schema::make(alloc);
-    for (name, lo, hi) in [(b"price".as_slice(), 0, 1000), (b"qty".as_slice(), -5, 5)] {
-        let name = Name::read(name)?;
-        let domain = Domain::Int { lo, hi };
-        if schema.accepts(&name, &domain) {
-            schema.push((name, domain))?;
-        }
-    }
-    Ok(Arc::new(alloc, schema)?)
-}
+use worked_walks::Grown;
 
 // Puts so many rows of these ranges, of prices and of quantities, into the tree, and says whether all stand there.
 fn put_rows(
@@ -91,13 +25,7 @@ fn put_rows(
                 })?;
             }
         }
-        let row = Row {
-            id: Id(grown.next),
-            session: SessionNo(1),
-            name: Name::read(b"a")?,
-            conj,
-        };
-        if !grown.put(Arc::new(alloc, row)?) {
+        if !grown.put(row_of(alloc, grown.next, conj)?) {
             return Ok(false);
         }
     }

@@ -4,12 +4,12 @@
 //! All that the test needs of its own is made before the first row is placed; where that is refused, it says so and tests
 //! nothing.
 
-use crate::grown::Grown;
 use crate::looks::has_ids;
 use be_base::{AttrNo, Id, Name, SessionNo};
 use be_model::{Conj, Domain, Op, Pred, Row, Schema};
 use std::alloc::Global;
 use std::sync::Arc;
+use worked_walks::Grown;
 
 const ROWS: u64 = 60;
 

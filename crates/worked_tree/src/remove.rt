@@ -1,8 +1,8 @@
 //! Of removal, what no clause says: which nodes are left, and rows of mixed conditions taken in mixed order beside a plain
 //! list.
 
-use crate::grown::{Grown, row_of, schema_of_four};
 use crate::looks::{finds_as_list, has_ids};
+use crate::rows::{row_of, schema_of_four, take_row};
 use be_base::{AttrNo, Id, Name, SessionNo};
 use be_expr::read_expr;
 use be_model::{Conj, Event, Hop, Path, Row, Values};
@@ -11,6 +11,7 @@ use std::alloc::Global;
 use std::process::Abort;
 use std::sync::Arc;
 use std::test::Fail;
+use worked_walks::Grown;
 
 const MIXED: [&str; 12] = [
     "price = 5",
@@ -50,12 +51,16 @@ pub(crate) fn put(
 // Takes the row, which is there, and then isn't.
 fn take_once(rt: &impl Abort, grown: &mut Grown, row: &Row) {
     let before = grown.tree.len();
-    match grown.take(row) {
+    match take_row(grown, row) {
         Some(taken) => assert_eq!(rt; taken.id.0, row.id.0),
         None => panic!(rt; "{} isn't there", row.id.0),
     }
     assert_eq!(rt; grown.tree.len().checked_add(1), Some(before));
-    assert!(rt; grown.take(row).is_none(), "{} is there twice", row.id.0);
+    assert!(rt;
+        take_row(grown, row).is_none(),
+        "{} is there twice",
+        row.id.0
+    );
 }
 
 fn is_there(tree: &Tree, path: &Path) -> bool {
@@ -114,7 +119,7 @@ fn a_row_that_differs_is_not_taken(rt: HostRuntime) -> Result<(), Fail> {
             conj: conj_of(&rt, alloc, &grown.tree, text)?,
         };
         assert!(rt;
-            grown.take(&other).is_none(),
+            take_row(&mut grown, &other).is_none(),
             "{id} {session} {name} {text}"
         );
     }

@@ -1,14 +1,15 @@
 //! Of the steps that reshape a tree, what no clause says: that they are made where there is memory, on trees walked by hand.
 
-use crate::grown::{Grown, schema_of_four};
 use crate::looks::{cost, has_ids};
 use crate::remove::put;
+use crate::rows::{apply_step, schema_of_four, take_row};
 use be_base::{AttrNo, Id};
 use be_model::{Hop, Path, Row, Step, StepDone};
 use std::alloc::Global;
 use std::process::Abort;
 use std::sync::Arc;
 use std::test::Fail;
+use worked_walks::Grown;
 
 const PRICE: AttrNo = AttrNo(0);
 
@@ -53,7 +54,7 @@ fn make_all(
     for number in 0..steps.len() {
         let (hops, what, done) = steps[number];
         let step = step_of(alloc, hops, what)?;
-        assert_eq!(rt; grown.apply(&step), done, "step {number}");
+        assert_eq!(rt; apply_step(grown, &step), done, "step {number}");
         assert!(rt; has_ids(alloc, &grown.tree, rows)?, "step {number}");
     }
     Ok(())
@@ -119,9 +120,9 @@ fn a_few_rows_left_of_seventeen_go_to_the_root(rt: HostRuntime) -> Result<(), Fa
     let gone = put_all(&rt, alloc, &mut grown, &["price = 5"; 14])?;
     let price: &[Hop] = &[Hop::Part(PRICE)];
     let step = step_of(alloc, price, What::Merge)?;
-    assert_eq!(rt; grown.apply(&step), StepDone::NotHere);
+    assert_eq!(rt; apply_step(&mut grown, &step), StepDone::NotHere);
     for row in gone.as_slice() {
-        assert!(rt; grown.take(row).is_some());
+        assert!(rt; take_row(&mut grown, row).is_some());
     }
     let few = [
         (price, What::Merge, StepDone::Done),

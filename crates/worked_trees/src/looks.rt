@@ -1,6 +1,6 @@
 //! What is asked of a tree. `None` is an answer that no row wants.
 
-use crate::grown::row_of;
+use crate::rows::row_of;
 use be_base::AttrNo;
 use be_event::read_event;
 use be_match::{cost_of, find_in};

@@ -3,18 +3,18 @@
 //! `tools/worked-trees`, a filter over a plain list in Python.
 #![tactic(auto)]
 
-mod grown;
 mod looks;
+mod rows;
 mod scores;
 
 use be_base::NoMemory;
 use be_event::read_schema;
 use be_model::Schema;
-use grown::Grown;
 use std::alloc::Global;
 use std::fmt::Debug;
 use std::io;
 use std::sync::Arc;
+use worked_walks::Grown;
 
 const SCHEMA: &[u8] = b"int price 0 1000\nint qty -5 5\nsym side buy sell hold\nint one 7 7\n";
 
@@ -36,7 +36,7 @@ fn renew(alloc: Global, grown: &mut Grown) -> Result<String, NoMemory> {
 fn asked(alloc: Global, grown: &mut Grown, command: &str, text: &str) -> Result<String, NoMemory> {
     let bytes = text.as_bytes();
     match command {
-        "row" if grown.put(alloc, bytes) => Ok(String::new(alloc)),
+        "row" if rows::put(alloc, grown, bytes) => Ok(String::new(alloc)),
         "tree" => renew(alloc, grown),
         "find" => told(alloc, looks::find(alloc, &grown.tree, bytes)),
         "cost" => told(alloc, looks::cost(alloc, &grown.tree, bytes)),

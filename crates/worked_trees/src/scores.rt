@@ -6,7 +6,7 @@ ghost use Rattle.std.specs.Arc.{arc_value};
 ghost use Rattle.be_model.specs.Lies.{row_lies};
 ghost use Rattle.be_model.specs.Rows.{rows_in};
 
-use crate::grown::row_of;
+use crate::rows::row_of;
 use be_base::AttrNo;
 use be_model::{Row, Schema};
 use be_score::{pick_attr, weight};

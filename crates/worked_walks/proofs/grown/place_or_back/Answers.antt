@@ -2,8 +2,8 @@ use Rattle.std.proofs.Common.{◌≡◌, ◌+◌, false, sym, subst, ap, ◌∙�
 use Rattle.std.specs.Arc.{arc_value}
 use Rattle.be_model.specs.ByIds.{has_id}
 use Rattle.be_shape.specs.Plain.{plain, contents}
-use Rattle.worked_tree.proofs.Below.{are_below, next_is_new, one_more}
-use Rattle.worked_tree.proofs.grown.place_or_back.Goals as goal
+use Rattle.worked_walks.proofs.Below.{are_below, next_is_new, one_more}
+use Rattle.worked_walks.proofs.grown.place_or_back.Goals as goal
 
 pub place-requires-clause-new : goal.place-requires-clause-new
 place-requires-clause-new c =

@@ -1,6 +1,5 @@
 -- Ids that are all below a number.
 use Rattle.std.proofs.Common.{◌≡◌, ℕ, ◌+◌, ◌<◌, ◌≤◌, Bool, true, false, eqb, ltb, ◌||◌, [], ◌∷◌, refl, ap, ◌∙◌, arith}
-use Rattle.std.specs.Prelude.{Result, Ok, Err, OnOk, OnErr}
 use Rattle.std.specs.List.{list_all}
 use Rattle.std.proofs.lemmas.Bool.{and_parts, ltb-true, lt-ltb}
 use Rattle.std.proofs.lemmas.Bool.Decides.{nat_tests}
@@ -37,14 +36,6 @@ above n k (r ∷ rs) h a = (omega (arith, a.0), above n k rs h a.1)
 pub next_is_new : (n : ℕ) (m : ByIds) → are_below n m ≡ true → has_id n m ≡ false
 next_is_new n m h = none_below n m (all_below n m h)
 
-pub all_below_next : (n : ℕ) (m : ByIds) → are_below n m ≡ true → are_below (n + 1) m ≡ true
-all_below_next n m h = from_below (n + 1) m (above n (n + 1) m (omega arith) (all_below n m h))
-
 pub one_more : (n : ℕ) (row : Row) (m : ByIds) → id_of row ≡ n → are_below n m ≡ true → are_below (n + 1) (put_by_id row m) ≡ true
 one_more n row m is h =
     from_below (n + 1) (put_by_id row m) (put_below (n + 1) row m (omega arith) (above n (n + 1) m (omega arith) (all_below n m h)))
-
--- what holds after either answer
-pub in_either : {A E : Type 0} (P Q G : Type 0) (r : Result A E) → OnOk r P → OnErr r Q → (P → G) → (Q → G) → G
-in_either P Q G (Ok x) p q f g = f p
-in_either P Q G (Err e) p q f g = g q

@@ -1,6 +1,6 @@
 //! A tree that grows by rows with the ids 0, 1, 2 and so on.
 
-ghost use Rattle.std.specs.Prelude.{◌≡◌, ◌<◌, ◌+◌, true, nat_lt, IfSome};
+ghost use Rattle.std.specs.Prelude.{◌≡◌, ◌<◌, ◌+◌, true, nat_lt, OnOk, OnErr};
 ghost use Rattle.std.specs.List.{list_all};
 ghost use Rattle.std.specs.Arc.{arc_value};
 ghost use Rattle.be_base.specs.declared.limits.TheConstants.{LOG_CHANGES};
@@ -8,8 +8,7 @@ ghost use Rattle.be_model.specs.Lies.{row_lies};
 ghost use Rattle.be_model.specs.Rows.{id_of};
 ghost use Rattle.be_shape.specs.Plain.{plain, contents};
 
-use be_base::{Id, LOG_CHANGES, Name, SessionNo};
-use be_expr::read_expr;
+use be_base::LOG_CHANGES;
 use be_insert::place;
 use be_model::{Row, Schema};
 use be_shape::Tree;
@@ -32,51 +31,36 @@ impl Grown {
         }
     }
 
-    /// Places a row of this condition that has the next id, and says whether it stands there then.
-    pub fn put(&mut self, alloc: Global, condition: &[u8]) -> bool {
-        match row_of(alloc, &self.tree.schema, self.next, condition) {
-            Some(row) => self.put_row(row),
-            None => false,
-        }
+    /// Places a row that has the next id and lies in the schema, and says whether it stands there then.
+    pub fn put(&mut self, row: Arc<Row>) -> bool {
+        self.try_put(row).is_ok()
     }
 
-    fn put_row(&mut self, row: Arc<Row>) -> bool {
+    /// The same, but the row comes back where memory was wanting, or it can't be placed.
+    pub fn try_put(&mut self, row: Arc<Row>) -> Result<(), Arc<Row>> {
         if row.id.0 != self.next
             || LOG_CHANGES as u64 <= self.next
             || !row.lies(&self.tree.schema)
         {
-            return false;
+            return Err(row);
         }
-        let next = self.next;
+        place_or_back(&mut self.tree, self.next, row)?;
         self.next += 1;
-        place_next(&mut self.tree, next, row)
+        Ok(())
     }
 }
 
-pub fn row_of(alloc: Global, schema: &Schema, id: u64, condition: &[u8]) -> Option<Arc<Row>>
-    ensures { IfSome result (λ r. id_of (arc_value r) ≡ id) }
-{
-    let name = Name::read(b"a").ok()?;
-    let conj = read_expr(alloc, schema, condition).ok()?;
-    let row = Row {
-        id: Id(id),
-        session: SessionNo(1),
-        name,
-        conj,
-    };
-    Arc::new(alloc, row).ok()
-}
-
-// Places a row of the next id, and says whether it stands there then.
-fn place_next(tree: &mut Tree, next: u64, row: Arc<Row>) -> bool
+// Places a row of the next id, or hands it back where memory was wanting.
+fn place_or_back(tree: &mut Tree, next: u64, row: Arc<Row>) -> Result<(), Arc<Row>>
     requires below { list_all (λ r. nat_lt r.0 next) (contents (plain tree.old.root)) ≡ true }
     requires id { id_of (arc_value row) ≡ next }
     requires few { next < LOG_CHANGES }
     requires lies { row_lies (arc_value tree.old.schema) (arc_value row) ≡ true }
-    ensures { list_all (λ r. nat_lt r.0 (next + 1)) (contents (plain tree.new.root)) ≡ true }
+    ensures put { OnOk result (list_all (λ r. nat_lt r.0 (next + 1)) (contents (plain tree.new.root)) ≡ true) }
+    ensures back { OnErr result (list_all (λ r. nat_lt r.0 next) (contents (plain tree.new.root)) ≡ true) }
 {
     match place(tree, row) {
-        Ok(()) => true,
-        Err(_) => false,
+        Ok(()) => Ok(()),
+        Err((row, _)) => Err(row),
     }
 }

@@ -4,8 +4,8 @@ use Rattle.be_model.specs.Rows.{id_of}
 use Rattle.be_shape.specs.Plain.{plain, contents}
 use Rattle.be_shape.proofs.Lists.{filter_keeps}
 use Rattle.be_remove.proofs.Groups.{either}
-use Rattle.worked_tree.proofs.Below.{are_below}
-use Rattle.worked_tree.proofs.grown.take_below.Goals as goal
+use Rattle.worked_walks.proofs.Below.{are_below}
+use Rattle.worked_tree.proofs.rows.take_below.Goals as goal
 
 pub returns : goal.returns
 returns c =
