@@ -1,5 +1,6 @@
 #!/usr/bin/env bash
-# Prints how long a search takes by a tree whose leaves tell two tests of each row, and by the tree of before, whose leaves told none:
+# Prints how long a search takes by a tree whose leaves tell two tests of each row, which one sight of the event passes over, and by the
+# tree of before, whose leaves told none and whose events were looked up by halving:
 # of 1,000, 10,000 and 100,000 subscriptions of the kind that the generated workload has, and of some like a market's. Both programs search
 # for the same events in one run, with the processor time as they measure it, the least of three. It builds, and so proves, both
 # from the crates that they stand on. No part of the gate.
@@ -17,7 +18,7 @@ build() {
     tar -C "$walks/proofs" -cf - . | tar -C "$own_folder/proofs" -xf -
     find "$own_folder/proofs" -name '*.antt' -exec sed -i 's/worked_walks/leafbench/g' {} +
     sed -i '$s/$/ anyhow/' "$room/crates.txt"
-    [ -z "${1-}" ] || { rm -rf "$room/crates/be_shape" "$room/crates/be_match"; git -C "$top" archive "$1" crates/be_shape crates/be_match | tar -C "$room" -xf -; }
+    [ -z "${1-}" ] || { rm -rf "$room/crates/be_model" "$room/crates/be_shape" "$room/crates/be_match"; git -C "$top" archive "$1" crates/be_model crates/be_shape crates/be_match | tar -C "$room" -xf -; }
     build_own leafbench 1
 }
 
@@ -38,7 +39,7 @@ compare() {
     { search "$now" "$5"; search "$before" "$5"; } >"$room/both.txt"
     awk -v text="$2" -v subs="$3" 'NR == 1 { found = $1; now = $2 } NR == 2 {
         if ($1 != found) { print "the two find different rows"; exit 1 }
-        printf "a search of %d subscriptions %s, with tests in the leaf, and without: %.2f µs, %.2f µs, %.2f times as long\n", subs, text, now / 1000, $2 / 1000, $2 / now
+        printf "a search of %d subscriptions %s, now, and without tests in the leaf: %.2f µs, %.2f µs, %.2f times as long\n", subs, text, now / 1000, $2 / 1000, $2 / now
     }' "$room/both.txt" || exit 1
 }
 
