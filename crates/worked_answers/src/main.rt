@@ -32,5 +32,10 @@ fn answer(alloc: Global, schema: &Schema, line: &str) -> Option<String> {
 
 fn main(rt: HostRuntime) -> io::Result<()> {
     let alloc = rt.alloc();
-    answer_each_in(&rt, alloc, SCHEMA, |schema, line| answer(alloc, schema, line))
+    answer_each_in(
+        &rt,
+        alloc,
+        SCHEMA,
+        |schema, line| answer(alloc, schema, line),
+    )
 }

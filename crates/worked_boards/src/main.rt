@@ -24,5 +24,10 @@ fn answers(alloc: Global, schema: &Arc<Schema>, line: &str) -> Option<String> {
 
 fn main(rt: HostRuntime) -> io::Result<()> {
     let alloc = rt.alloc();
-    answer_each_in(&rt, alloc, SCHEMA, |schema, line| answers(alloc, schema, line))
+    answer_each_in(
+        &rt,
+        alloc,
+        SCHEMA,
+        |schema, line| answers(alloc, schema, line),
+    )
 }

@@ -25,5 +25,10 @@ fn answers<R: Wait>(rt: &R, alloc: Global, schema: &Arc<Schema>, line: &str) -> 
 
 fn main(rt: HostRuntime) -> io::Result<()> {
     let alloc = rt.alloc();
-    answer_each_in(&rt, alloc, SCHEMA, |schema, line| answers(&rt, alloc, schema, line))
+    answer_each_in(
+        &rt,
+        alloc,
+        SCHEMA,
+        |schema, line| answers(&rt, alloc, schema, line),
+    )
 }

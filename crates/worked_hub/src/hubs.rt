@@ -64,7 +64,10 @@ fn begun<S: Post + Send + Sync, J: Naming + BoxNames + Send + Sync, R: Threads +
     requires passes { passes.items ≡ map (new_passes mail) (range_with_len 0 (length script.files.items)) }
 {
     let finds = Arc::new(alloc, AtomicU64::new(0)).ok()?;
-    let (a, b) = (BeTree::make(alloc, again(schema)?), BeTree::make(alloc, again(schema)?));
+    let (a, b) = (
+        BeTree::make(alloc, again(schema)?),
+        BeTree::make(alloc, again(schema)?),
+    );
     let a = Watched::make(a, Arc::try_clone(&finds).ok()?, Vec::new(alloc));
     let b = Watched::make(b, Arc::try_clone(&finds).ok()?, Vec::new(alloc));
     let kept = again(schema)?;

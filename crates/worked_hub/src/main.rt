@@ -33,5 +33,10 @@ fn served<R: Threads + Wait + Sync>(
 
 fn main(rt: HostRuntime) -> io::Result<()> {
     let alloc = rt.alloc();
-    answer_each_in(&rt, alloc, SCHEMA, |schema, line| served(&rt, alloc, schema, line))
+    answer_each_in(
+        &rt,
+        alloc,
+        SCHEMA,
+        |schema, line| served(&rt, alloc, schema, line),
+    )
 }
