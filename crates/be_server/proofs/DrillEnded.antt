@@ -30,65 +30,10 @@ use Rattle.be_io.proofs.WroteLemmas.{Wrote-append, Wrote-cut}
 use Rattle.be_model.specs.declared.changes.Row.{Row}
 use Rattle.be_model.specs.Schemas.{Attributes}
 use Rattle.be_server.specs.declared.status.Status.{Status}
-use Rattle.be_server.specs.declared.status.Status.TheVariants.{Done, Words, SchemaBad, LoadBad, FeedBad, NoMemory, ReadFault, LongFile, WriteFault, Spent, Split, Stray, Shut}
+use Rattle.be_server.specs.declared.status.Status.TheVariants.{Done, NoMemory, ReadFault, LongFile, WriteFault, Shut}
 use Rattle.be_server.specs.Asked.{MayAsk, AsksInOrder}
-use Rattle.be_server.specs.Files.{ToldFile, FileReads, FileIsLong, IsSchemaOf, AreRowsOf, LoadsRun}
-use Rattle.be_server.specs.Drills.{ToldFiles, AreScripts, Holds, FirstIsLong, LoadsScripts, LoadsDrill, under, headed, log_lines, drill_text, EndsAfter, RunsDrill, RanDrill, DrillEnds}
-
--- the files are good, and the sessions ended so
-pub drill_ran : (Kept : Type 0) (files : ToldFiles) (shelf shelf' : ℕ) (before after : SinkState) (s : Attributes) (rows : List Row) (scripts : List Text) (status : Status) → shelf' ≡ shelf → Holds files s rows scripts
-    → RunsDrill Kept s rows scripts before after status → DrillEnds Kept files shelf shelf' before after status
-drill_ran K files shelf shelf' before after s rows scripts status quiet good runs = go status runs
-  where
-    ran : (x : Status) → RunsDrill K s rows scripts before after x → RanDrill K files before after x
-    ran x r = record { schema = s; rows = rows; scripts = scripts; good = good; runs = r }
-
-    go : (x : Status) → RunsDrill K s rows scripts before after x → DrillEnds K files shelf shelf' before after x
-    go Done r = (quiet, ran Done r)
-    go (Shut shade) r = (quiet, ran (Shut shade) r)
-    go WriteFault r = (quiet, ran WriteFault r)
-    go NoMemory r = (quiet, inr (ran NoMemory r))
-    go (Split rift) r = (quiet, ran (Split rift) r)
-    go (Stray stray) r = (quiet, ran (Stray stray) r)
-    go Words r = absurd r
-    go (SchemaBad line kind) r = absurd r
-    go (LoadBad line kind) r = absurd r
-    go (FeedBad line kind) r = absurd r
-    go ReadFault r = absurd r
-    go LongFile r = absurd r
-    go Spent r = absurd r
-
--- the files were refused
-pub drill_refused : (Kept : Type 0) (files : ToldFiles) (shelf shelf' : ℕ) (before after : SinkState) (status : Status) → Kept → LoadsDrill files shelf shelf' (Err status) → DrillEnds Kept files shelf shelf' before after status
-drill_refused K files shelf shelf' before after ReadFault k l = (l, k)
-drill_refused K files shelf shelf' before after LongFile k l = (l.0, k, l.1)
-drill_refused K files shelf shelf' before after NoMemory k l = (l, inl k)
-drill_refused K files shelf shelf' before after (SchemaBad line kind) k l = (l.0, k, l.1)
-drill_refused K files shelf shelf' before after (LoadBad line kind) k l = (l.0, k, l.1)
-drill_refused K files shelf shelf' before after Done k l = absurd l
-drill_refused K files shelf shelf' before after (FeedBad line kind) k l = absurd l
-drill_refused K files shelf shelf' before after Words k l = absurd l
-drill_refused K files shelf shelf' before after WriteFault k l = absurd l
-drill_refused K files shelf shelf' before after Spent k l = absurd l
-drill_refused K files shelf shelf' before after (Split rift) k l = absurd l
-drill_refused K files shelf shelf' before after (Stray stray) k l = absurd l
-drill_refused K files shelf shelf' before after (Shut shade) k l = absurd l
-
--- the files of the run were refused
-pub run_files_refused : (files : ToldFiles) (f f' : ℕ) (status : Status) → LoadsRun files.run f f' (Err status) → LoadsDrill files f f' (Err status)
-run_files_refused files f f' ReadFault l = l
-run_files_refused files f f' LongFile l = (l.0, inl l.1)
-run_files_refused files f f' NoMemory l = l
-run_files_refused files f f' (SchemaBad line kind) l = l
-run_files_refused files f f' (LoadBad line kind) l = l
-run_files_refused files f f' Done l = absurd l
-run_files_refused files f f' (FeedBad line kind) l = absurd l
-run_files_refused files f f' Words l = absurd l
-run_files_refused files f f' WriteFault l = absurd l
-run_files_refused files f f' Spent l = absurd l
-run_files_refused files f f' (Split rift) l = absurd l
-run_files_refused files f f' (Stray stray) l = absurd l
-run_files_refused files f f' (Shut shade) l = absurd l
+use Rattle.be_server.specs.Files.{ToldFile, FileReads, FileIsLong, IsSchemaOf, AreRowsOf}
+use Rattle.be_server.specs.Drills.{ToldFiles, AreScripts, Holds, FirstIsLong, LoadsScripts, LoadsDrill, under, headed, log_lines, drill_text, Printed, EndsAfter, SessionsEnd, RunsDrill}
 
 -- the sessions' files were refused, behind good ones
 pub scripts_refused : (files : ToldFiles) (f f' f'' : ℕ) (s : Attributes) (rows : List Row) (status : Status) → f' ≡ f → IsSchemaOf files.run.schema s → AreRowsOf s files.run.load rows → LoadsScripts files.scripts f' f'' (Err status)
@@ -99,16 +44,7 @@ scripts_refused files f f' f'' s rows status quiet is are l = go status (subst (
     go ReadFault m = m
     go LongFile m = (m.0, inr (s, rows, is, are, m.1))
     go NoMemory m = m
-    go (SchemaBad line kind) m = absurd m
-    go (LoadBad line kind) m = absurd m
-    go (FeedBad line kind) m = absurd m
-    go Done m = absurd m
-    go Words m = absurd m
-    go WriteFault m = absurd m
-    go Spent m = absurd m
-    go (Split rift) m = absurd m
-    go (Stray stray) m = absurd m
-    go (Shut shade) m = absurd m
+    go _ m = absurd m
 
 -- one more of the sessions' files was read
 pub scripts_more : (files : List ToldFile) (scripts : List Text) (file : ToldFile) (script : Text) → AreScripts files scripts → FileReads (λ text. text) file script → AreScripts (files ++ file ∷ []) (scripts ++ script ∷ [])
@@ -189,28 +125,21 @@ output_failed P shuts fault status failed is = subst (EndsAfter P shuts) (sym is
     go sink.Failed p = p
     go sink.NoMemory p = p
 
+-- how the sessions ended, by how the output ended
+pub sessions_ended : (Kept : Type 0) (P : Bool → Result (Unit {0}) SinkFault → Type 0) (Q : Result (Unit {0}) SinkFault → Type 0) (shuts : Bool) (status : Status)
+    → ((b : Bool) (result : Result (Unit {0}) SinkFault) → shuts ≡ b → Q result → P b result) → EndsAfter Q shuts status → SessionsEnd Kept P status
+sessions_ended K P Q shuts Done prints e = prints false (Ok tt) e.0 e.1
+sessions_ended K P Q shuts (Shut shade) prints e = prints true (Ok tt) e.0 e.1
+sessions_ended K P Q shuts WriteFault prints e = (shuts, prints shuts (Err sink.Failed) refl e)
+sessions_ended K P Q shuts NoMemory prints e = inr (shuts, prints shuts (Err sink.NoMemory) refl e)
+sessions_ended K P Q shuts _ prints e = absurd e
+
 -- what was printed, by how the output ended
 pub drill_ended : (Kept : Type 0) (s : Attributes) (rows : List Row) (scripts : List Text) (shuts : Bool) (list : List Entry) (transcripts : List Text) (before after : SinkState) (status : Status)
     → AreServed s (opening_of rows) list shuts scripts transcripts → EndsAfter (Wrote before after (drill_text s transcripts list)) shuts status → RunsDrill Kept s rows scripts before after status
-drill_ended K s rows scripts shuts list transcripts before after status served ends = go status ends
-  where
-    served_as : (b : Bool) → shuts ≡ b → AreServed s (opening_of rows) list b scripts transcripts
-    served_as b is = subst (λ (x : Bool). AreServed s (opening_of rows) list x scripts transcripts) is served
-
-    go : (x : Status) → EndsAfter (Wrote before after (drill_text s transcripts list)) shuts x → RunsDrill K s rows scripts before after x
-    go Done e = record { list = list; transcripts = transcripts; served = served_as false e.0; written = e.1 }
-    go (Shut shade) e = record { list = list; transcripts = transcripts; served = served_as true e.0; written = e.1 }
-    go WriteFault e = (shuts, record { list = list; transcripts = transcripts; served = served; written = e })
-    go NoMemory e = inr (shuts, record { list = list; transcripts = transcripts; served = served; written = e })
-    go Words e = absurd e
-    go (SchemaBad line kind) e = absurd e
-    go (LoadBad line kind) e = absurd e
-    go (FeedBad line kind) e = absurd e
-    go ReadFault e = absurd e
-    go LongFile e = absurd e
-    go Spent e = absurd e
-    go (Split rift) e = absurd e
-    go (Stray stray) e = absurd e
+drill_ended K s rows scripts shuts list transcripts before after status served =
+    sessions_ended K (λ b result. Printed s rows scripts b before after result) (Wrote before after (drill_text s transcripts list)) shuts status
+    (λ b result same written. record { list = list; transcripts = transcripts; served = subst (λ (x : Bool). AreServed s (opening_of rows) list x scripts transcripts) same served; written = written })
 
 -- one more transcript behind a text
 pub headed_next : (text : Text) (n : ℕ) (t : Text) (ts : List Text) (whole : Text) → text ++ headed n (t ∷ ts) ≡ whole → (text ++ under n t) ++ headed (n + 1) ts ≡ whole

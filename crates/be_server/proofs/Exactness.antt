@@ -1,5 +1,5 @@
 -- What the files hold decides the status.
-use Rattle.std.proofs.Common.{◌≡◌, ◌⊎◌, inl, inr, ℕ, List, [], ◌∷◌, map, Option, Some, None, Result, Ok, Err, refl, sym, subst}
+use Rattle.std.proofs.Common.{◌≡◌, ◌⊎◌, inl, inr, ℕ, Bool, List, [], ◌∷◌, map, Option, Some, None, Result, Ok, Err, refl, sym, subst}
 use Rattle.be_base.specs.Text.{Text}
 use Rattle.be_door.specs.Door.{DoorState}
 use Rattle.be_io.specs.Outside.{LinkState}
@@ -9,6 +9,7 @@ use Rattle.be_event.specs.declared.schema_texts.SchemaKind.{SchemaKind}
 use Rattle.be_event.specs.SchemaTexts.{schema_of}
 use Rattle.be_io.specs.Counts.{HasRisen}
 use Rattle.be_io.specs.Sink.{SinkState}
+use Rattle.be_io.specs.declared.faults.SinkFault.TheVariants as sink
 use Rattle.be_model.specs.declared.changes.Row.{Row}
 use Rattle.be_model.specs.Schemas.{Attributes}
 use Rattle.be_table.specs.declared.faults.TableFault.TheVariants as table
@@ -20,12 +21,12 @@ use Rattle.be_server.specs.declared.status.Status.TheVariants.{Done, Words, Sche
 use Rattle.be_server.specs.Exact.{IsFaultless, FileIsRefused, ToldAs, LoadIsGood, SchemaDecides, LoadDecides, AllIsDone, EndsDrill, ScriptDecides, ScriptsDecide, IsExact, EndsExactly}
 use Rattle.be_server.specs.Files.{ToldFile, RunFiles, run_files, FileReads, FileIsLong, IsSchemaOf, IfLoads, TableReads, AreRowsOf, SchemaIsBad, LoadIsBad, OneIsLong}
 use Rattle.be_server.specs.Covers.{CoverEnds}
-use Rattle.be_server.specs.Drills.{ToldFiles, AreScripts, FirstIsLong, SomeIsLong, Holds, RanDrill, drill_files, DrillEnds}
+use Rattle.be_server.specs.Drills.{ToldFiles, AreScripts, FirstIsLong, SomeIsLong, Holds, Printed, Printing, Ran, FilesEnd, drill_files}
 use Rattle.be_server.specs.Generated.{GenEnds}
 use Rattle.be_server.specs.Promise.{CommandState, RunEnds}
 use Rattle.be_server.specs.Commands.{Ends}
 use Rattle.be_server.specs.Follows.{follow_files}
-use Rattle.be_server.specs.Heats.{RanHeat, HeatEnds}
+use Rattle.be_server.specs.Heats.{PrintedHeat}
 use Rattle.be_server.specs.Serves.{AreQuiet, EndsServe, RanServe, ServeEnds}
 use Rattle.be_server.proofs.ServeEnded.{serve_quiet}
 use Rattle.be_server.proofs.FollowExact.{exact_follow, follow_refused}
@@ -192,49 +193,29 @@ exact_held : (files : ToldFiles) (before after : CommandState) (status : Status)
 exact_held files before after status s rows scripts good ends =
     exact_served files.run before after status s rows good.is_schema good.are_rows (scripts_good files.scripts scripts before after status good.are_scripts ends)
 
-exact_ran : (Kept : Type 0) (files : ToldFiles) (before after : CommandState) (status : Status) → RanDrill Kept files before.link.sink after.link.sink status → (IsFaultless before after → EndsDrill status)
-    → IsExact files.run before after status (ScriptsDecide files.scripts before after status)
-exact_ran K files before after status r ends = exact_held files before after status r.schema r.rows r.scripts r.good ends
-
-exact_counted : (Kept : Type 0) (files : ToldFiles) (before after : CommandState) (status : Status) → RanHeat Kept files before.link.sink after.link.sink status → (IsFaultless before after → EndsDrill status)
-    → IsExact files.run before after status (ScriptsDecide files.scripts before after status)
-exact_counted K files before after status r ends = exact_held files before after status r.schema r.rows r.scripts r.good ends
-
 exact_drill_long : (files : ToldFiles) (before after : CommandState) → SomeIsLong files → IsExact files.run before after LongFile (ScriptsDecide files.scripts before after LongFile)
 exact_drill_long files before after (inl long) = exact_long files.run before after long
 exact_drill_long files before after (inr (s, rows, is_schema, are_rows, long)) = exact_served files.run before after LongFile s rows is_schema are_rows (scripts_long files.scripts before after long)
 
-exact_drill : (Kept : Type 0) (files : ToldFiles) (before after : CommandState) (status : Status) → DrillEnds Kept files before.shelf after.shelf before.link.sink after.link.sink status
-    → IsExact files.run before after status (ScriptsDecide files.scripts before after status)
-exact_drill K files before after Done r = exact_ran K files before after Done r.1 (λ quiet. tt)
-exact_drill K files before after Words r = absurd r.1.runs
-exact_drill K files before after (FeedBad l k) r = absurd r.1.runs
-exact_drill K files before after (SchemaBad l k) r = exact_schema_bad files.run before after l k r.2
-exact_drill K files before after (LoadBad l k) r = exact_load_bad files.run before after l k r.2
-exact_drill K files before after NoMemory r = exact_refused files.run before after NoMemory (inr (refl, r.0)) (scripts_refused files.scripts before after NoMemory (inr (refl, r.0)) (λ quiet. tt))
-exact_drill K files before after ReadFault r = exact_refused files.run before after ReadFault (inl (refl, r.0)) (scripts_refused files.scripts before after ReadFault (inl (refl, r.0)) (λ quiet. absurd (quiet.shelf r.0)))
-exact_drill K files before after LongFile r = exact_drill_long files before after r.2
-exact_drill K files before after WriteFault r = exact_ran K files before after WriteFault r.1 (λ quiet. absurd (quiet.sink r.1.runs.1.written.1))
-exact_drill K files before after Spent r = absurd r.1.runs
-exact_drill K files before after (Split rift) r = exact_ran K files before after (Split rift) r.1 (λ quiet. tt)
-exact_drill K files before after (Stray stray) r = exact_ran K files before after (Stray stray) r.1 (λ quiet. tt)
-exact_drill K files before after (Shut shade) r = exact_ran K files before after (Shut shade) r.1 (λ quiet. tt)
+module _ (Kept : Type 0) (Prints : Printing) (before after : CommandState)
+    (failed : (s : Attributes) (rows : List Row) (scripts : List (List ℕ)) (shuts : Bool) → Prints s rows scripts shuts (Err sink.Failed) → HasRisen before.link.sink.faults after.link.sink.faults) where
+  exact_ran : (files : ToldFiles) (status : Status) → Ran Kept Prints files status → (IsFaultless before after → EndsDrill status) → IsExact files.run before after status (ScriptsDecide files.scripts before after status)
+  exact_ran files status r ends = exact_held files before after status r.schema r.rows r.scripts r.good ends
 
-exact_heat : (Kept : Type 0) (files : ToldFiles) (before after : CommandState) (status : Status) → HeatEnds Kept files before.shelf after.shelf before.link.sink after.link.sink status
-    → IsExact files.run before after status (ScriptsDecide files.scripts before after status)
-exact_heat K files before after Done r = exact_counted K files before after Done r.1 (λ quiet. tt)
-exact_heat K files before after Words r = absurd r.1.runs
-exact_heat K files before after (SchemaBad l k) r = exact_schema_bad files.run before after l k r.2
-exact_heat K files before after (LoadBad l k) r = exact_load_bad files.run before after l k r.2
-exact_heat K files before after (FeedBad l k) r = absurd r.1.runs
-exact_heat K files before after NoMemory r = exact_refused files.run before after NoMemory (inr (refl, r.0)) (scripts_refused files.scripts before after NoMemory (inr (refl, r.0)) (λ quiet. tt))
-exact_heat K files before after ReadFault r = exact_refused files.run before after ReadFault (inl (refl, r.0)) (scripts_refused files.scripts before after ReadFault (inl (refl, r.0)) (λ quiet. absurd (quiet.shelf r.0)))
-exact_heat K files before after LongFile r = exact_drill_long files before after r.2
-exact_heat K files before after WriteFault r = exact_counted K files before after WriteFault r.1 (λ quiet. absurd (quiet.sink r.1.runs.1.written.1))
-exact_heat K files before after Spent r = absurd r.1.runs
-exact_heat K files before after (Split rift) r = exact_counted K files before after (Split rift) r.1 (λ quiet. tt)
-exact_heat K files before after (Stray stray) r = exact_counted K files before after (Stray stray) r.1 (λ quiet. tt)
-exact_heat K files before after (Shut shade) r = exact_counted K files before after (Shut shade) r.1 (λ quiet. tt)
+  exact_files : (files : ToldFiles) (status : Status) → FilesEnd Kept Prints files before.shelf after.shelf status → IsExact files.run before after status (ScriptsDecide files.scripts before after status)
+  exact_files files Done r = exact_ran files Done r.1 (λ quiet. tt)
+  exact_files files Words r = absurd r.1.runs
+  exact_files files (FeedBad l k) r = absurd r.1.runs
+  exact_files files (SchemaBad l k) r = exact_schema_bad files.run before after l k r.2
+  exact_files files (LoadBad l k) r = exact_load_bad files.run before after l k r.2
+  exact_files files NoMemory r = exact_refused files.run before after NoMemory (inr (refl, r.0)) (scripts_refused files.scripts before after NoMemory (inr (refl, r.0)) (λ quiet. tt))
+  exact_files files ReadFault r = exact_refused files.run before after ReadFault (inl (refl, r.0)) (scripts_refused files.scripts before after ReadFault (inl (refl, r.0)) (λ quiet. absurd (quiet.shelf r.0)))
+  exact_files files LongFile r = exact_drill_long files before after r.2
+  exact_files files WriteFault r = exact_ran files WriteFault r.1 (λ quiet. absurd (quiet.sink (failed r.1.schema r.1.rows r.1.scripts r.1.runs.0 r.1.runs.1)))
+  exact_files files Spent r = absurd r.1.runs
+  exact_files files (Split rift) r = exact_ran files (Split rift) r.1 (λ quiet. tt)
+  exact_files files (Stray stray) r = exact_ran files (Stray stray) r.1 (λ quiet. tt)
+  exact_files files (Shut shade) r = exact_ran files (Shut shade) r.1 (λ quiet. tt)
 
 module _ {L : Type 0} (told : L → LinkState) (door door' : DoorState L) where
   abbrev Due : CommandState → CommandState → Status → Type 0
@@ -269,9 +250,11 @@ module _ {L : Type 0} (told : L → LinkState) (door door' : DoorState L) where
   exact_ends (Some (run schema load)) I O content before after status e = exact_run (I × O) (run_files content schema load) before after status e
   exact_ends (Some (gen number subs events)) I O content before after status e = exact_gen O number subs events before.link.sink after.link.sink status e.2
   exact_ends (Some (cover schema file name)) I O content before after status e = exact_cover O (run_files content schema (Some file)) name before after status e.1
-  exact_ends (Some (drill schema load rounds files)) I O content before after status e = exact_drill O (drill_files content schema load files) before after status e.1
+  exact_ends (Some (drill schema load rounds files)) I O content before after status e =
+      exact_files O (λ s rows scripts shuts result. Printed s rows scripts shuts before.link.sink after.link.sink result) before after (λ s rows scripts shuts printed. printed.written.1) (drill_files content schema load files) status e.1
   exact_ends (Some (serve schema load port seats links)) I O content before after status e = exact_serve O (run_files content schema load) port seats links before after status e.1
-  exact_ends (Some (heat schema rounds files)) I O content before after status e = exact_heat O (drill_files content schema None files) before after status e.1
+  exact_ends (Some (heat schema rounds files)) I O content before after status e =
+      exact_files O (λ s rows scripts shuts result. PrintedHeat s rows scripts shuts before.link.sink after.link.sink result) before after (λ s rows scripts shuts printed. printed.written.1) (drill_files content schema None files) status e.1
   exact_ends (Some (follow schema file)) I O content before after status e = exact_follow (I × O) (follow_files content schema file) before after status e
 
 -- nothing was done for want of memory

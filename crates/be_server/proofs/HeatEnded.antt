@@ -24,9 +24,9 @@ use Rattle.be_model.specs.Schemas.{Attributes}
 use Rattle.be_transcript.specs.Readings.{reading}
 use Rattle.be_transcript.specs.Transcript.{AnswersEach, requests}
 use Rattle.be_server.specs.declared.status.Status.{Status}
-use Rattle.be_server.specs.declared.status.Status.TheVariants.{Done, Words, SchemaBad, LoadBad, FeedBad, NoMemory, ReadFault, LongFile, WriteFault, Spent, Split, Stray, Shut}
-use Rattle.be_server.specs.Drills.{ToldFiles, Holds, LoadsDrill, EndsAfter, headed, log_text}
-use Rattle.be_server.specs.Heats.{IsTranscriptOf, AreServedBy, asked_line, asked_lines, demand_text, heat_text, RunsHeat, RanHeat, HeatEnds}
+use Rattle.be_server.specs.Drills.{EndsAfter, headed, log_text}
+use Rattle.be_server.specs.Heats.{IsTranscriptOf, AreServedBy, asked_line, asked_lines, demand_text, heat_text, PrintedHeat, RunsHeat}
+use Rattle.be_server.proofs.DrillEnded.{sessions_ended}
 
 -- the requests that were answered are those of the first lines
 begins_mapped : (s : Attributes) (all front : List TextLine) → BeginsWith all front → BeginsWith (map (reading s) all) (map (reading s) front)
@@ -101,69 +101,20 @@ pub heat_ended : (Kept : Type 0) (s : Attributes) (rows : List Row) (scripts : L
     (status : Status) → AreServedBy s (opening_of rows) list shuts scripts transcripts sessions → d ≡ demand s sessions → text ≡ log_text s list ++ demand_text s d
     → EndsAfter (Wrote before after (headed 1 transcripts ++ text)) shuts status → RunsHeat Kept s rows scripts before after status
 heat_ended K s rows scripts shuts list transcripts sessions d text before after status served counted is ends =
-    go status (subst (λ (x : Text). EndsAfter (Wrote before after x) shuts status) whole ends)
+    sessions_ended K (λ b result. PrintedHeat s rows scripts b before after result) (Wrote before after (heat_text s transcripts list (demand s sessions))) shuts status
+    (λ b result same written. record {
+      list = list;
+      transcripts = transcripts;
+      sessions = sessions;
+      served = subst (λ (x : Bool). AreServedBy s (opening_of rows) list x scripts transcripts sessions) same served;
+      written = written;
+    })
+    (subst (λ (x : Text). EndsAfter (Wrote before after x) shuts status) whole ends)
   where
     whole : headed 1 transcripts ++ text ≡ heat_text s transcripts list (demand s sessions)
     whole =
         ap (λ (x : Text). headed 1 transcripts ++ x) (is ∙ ap (λ (y : DemandState). log_text s list ++ demand_text s y) counted)
         ∙ sym (append_assoc (headed 1 transcripts) (log_text s list) (demand_text s (demand s sessions)))
-
-    served_as : (b : Bool) → shuts ≡ b → AreServedBy s (opening_of rows) list b scripts transcripts sessions
-    served_as b same = subst (λ (x : Bool). AreServedBy s (opening_of rows) list x scripts transcripts sessions) same served
-
-    go : (x : Status) → EndsAfter (Wrote before after (heat_text s transcripts list (demand s sessions))) shuts x → RunsHeat K s rows scripts before after x
-    go Done e = record { list = list; transcripts = transcripts; sessions = sessions; served = served_as false e.0; written = e.1 }
-    go (Shut shade) e = record { list = list; transcripts = transcripts; sessions = sessions; served = served_as true e.0; written = e.1 }
-    go WriteFault e = (shuts, record { list = list; transcripts = transcripts; sessions = sessions; served = served; written = e })
-    go NoMemory e = inr (shuts, record { list = list; transcripts = transcripts; sessions = sessions; served = served; written = e })
-    go Words e = absurd e
-    go (SchemaBad line kind) e = absurd e
-    go (LoadBad line kind) e = absurd e
-    go (FeedBad line kind) e = absurd e
-    go ReadFault e = absurd e
-    go LongFile e = absurd e
-    go Spent e = absurd e
-    go (Split rift) e = absurd e
-    go (Stray stray) e = absurd e
-
--- the files are good, and the sessions ended so
-pub heat_ran : (Kept : Type 0) (files : ToldFiles) (shelf shelf' : ℕ) (before after : SinkState) (s : Attributes) (rows : List Row) (scripts : List Text) (status : Status) → shelf' ≡ shelf → Holds files s rows scripts
-    → RunsHeat Kept s rows scripts before after status → HeatEnds Kept files shelf shelf' before after status
-heat_ran K files shelf shelf' before after s rows scripts status quiet good runs = go status runs
-  where
-    ran : (x : Status) → RunsHeat K s rows scripts before after x → RanHeat K files before after x
-    ran x r = record { schema = s; rows = rows; scripts = scripts; good = good; runs = r }
-
-    go : (x : Status) → RunsHeat K s rows scripts before after x → HeatEnds K files shelf shelf' before after x
-    go Done r = (quiet, ran Done r)
-    go (Shut shade) r = (quiet, ran (Shut shade) r)
-    go WriteFault r = (quiet, ran WriteFault r)
-    go NoMemory r = (quiet, inr (ran NoMemory r))
-    go (Split rift) r = (quiet, ran (Split rift) r)
-    go (Stray stray) r = (quiet, ran (Stray stray) r)
-    go Words r = absurd r
-    go (SchemaBad line kind) r = absurd r
-    go (LoadBad line kind) r = absurd r
-    go (FeedBad line kind) r = absurd r
-    go ReadFault r = absurd r
-    go LongFile r = absurd r
-    go Spent r = absurd r
-
--- the files were refused
-pub heat_refused : (Kept : Type 0) (files : ToldFiles) (shelf shelf' : ℕ) (before after : SinkState) (status : Status) → Kept → LoadsDrill files shelf shelf' (Err status) → HeatEnds Kept files shelf shelf' before after status
-heat_refused K files shelf shelf' before after ReadFault k l = (l, k)
-heat_refused K files shelf shelf' before after LongFile k l = (l.0, k, l.1)
-heat_refused K files shelf shelf' before after NoMemory k l = (l, inl k)
-heat_refused K files shelf shelf' before after (SchemaBad line kind) k l = (l.0, k, l.1)
-heat_refused K files shelf shelf' before after (LoadBad line kind) k l = (l.0, k, l.1)
-heat_refused K files shelf shelf' before after (FeedBad line kind) k l = absurd l
-heat_refused K files shelf shelf' before after Done k l = absurd l
-heat_refused K files shelf shelf' before after Words k l = absurd l
-heat_refused K files shelf shelf' before after WriteFault k l = absurd l
-heat_refused K files shelf shelf' before after Spent k l = absurd l
-heat_refused K files shelf shelf' before after (Split rift) k l = absurd l
-heat_refused K files shelf shelf' before after (Stray stray) k l = absurd l
-heat_refused K files shelf shelf' before after (Shut shade) k l = absurd l
 
 -- one line more
 pub asked_more : (s : Attributes) (d : DemandState) (first text text' : Text) (place : ℕ) → text ≡ first ++ flat_map (asked_line s d) (range_with_len 0 place) → text' ≡ text ++ asked_line s d place

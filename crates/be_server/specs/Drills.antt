@@ -104,31 +104,42 @@ EndsAfter P shuts WriteFault = P (Err sink.Failed)
 EndsAfter P shuts NoMemory = P (Err sink.NoMemory)
 EndsAfter P shuts _ = ⊥
 
--- how the sessions may end. Kept says that the output is as it was
-abbrev pub RunsDrill : Type 0 → Attributes → List Row → List Text → SinkState → SinkState → Status → Type 0
-RunsDrill Kept s rows scripts before after Done = Printed s rows scripts false before after (Ok tt)
-RunsDrill Kept s rows scripts before after (Shut shade) = Printed s rows scripts true before after (Ok tt)
-RunsDrill Kept s rows scripts before after WriteFault = (shuts : Bool) × Printed s rows scripts shuts before after (Err sink.Failed)
+-- how the sessions of some files may end, where Prints says what was then written, by whether a reader may have been refused.
+-- Kept says that the output is as it was
+abbrev pub SessionsEnd : Type 0 → (Bool → Result (Unit {0}) SinkFault → Type 0) → Status → Type 0
+SessionsEnd Kept Prints Done = Prints false (Ok tt)
+SessionsEnd Kept Prints (Shut shade) = Prints true (Ok tt)
+SessionsEnd Kept Prints WriteFault = (shuts : Bool) × Prints shuts (Err sink.Failed)
 -- before anything was written, or in the output
-RunsDrill Kept s rows scripts before after NoMemory = Kept ⊎ ((shuts : Bool) × Printed s rows scripts shuts before after (Err sink.NoMemory))
+SessionsEnd Kept Prints NoMemory = Kept ⊎ ((shuts : Bool) × Prints shuts (Err sink.NoMemory))
 -- no list keeps the words of all sessions, and none is printed
-RunsDrill Kept s rows scripts before after (Split rift) = Kept
-RunsDrill Kept s rows scripts before after (Stray stray) = Kept
-RunsDrill Kept s rows scripts before after _ = ⊥
+SessionsEnd Kept Prints (Split rift) = Kept
+SessionsEnd Kept Prints (Stray stray) = Kept
+SessionsEnd Kept Prints _ = ⊥
+
+-- what a command prints of sessions, by the schema, the rows and the files that it served
+abbrev pub Printing : Type 1
+Printing = Attributes → List Row → List Text → (shuts : Bool) → Result (Unit {0}) SinkFault → Type 0
 
 -- the files are as they should be, and the sessions ended so
-pub record RanDrill (Kept : Type 0) (files : ToldFiles) (before after : SinkState) (status : Status) : Type 0 where
+pub record Ran (Kept : Type 0) (Prints : Printing) (files : ToldFiles) (status : Status) : Type 0 where
   pub schema : Attributes
   pub rows : List Row
   pub scripts : List Text
   pub good : Holds files schema rows scripts
-  pub runs : RunsDrill Kept schema rows scripts before after status
+  pub runs : SessionsEnd Kept (Prints schema rows scripts) status
 
--- how it may end, by the shelf's count of faults and by the output
+-- how a command that serves files may end, by the shelf's count of faults
+abbrev pub FilesEnd : Type 0 → Printing → ToldFiles → ℕ → ℕ → Status → Type 0
+FilesEnd Kept Prints files shelf shelf' (SchemaBad line kind) = (shelf' ≡ shelf) × Kept × SchemaIsBad files.run line kind
+FilesEnd Kept Prints files shelf shelf' (LoadBad line kind) = (shelf' ≡ shelf) × Kept × LoadIsBad files.run line kind
+FilesEnd Kept Prints files shelf shelf' LongFile = (shelf' ≡ shelf) × Kept × SomeIsLong files
+FilesEnd Kept Prints files shelf shelf' ReadFault = HasRisen shelf shelf' × Kept
+FilesEnd Kept Prints files shelf shelf' NoMemory = (shelf' ≡ shelf) × (Kept ⊎ Ran Kept Prints files NoMemory)
+FilesEnd Kept Prints files shelf shelf' status = (shelf' ≡ shelf) × Ran Kept Prints files status
+
+abbrev pub RunsDrill : Type 0 → Attributes → List Row → List Text → SinkState → SinkState → Status → Type 0
+RunsDrill Kept s rows scripts before after status = SessionsEnd Kept (λ shuts result. Printed s rows scripts shuts before after result) status
+
 abbrev pub DrillEnds : Type 0 → ToldFiles → ℕ → ℕ → SinkState → SinkState → Status → Type 0
-DrillEnds Kept files shelf shelf' before after (SchemaBad line kind) = (shelf' ≡ shelf) × Kept × SchemaIsBad files.run line kind
-DrillEnds Kept files shelf shelf' before after (LoadBad line kind) = (shelf' ≡ shelf) × Kept × LoadIsBad files.run line kind
-DrillEnds Kept files shelf shelf' before after LongFile = (shelf' ≡ shelf) × Kept × SomeIsLong files
-DrillEnds Kept files shelf shelf' before after ReadFault = HasRisen shelf shelf' × Kept
-DrillEnds Kept files shelf shelf' before after NoMemory = (shelf' ≡ shelf) × (Kept ⊎ RanDrill Kept files before after NoMemory)
-DrillEnds Kept files shelf shelf' before after status = (shelf' ≡ shelf) × RanDrill Kept files before after status
+DrillEnds Kept files shelf shelf' before after status = FilesEnd Kept (λ s rows scripts shuts result. Printed s rows scripts shuts before after result) files shelf shelf' status

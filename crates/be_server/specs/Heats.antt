@@ -1,5 +1,5 @@
 -- The promise of `heat`: what it prints behind the output of `drill`, how it may end, and what was then written.
-use Rattle.std.specs.Prelude.{◌≡◌, ℕ, ◌+◌, ◌-◌, ◌++◌, ◌⊎◌, Bool, true, false, List, [], ◌∷◌, length, Some, Result, Ok, Err, codes, decimal, slice_get, slice_index}
+use Rattle.std.specs.Prelude.{◌≡◌, ℕ, ◌+◌, ◌-◌, ◌++◌, Bool, true, List, [], ◌∷◌, length, Some, Result, codes, decimal, slice_get, slice_index}
 use Rattle.std.specs.List.{flat_map, range_with_len}
 use Rattle.be_base.specs.Text.{Text}
 use Rattle.be_change.specs.History.{Entry}
@@ -7,18 +7,14 @@ use Rattle.be_change.specs.Opening.{opening_of}
 use Rattle.be_change.specs.Requests.{Exchange}
 use Rattle.be_demand.specs.Demand.{DemandState, demand}
 use Rattle.be_hub.specs.Transcripts.{IsTranscript, AreServed}
-use Rattle.be_io.specs.Counts.{HasRisen}
 use Rattle.be_io.specs.Sink.{SinkState, Wrote}
 use Rattle.be_io.specs.declared.faults.SinkFault.{SinkFault}
-use Rattle.be_io.specs.declared.faults.SinkFault.TheVariants as sink
 use Rattle.be_model.specs.declared.changes.Row.{Row}
 use Rattle.be_model.specs.Schemas.{Attributes, numbered}
 use Rattle.be_model.specs.Texts.{name_at}
 use Rattle.be_transcript.specs.Replies.{number}
 use Rattle.be_server.specs.declared.status.Status.{Status}
-use Rattle.be_server.specs.declared.status.Status.TheVariants.{Done, SchemaBad, LoadBad, NoMemory, ReadFault, LongFile, WriteFault, Split, Stray, Shut}
-use Rattle.be_server.specs.Files.{SchemaIsBad, LoadIsBad}
-use Rattle.be_server.specs.Drills.{ToldFiles, Holds, SomeIsLong, drill_text}
+use Rattle.be_server.specs.Drills.{ToldFiles, SessionsEnd, FilesEnd, drill_text}
 
 -- the transcript is legal, and these are its exchanges
 abbrev pub IsTranscriptOf : Attributes → ℕ → ℕ → List Entry → Bool → List ℕ → List ℕ → List Exchange → Type 0
@@ -54,31 +50,9 @@ pub record PrintedHeat (s : Attributes) (rows : List Row) (scripts : List Text) 
   pub served : AreServedBy s (opening_of rows) list shuts scripts transcripts sessions
   pub written : Wrote before after (heat_text s transcripts list (demand s sessions)) result
 
--- how the sessions may end. Kept says that the output is as it was
 abbrev pub RunsHeat : Type 0 → Attributes → List Row → List Text → SinkState → SinkState → Status → Type 0
-RunsHeat Kept s rows scripts before after Done = PrintedHeat s rows scripts false before after (Ok tt)
-RunsHeat Kept s rows scripts before after (Shut shade) = PrintedHeat s rows scripts true before after (Ok tt)
-RunsHeat Kept s rows scripts before after WriteFault = (shuts : Bool) × PrintedHeat s rows scripts shuts before after (Err sink.Failed)
--- before anything was written, or in the output
-RunsHeat Kept s rows scripts before after NoMemory = Kept ⊎ ((shuts : Bool) × PrintedHeat s rows scripts shuts before after (Err sink.NoMemory))
--- no list keeps the words of all sessions, and none is printed
-RunsHeat Kept s rows scripts before after (Split rift) = Kept
-RunsHeat Kept s rows scripts before after (Stray stray) = Kept
-RunsHeat Kept s rows scripts before after _ = ⊥
-
--- the files are as they should be, and the sessions ended so
-pub record RanHeat (Kept : Type 0) (files : ToldFiles) (before after : SinkState) (status : Status) : Type 0 where
-  pub schema : Attributes
-  pub rows : List Row
-  pub scripts : List Text
-  pub good : Holds files schema rows scripts
-  pub runs : RunsHeat Kept schema rows scripts before after status
+RunsHeat Kept s rows scripts before after status = SessionsEnd Kept (λ shuts result. PrintedHeat s rows scripts shuts before after result) status
 
 -- how it may end, by the shelf's count of faults and by the output
 abbrev pub HeatEnds : Type 0 → ToldFiles → ℕ → ℕ → SinkState → SinkState → Status → Type 0
-HeatEnds Kept files shelf shelf' before after (SchemaBad line kind) = (shelf' ≡ shelf) × Kept × SchemaIsBad files.run line kind
-HeatEnds Kept files shelf shelf' before after (LoadBad line kind) = (shelf' ≡ shelf) × Kept × LoadIsBad files.run line kind
-HeatEnds Kept files shelf shelf' before after LongFile = (shelf' ≡ shelf) × Kept × SomeIsLong files
-HeatEnds Kept files shelf shelf' before after ReadFault = HasRisen shelf shelf' × Kept
-HeatEnds Kept files shelf shelf' before after NoMemory = (shelf' ≡ shelf) × (Kept ⊎ RanHeat Kept files before after NoMemory)
-HeatEnds Kept files shelf shelf' before after status = (shelf' ≡ shelf) × RanHeat Kept files before after status
+HeatEnds Kept files shelf shelf' before after status = FilesEnd Kept (λ s rows scripts shuts result. PrintedHeat s rows scripts shuts before after result) files shelf shelf' status
