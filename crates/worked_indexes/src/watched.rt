@@ -23,6 +23,7 @@ impl<I: Index> Watched<I> {
     /// It takes no memory.
     pub fn make(index: I, finds: Arc<AtomicU64>, refuse: Vec<u64>) -> Watched<I>
         ensures index { result.index ≡ index }
+        ensures finds { result.finds ≡ finds }
         ensures refuse { result.refuse ≡ refuse }
         ensures inserts { result.inserts ≡ 0 }
     {
