@@ -53,7 +53,7 @@ AnswersAlone w w' r (Split seen written) = ⊥
 AnswersAlone w w' (unsubscribe name) NoMemory = (w'.known ≡ w.known) × (is_live_name_of w.session name (live w.known) ≡ true)
 AnswersAlone w w' r answer = w'.known ≡ w.known
 
--- that two numbers differ is counted where it is told, and nowhere else
+-- that two numbers differ is counted where it is told, and with no other answer to a change
 abbrev pub CountsSplit : Answer → ℕ → ℕ → Type 0
 CountsSplit (Split seen written) c c' = HasRisen c c'
 CountsSplit answer c c' = c' ≡ c
