@@ -5,6 +5,7 @@ ghost use Rattle.std.specs.List.{Contains, remove};
 ghost use Rattle.be_model.specs.Hulls.{span_in};
 ghost use Rattle.be_model.specs.Lies.{row_lies};
 ghost use Rattle.be_model.specs.Rows.{has};
+ghost use Rattle.be_shape.specs.Common.{AreCommon};
 ghost use Rattle.be_shape.specs.Listed.{attrs_of};
 ghost use Rattle.std.specs.Arc.{arc_value};
 ghost use Rattle.be_model.specs.Matching.{satisfies};
@@ -108,6 +109,13 @@ impl Leaf {
         ensures { option_map (λ row. has a row) (slice_get self.now place) ≡ Some result }
     {
         self.kept(place).has_attr(a)
+    }
+
+    /// The attributes that at least 8 rows have, with others perhaps, or `Many` where they aren't known.
+    pub fn common(&self) -> RowAttrs
+        ensures { AreCommon self.now result }
+    {
+        RowAttrs::Many
     }
 
     // Whether the row stands at a place.
