@@ -1,3 +1,4 @@
+pub mod Commons
 pub mod TwoTests
 pub mod ToldSpans
 pub mod FewAttrs

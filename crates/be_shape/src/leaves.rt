@@ -14,6 +14,7 @@ use crate::hints::Hints;
 use crate::listings::RowAttrs;
 use crate::places::{Kept, low_part};
 use crate::sights::Sight;
+use crate::tallies::common_of;
 use be_base::AttrNo;
 use be_model::{Row, RowList, Schema};
 use smallvec::SmallVec;
@@ -21,9 +22,11 @@ use std::alloc::Global;
 use std::marker::Model;
 use std::sync::Arc;
 
-/// Rows in some order, of which 17 stand in place.
+/// Rows in some order, of which 17 stand in place. What is asked of a leaf before its rows stands before them.
 #[derive(Drop)]
 pub struct Leaf {
+    count: usize,
+    common: RowAttrs,
     places: SmallVec<Kept, 17>,
     hints: Hints,
 }
@@ -34,11 +37,12 @@ impl Model for Leaf {
 
     ghost Value = { List Row };
 
-    ghost use Rattle.be_shape.specs.Leaves.{rows_of_places, are_rows};
+    ghost use Rattle.be_shape.specs.Leaves.{rows_of_places};
+    ghost use Rattle.be_shape.specs.Common.{IsLeaf};
 
     ghost view = { λ l. rows_of_places l.places.items };
 
-    ghost invariant = { λ l. are_rows l.places.items ≡ true };
+    ghost invariant = { λ l. IsLeaf l.count l.common l.places.items };
 }
 
 impl Leaf {
@@ -47,6 +51,8 @@ impl Leaf {
         ensures { result ≡ [] }
     {
         Leaf {
+            count: 0,
+            common: RowAttrs::Zero,
             places: SmallVec::new(alloc),
             hints: Hints::none(alloc),
         }
@@ -56,7 +62,7 @@ impl Leaf {
     pub fn len(&self) -> usize
         ensures { result ≡ length self.now }
     {
-        self.places.len()
+        self.count
     }
 
     // What stands at a place.
@@ -115,7 +121,14 @@ impl Leaf {
     pub fn common(&self) -> RowAttrs
         ensures { AreCommon self.now result }
     {
-        RowAttrs::Many
+        self.common
+    }
+
+    /// Looks which these attributes are. A row that is put or taken leaves them unknown.
+    pub fn note_common(&mut self)
+        ensures { self.new ≡ self.old }
+    {
+        self.common = common_of(self);
     }
 
     // Whether the row stands at a place.
@@ -150,7 +163,10 @@ impl Leaf {
         ensures row { slice_get self.old place ≡ Some (arc_value result) }
         ensures rest { self.new ≡ remove self.old place }
     {
-        self.places.remove(place).into_row()
+        let row = self.places.remove(place).into_row();
+        self.count = self.places.len();
+        self.common = RowAttrs::Many;
+        row
     }
 
     /// Takes the row at a place out, and puts the last one in its place. It takes no memory.
@@ -161,6 +177,7 @@ impl Leaf {
         ensures rest { IsPermutation self.old (arc_value result ∷ self.new) }
     {
         let row = self.places.swap_remove(place).into_row();
+        self.count = self.places.len();
         self.hints.note_at(self.places.as_slice(), place);
         row
     }
@@ -177,6 +194,9 @@ impl Leaf {
                 let low = low_part(row.id);
                 self.places.push_reserved(Kept::of(row));
                 self.hints.note_last(self.places.as_slice(), low);
+                self.count = self.places.len();
+                self.common = RowAttrs::Many;
+                self.note_common();
                 Ok(())
             }
             Err(_) => Err(row),
@@ -191,6 +211,8 @@ impl Leaf {
     {
         let _ = self.places.capacity();
         self.places.push_reserved(Kept::of(row));
+        self.count = self.places.len();
+        self.common = RowAttrs::Many;
     }
 }
 

@@ -18,6 +18,7 @@ mod ranges;
 mod sights;
 mod spots;
 mod swaps;
+mod tallies;
 mod trees;
 mod walks;
 
