@@ -1,4 +1,4 @@
-pub mod TwoTests
+pub mod ToldTests
 pub mod ToldSpans
 pub mod FewAttrs
 pub mod LeafRows
