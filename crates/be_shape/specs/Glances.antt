@@ -91,7 +91,7 @@ abbrev pub with_bounds : AttrNo → Option Bounds → Glance → Glance
 with_bounds a None g = glance g.tests Part
 with_bounds a (Some b) g = with_test a b g
 
--- with a predicate more. Only the first one on an attribute gives a test, and none does behind one that should have and couldn't
+-- with a predicate more. The first on an attribute gives a test, and behind one that has none to give no other does
 abbrev pub with_pred : Pred → Glance → Glance
 with_pred p g =
     if is_part g.extent then g

@@ -146,7 +146,6 @@ impl FewTests {
     }
 
     /// Whether the event satisfies the condition of which this is told.
-    #[tactic(auto, using(crate::proofs::ToldTests::told))]
     pub(crate) fn is_met(&self, extent: Extent, conj: &Conj, e: &Sight) -> bool
         requires told { glance self.now extent ≡ glance_of conj.now }
         requires form { IsConj conj.now }
@@ -197,7 +196,6 @@ impl FewTests {
     }
 
     /// Whether the row of which this is told has a predicate on the attribute.
-    #[tactic(auto, using(crate::proofs::ToldSpans::has_told))]
     pub(crate) fn has_attr(&self, extent: Extent, row: &Row, a: AttrNo) -> bool
         requires { glance self.now extent ≡ glance_of row.now.conj }
         ensures { result ≡ has a row.now }
