@@ -1,5 +1,5 @@
 pub mod Commons
-pub mod TwoTests
+pub mod ToldTests
 pub mod ToldSpans
 pub mod FewAttrs
 pub mod LeafRows

@@ -9,7 +9,7 @@ use Rattle.be_base.specs.declared.names.AttrNo.{AttrNo}
 use Rattle.be_model.specs.Matching.{Assignments, values_of}
 use Rattle.be_shape.specs.Glances.{least, greatest, is_in, has_in}
 use Rattle.be_shape.specs.Sights.{wide, clamped, overlaps, IsHull, TellHulls}
-use Rattle.be_shape.proofs.TwoTests.{both, le_test, equal_from}
+use Rattle.be_shape.proofs.ToldTests.{both, le_test, equal_from}
 
 overlap_from : (x y : ℤ × ℤ) → x.0 ≤ℤ y.1 → y.0 ≤ℤ x.1 → overlaps x y ≡ true
 overlap_from x y h k = both (le_z x.0 y.1) (le_z y.0 x.1) (le_test x.0 y.1 h) (le_test y.0 x.1 k)

@@ -83,7 +83,7 @@ impl Leaf {
         self.kept(place).row()
     }
 
-    /// Whether the event satisfies the row at a place. The row is looked at only where two tests of it are met and don't say all;
+    /// Whether the event satisfies the row at a place. The row is looked at only where its tests are met and don't say all;
     /// most others are passed over by the table of the sight.
     pub fn is_met(&self, place: usize, e: &Sight) -> bool
         requires { place < length self.now }
@@ -92,7 +92,7 @@ impl Leaf {
         self.kept(place).is_met(e)
     }
 
-    /// The span on the attribute of the row at a place. The row is looked at only where no test of it is on the attribute.
+    /// The span on the attribute of the row at a place. A row whose attributes are few isn't looked at.
     pub fn span(&self, place: usize, s: &Schema, a: AttrNo) -> Option<(i64, i64)>
         requires place { place < length self.now }
         requires lies { option_map (row_lies s.now) (slice_get self.now place) ≡ Some true }
@@ -139,12 +139,12 @@ impl Leaf {
         self.kept(place).low_part() == low_part(row.id) && self.row(place).same_as(row)
     }
 
-    /// Where the row stands. A row whose id has another lower half isn't looked at.
+    /// Where the row stands. A row whose id has other lower bits isn't looked at.
     pub fn place_of(&self, row: &Row) -> Option<usize>
         ensures found { IfSome result (λ place. slice_get self.now place ≡ Some row.now) }
         ensures none { IfNone result (Contains self.now row.now → ⊥) }
     {
-        let guess = self.hints.guess(low_part(row.id));
+        let guess = self.hints.guess(row.id);
         if guess < self.len() && self.has_at(guess, row) {
             return Some(guess);
         }
@@ -191,9 +191,8 @@ impl Leaf {
     {
         match self.places.reserve(1) {
             Ok(()) => {
-                let low = low_part(row.id);
                 self.places.push_reserved(Kept::of(row));
-                self.hints.note_last(self.places.as_slice(), low);
+                self.hints.note_last(self.places.as_slice());
                 self.count = self.places.len();
                 self.common = RowAttrs::Many;
                 self.note_common();

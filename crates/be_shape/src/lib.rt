@@ -6,6 +6,7 @@
 #![tactic(auto)]
 
 mod counts;
+mod few_tests;
 mod glances;
 mod hints;
 mod laws;

@@ -1,11 +1,12 @@
 -- What a place tells of its row is true of the row.
-use Rattle.std.proofs.Common.{◌≡◌, ⊎_elim, ℤ, pos, ◌+ℤ◌, ◌-ℤ◌, ◌≤ℤ◌, ◌<ℤ◌, Bool, true, false, not, ◌&&◌, ◌||◌, List, [], ◌∷◌, ◌++◌, All, Option, Some, None, option_map, option_and_then, cond, refl, sym, ap, subst, ◌∙◌, arith}
+use Rattle.std.proofs.Common.{◌≡◌, ⊎_elim, ℤ, pos, ◌+ℤ◌, ◌-ℤ◌, ◌≤ℤ◌, ◌<ℤ◌, leb, Bool, true, false, ◌&&◌, ◌||◌, List, [], ◌∷◌, ◌++◌, length, All, is_some, Option, Some, None, option_map, option_and_then, cond, refl, sym, ap, subst, ◌∙◌, arith}
 use Rattle.std.specs.Int.Signed.{le_z, lt_z}
 use Rattle.std.specs.Ordering.{int_eq}
-use Rattle.std.specs.List.{list_any}
+use Rattle.std.specs.List.{list_any, list_all}
 use Rattle.std.proofs.lemmas.Int.{ints}
 use Rattle.std.proofs.lemmas.List.{append-nil, append_assoc}
 use Rattle.std.proofs.lemmas.List.Elements.{All-head, All-tail}
+use Rattle.std.proofs.lemmas.List.Folds.{list_all-append}
 use Rattle.std.proofs.lemmas.Bool.{and_parts, or_cases, or_left, or_right}
 use Rattle.std.proofs.lemmas.Bool.Decides.{Decides-int_eq}
 use Rattle.be_model.specs.declared.ops.Op.{Op}
@@ -13,12 +14,14 @@ use Rattle.be_model.specs.declared.ops.Op.TheVariants.{Lt, Le, Eq, Ne, Ge, Gt, B
 use Rattle.be_model.specs.declared.preds.Pred.{Pred}
 use Rattle.be_model.specs.Domains.{is_within}
 use Rattle.be_model.specs.Forms.{OpForm, IsConj}
-use Rattle.be_model.specs.Hulls.{first_of_values, last_of_values, is_on}
+use Rattle.be_model.specs.Hulls.{first_of_values, last_of_values}
 use Rattle.be_model.specs.Matching.{Assignments, values_of, holds, is_met, satisfies}
 use Rattle.be_model.proofs.Ranges.{within_parts, within_from, hulls_hold}
 use Rattle.be_shape.specs.declared.glances.Bounds.{Bounds}
+use Rattle.be_shape.specs.declared.glances.Extent.{Extent}
+use Rattle.be_shape.specs.declared.glances.Extent.TheVariants.{Whole, Few, Part}
 use Rattle.be_shape.specs.declared.glances.Glance.{Glance}
-use Rattle.be_shape.specs.Glances.{least, greatest, is_in, has_in, small, bounds, bounds_of, of_none, is_narrower, unsure, with_first, with_second, with_test, with_bounds, with_pred, with_preds, glance_of, may_meet}
+use Rattle.be_shape.specs.Glances.{least, greatest, is_in, has_in, small, bounds, bounds_of, Test, passes, may_meet, test_on, is_whole, is_part, glance, with_test, with_bounds, with_pred, with_preds, glance_of}
 
 pub both : (a b : Bool) → a ≡ true → b ≡ true → (a && b) ≡ true
 both a b h k = ap (λ c. c && b) h ∙ k
@@ -125,7 +128,7 @@ bounds_hold (Le x) f =
 bounds_hold (Eq x) f =
     by_small x (λ o. Told (Eq x) (option_map (λ v. bounds v v true) o))
     (λ l h. record { inside = λ v k. in_from x x v (le_refl x v (sym (equal_from v x k))) (le_refl v x (equal_from v x k)); all = λ e v k. equal_test v x (sym (equal_to x v (low_says x v l (in_parts x x v k).0) (high_says x v h (in_parts x x v k).1))) }) tt
-bounds_hold (Ne x) f = tt
+bounds_hold (Ne x) f = record { inside = λ v k. refl; all = λ e v k. absurd (cc) }
 bounds_hold (Ge x) f =
     by_small x (λ o. Told (Ge x) (option_map (λ v. bounds v greatest true) o))
     (λ l h. record { inside = λ v k. at_least x greatest v (le_from x v k) refl; all = λ e v k. le_test x v (low_says x v l (in_parts x greatest v k).0) }) tt
@@ -142,7 +145,7 @@ bounds_hold (OneOf xs) f =
     by_small x (λ o. Told (OneOf xs) (option_and_then (λ v. option_map (λ w. bounds v w false) (small y)) o))
     (λ l h. by_small y (λ o. Told (OneOf xs) (option_map (λ w. bounds x w false) o))
     (λ m n. record { inside = λ v k. (let z = within_parts (x, y) v (set_in xs v f k) in in_from x y v z.0 z.1); all = λ e v k. absurd (cc) }) tt) tt
-bounds_hold (NoneOf xs) f = tt
+bounds_hold (NoneOf xs) f = record { inside = λ v k. refl; all = λ e v k. absurd (cc) }
 
 any_more : (p q : ℤ → Bool) (vs : List ℤ) → ((v : ℤ) → p v ≡ true → q v ≡ true) → list_any p vs ≡ true → list_any q vs ≡ true
 any_more p q [] f h = h
@@ -160,110 +163,90 @@ met_if_has op b (Some vs) t x h = any_more (is_in b.ends) (holds op) vs (t.all x
 
 -- a glance is true of a condition
 record Tells (conj : List Pred) (g : Glance) : Type 0 where
-  lost : (e : Assignments) → satisfies e conj ≡ true → may_meet e g ≡ true
-  all : g.whole ≡ true → (e : Assignments) → may_meet e g ≡ true → satisfies e conj ≡ true
+  lost : (e : Assignments) → satisfies e conj ≡ true → may_meet e g.tests ≡ true
+  all : is_whole g.extent ≡ true → (e : Assignments) → may_meet e g.tests ≡ true → satisfies e conj ≡ true
 
-satisfies_append : (e : Assignments) (xs : List Pred) (p : Pred) → satisfies e (xs ++ p ∷ []) ≡ (satisfies e xs && is_met (values_of e p.attr) p.op)
-satisfies_append e [] p = and_true (is_met (values_of e p.attr) p.op)
+all_more : {X : Type 0} (p : X → Bool) (xs : List X) (x : X) → list_all p (xs ++ x ∷ []) ≡ (list_all p xs && p x)
+all_more p xs x = list_all-append p xs (x ∷ []) ∙ ap (λ b. list_all p xs && b) (and_true (p x))
   where
     and_true : (b : Bool) → (b && true) ≡ b
     and_true true = refl
     and_true false = refl
-satisfies_append e (x ∷ xs) p = ap (λ b. is_met (values_of e x.attr) x.op && b) (satisfies_append e xs p) ∙ and_assoc (is_met (values_of e x.attr) x.op) (satisfies e xs) (is_met (values_of e p.attr) p.op)
-  where
-    and_assoc : (a b c : Bool) → (a && (b && c)) ≡ ((a && b) && c)
-    and_assoc true b c = refl
-    and_assoc false b c = refl
 
-parts_of_more : (e : Assignments) (xs : List Pred) (p : Pred) → satisfies e (xs ++ p ∷ []) ≡ true → (satisfies e xs ≡ true) × (is_met (values_of e p.attr) p.op ≡ true)
-parts_of_more e xs p h = and_parts (satisfies e xs) (is_met (values_of e p.attr) p.op) (sym (satisfies_append e xs p) ∙ h)
+parts_of_more : {X : Type 0} (p : X → Bool) (xs : List X) (x : X) → list_all p (xs ++ x ∷ []) ≡ true → (list_all p xs ≡ true) × (p x ≡ true)
+parts_of_more p xs x h = and_parts (list_all p xs) (p x) (sym (all_more p xs x) ∙ h)
 
-more_of_parts : (e : Assignments) (xs : List Pred) (p : Pred) → satisfies e xs ≡ true → is_met (values_of e p.attr) p.op ≡ true → satisfies e (xs ++ p ∷ []) ≡ true
-more_of_parts e xs p h k = satisfies_append e xs p ∙ both (satisfies e xs) (is_met (values_of e p.attr) p.op) h k
+more_of_parts : {X : Type 0} (p : X → Bool) (xs : List X) (x : X) → list_all p xs ≡ true → p x ≡ true → list_all p (xs ++ x ∷ []) ≡ true
+more_of_parts p xs x h k = all_more p xs x ∙ both (list_all p xs) (p x) h k
 
-tells_unsure : (xs : List Pred) (p : Pred) (g : Glance) → Tells xs g → Tells (xs ++ p ∷ []) (unsure g)
-tells_unsure xs p g t = record { lost = λ e h. t.lost e (parts_of_more e xs p h).0; all = λ w e h. absurd (cc) }
+abbrev meets_pred : Assignments → Pred → Bool
+meets_pred e p = is_met (values_of e p.attr) p.op
 
-pub wholly : (a b c : Bool) → (a && b && not c) ≡ true → (a ≡ true) × (b ≡ true) × (c ≡ false)
-wholly true true false h = (refl, refl, refl)
-wholly true true true h = absurd (cc)
-wholly true false c h = absurd (cc)
-wholly false b c h = absurd (cc)
-
-off : (c t : Bool) → c ≡ false → (not c || t) ≡ true
-off c t h = ap (λ z. not z || t) h
-
-tells_first : (xs : List Pred) (p : Pred) (b : Bounds) (g : Glance) → Tells xs g → BoundsHold p.op b → Tells (xs ++ p ∷ []) (with_first p.attr b g)
-tells_first xs p b g t k =
-    record {
-      lost = λ e h.
-          (let z = parts_of_more e xs p h in
-          let o = values_of e p.attr in
-          let m = and_parts (not g.has_first || has_in g.first (values_of e g.first_attr)) (not g.has_second || has_in g.second (values_of e g.second_attr)) (t.lost e z.0) in
-          both (has_in b.ends o) (not g.has_first || has_in g.first (values_of e g.first_attr)) (has_if_met p.op b o k z.1) m.0);
-      all = λ w e h.
-          (let z = wholly g.whole b.exact g.has_second w in
-          let o = values_of e p.attr in
-          let m = and_parts (has_in b.ends o) (not g.has_first || has_in g.first (values_of e g.first_attr)) h in
-          more_of_parts e xs p
-          (t.all z.0 e (both (not g.has_first || has_in g.first (values_of e g.first_attr)) (not g.has_second || has_in g.second (values_of e g.second_attr)) m.1 (off g.has_second (has_in g.second (values_of e g.second_attr)) z.2)))
-          (met_if_has p.op b o k z.1 m.0));
-    }
-
-tells_second : (xs : List Pred) (p : Pred) (b : Bounds) (g : Glance) → Tells xs g → BoundsHold p.op b → Tells (xs ++ p ∷ []) (with_second p.attr b g)
-tells_second xs p b g t k =
-    record {
-      lost = λ e h.
-          (let z = parts_of_more e xs p h in
-          let o = values_of e p.attr in
-          let m = and_parts (not g.has_first || has_in g.first (values_of e g.first_attr)) (not g.has_second || has_in g.second (values_of e g.second_attr)) (t.lost e z.0) in
-          both (not g.has_first || has_in g.first (values_of e g.first_attr)) (has_in b.ends o) m.0 (has_if_met p.op b o k z.1));
-      all = λ w e h.
-          (let z = wholly g.whole b.exact g.has_second w in
-          let o = values_of e p.attr in
-          let m = and_parts (not g.has_first || has_in g.first (values_of e g.first_attr)) (has_in b.ends o) h in
-          more_of_parts e xs p
-          (t.all z.0 e (both (not g.has_first || has_in g.first (values_of e g.first_attr)) (not g.has_second || has_in g.second (values_of e g.second_attr)) m.0 (off g.has_second (has_in g.second (values_of e g.second_attr)) z.2)))
-          (met_if_has p.op b o k z.1 m.1));
-    }
-
-either : (c : Bool) (conj : List Pred) (g h : Glance) → Tells conj g → Tells conj h → Tells conj (cond c g h)
-either true conj g h t u = t
-either false conj g h t u = u
+-- with the same tests, which then aren't all
+tells_less : (xs : List Pred) (p : Pred) (g : Glance) (x : Extent) → is_whole x ≡ false → Tells xs g → Tells (xs ++ p ∷ []) (glance g.tests x)
+tells_less xs p g x n t = record { lost = λ e h. t.lost e (parts_of_more (meets_pred e) xs p h).0; all = λ w e h. absurd (cc) }
 
 tells_test : (xs : List Pred) (p : Pred) (b : Bounds) (g : Glance) → Tells xs g → BoundsHold p.op b → Tells (xs ++ p ∷ []) (with_test p.attr b g)
-tells_test xs p b g t k =
-    let conj = xs ++ p ∷ [] in
-    either (not g.has_first || is_narrower b.ends g.first) conj (with_first p.attr b g) (cond (not g.has_second || is_narrower b.ends g.second) (with_second p.attr b g) (unsure g)) (tells_first xs p b g t k)
-    (either (not g.has_second || is_narrower b.ends g.second) conj (with_second p.attr b g) (unsure g) (tells_second xs p b g t k) (tells_unsure xs p g t))
+tells_test xs p b g t k = by_room (leb 256 p.attr.0 || leb 3 (length g.tests))
+  where
+    new : Test
+    new = (p.attr, b.ends)
+
+    wholly : (c : Bool) (x : Extent) → is_whole (cond c x Few) ≡ true → (c ≡ true) × (is_whole x ≡ true)
+    wholly true x h = (refl, h)
+    wholly false x h = absurd (cc)
+
+    by_room : (c : Bool) → Tells (xs ++ p ∷ []) (cond c (glance g.tests Part) (glance (g.tests ++ new ∷ []) (cond b.exact g.extent Few)))
+    by_room true = tells_less xs p g Part refl t
+    by_room false =
+        record {
+          lost = λ e h.
+              (let z = parts_of_more (meets_pred e) xs p h in
+              more_of_parts (passes e) g.tests new (t.lost e z.0) (has_if_met p.op b (values_of e p.attr) k z.1));
+          all = λ w e h.
+              (let y = wholly b.exact g.extent w in
+              let z = parts_of_more (passes e) g.tests new h in
+              more_of_parts (meets_pred e) xs p (t.all y.1 e z.0) (met_if_has p.op b (values_of e p.attr) k y.0 z.1));
+        }
 
 tells_bounds : (xs : List Pred) (p : Pred) (o : Option Bounds) (g : Glance) → Tells xs g → Told p.op o → Tells (xs ++ p ∷ []) (with_bounds p.attr o g)
-tells_bounds xs p None g t k = tells_unsure xs p g t
+tells_bounds xs p None g t k = tells_less xs p g Part refl t
 tells_bounds xs p (Some b) g t k = tells_test xs p b g t k
 
-tells_pred : (xs : List Pred) (p : Pred) (g : Glance) → OpForm p.op → Tells xs g → Tells (xs ++ p ∷ []) (with_pred xs p g)
-tells_pred xs p g f t = either (list_any (is_on p.attr) xs) (xs ++ p ∷ []) (unsure g) (with_bounds p.attr (bounds_of p.op) g) (tells_unsure xs p g t) (tells_bounds xs p (bounds_of p.op) g t (bounds_hold p.op f))
+part_of_whole : (x : Extent) → is_part x ≡ true → is_whole x ≡ false
+part_of_whole Whole h = absurd (cc)
+part_of_whole Few h = refl
+part_of_whole Part h = refl
 
-tells_preds : (xs ps : List Pred) (g : Glance) → All (λ (p : Pred). OpForm p.op) ps → Tells xs g → Tells (xs ++ ps) (with_preds xs ps g)
+tells_pred : (xs : List Pred) (p : Pred) (g : Glance) → OpForm p.op → Tells xs g → Tells (xs ++ p ∷ []) (with_pred p g)
+tells_pred xs p g f t = by_tests (is_part g.extent) (is_some (test_on p.attr g.tests)) refl
+  where
+    by_tests : (b c : Bool) → is_part g.extent ≡ b → Tells (xs ++ p ∷ []) (cond b g (cond c (glance g.tests Few) (with_bounds p.attr (bounds_of p.op) g)))
+    by_tests true c e = tells_less xs p g g.extent (part_of_whole g.extent e) t
+    by_tests false true e = tells_less xs p g Few refl t
+    by_tests false false e = tells_bounds xs p (bounds_of p.op) g t (bounds_hold p.op f)
+
+tells_preds : (xs ps : List Pred) (g : Glance) → All (λ (p : Pred). OpForm p.op) ps → Tells xs g → Tells (xs ++ ps) (with_preds ps g)
 tells_preds xs [] g f t = subst (λ c. Tells c g) (sym (append-nil xs)) t
 tells_preds xs (p ∷ ps) g f t =
-    subst (λ c. Tells c (with_preds (xs ++ p ∷ []) ps (with_pred xs p g))) (append_assoc xs (p ∷ []) ps)
-    (tells_preds (xs ++ p ∷ []) ps (with_pred xs p g) (All-tail (λ (q : Pred). OpForm q.op) p ps f) (tells_pred xs p g (All-head (λ (q : Pred). OpForm q.op) p ps f) t))
-
-tells_none : Tells [] of_none
-tells_none = record { lost = λ e h. refl; all = λ w e h. refl }
+    subst (λ c. Tells c (with_preds ps (with_pred p g))) (append_assoc xs (p ∷ []) ps)
+    (tells_preds (xs ++ p ∷ []) ps (with_pred p g) (All-tail (λ (q : Pred). OpForm q.op) p ps f) (tells_pred xs p g (All-head (λ (q : Pred). OpForm q.op) p ps f) t))
 
 tells : (conj : List Pred) → IsConj conj → Tells conj (glance_of conj)
-tells conj f = tells_preds [] conj of_none f.forms tells_none
+tells conj f = tells_preds [] conj (glance [] Whole) f.forms (record { lost = λ e h. refl; all = λ w e h. refl })
 
--- an event satisfies a condition exactly where it meets the tests, and these are all or it satisfies the condition
-pub told : (e : Assignments) (conj : List Pred) → IsConj conj → satisfies e conj ≡ (may_meet e (glance_of conj) && ((glance_of conj).whole || satisfies e conj))
-told e conj f = by_tests (satisfies e conj) (may_meet e (glance_of conj)) (glance_of conj).whole refl refl refl
+-- an event satisfies a condition exactly where it passes the tests, and these are all or it satisfies the condition
+pub told : (e : Assignments) (conj : List Pred) (tests : List Test) (extent : Extent) → glance tests extent ≡ glance_of conj → IsConj conj
+    → satisfies e conj ≡ (may_meet e tests && (is_whole extent || satisfies e conj))
+told e conj tests extent same f = by_tests (satisfies e conj) (may_meet e tests) (is_whole extent) refl refl refl
   where
-    by_tests : (s m w : Bool) → satisfies e conj ≡ s → may_meet e (glance_of conj) ≡ m → (glance_of conj).whole ≡ w → s ≡ (m && (w || s))
+    t : Tells conj (glance tests extent)
+    t = subst (Tells conj) (sym same) (tells conj f)
+
+    by_tests : (s m w : Bool) → satisfies e conj ≡ s → may_meet e tests ≡ m → is_whole extent ≡ w → s ≡ (m && (w || s))
     by_tests true true true a b c = refl
     by_tests true true false a b c = refl
-    by_tests true false w a b c = absurd (let z = (tells conj f).lost e a in cc)
-    by_tests false true true a b c = absurd (let z = (tells conj f).all c e b in cc)
+    by_tests true false w a b c = absurd (let z = t.lost e a in cc)
+    by_tests false true true a b c = absurd (let z = t.all c e b in cc)
     by_tests false true false a b c = refl
     by_tests false false w a b c = refl
