@@ -69,7 +69,7 @@ fn half_cost(half: &Option<Box<Node>>, s: &Schema, e: &Event, range: NodeRange) 
 }
 
 // Whether a search for the event enters the parts of the attribute.
-pub(crate) fn enters_part(a: AttrNo, e: &Event) -> bool
+fn enters_part(a: AttrNo, e: &Event) -> bool
     ensures { result ≡ is_assigned e.now a }
 {
     e.values(a).is_some()

@@ -34,7 +34,7 @@ pub fn find_in(t: &Tree, e: &Event, found: &mut Found) -> Result<Cost, NoMemory>
     let _ = e.items();
     let before = found.len();
     let s: &Schema = &t.schema;
-    let sight = Sight::of(s, e);
+    let sight = Sight::of(e);
     match search_node(&t.root, s, &sight, None, found) {
         Ok(cost) => Ok(cost),
         Err(NoMemory) => {

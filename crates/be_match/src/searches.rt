@@ -4,13 +4,13 @@ ghost use Rattle.std.specs.Prelude.{◌≡◌, ◌++◌, ◌∷◌, [], true, sl
 ghost use Rattle.std.specs.Arc.{arc_value};
 ghost use Rattle.be_shape.specs.Plain.{plain, parts_as, half_as, part_as, parts_of};
 ghost use Rattle.be_shape.specs.Ranges.{is_bounded, is_rising};
-ghost use Rattle.be_shape.specs.Search.{visited, visited_in_parts, visited_in_half, all_of, holds_value};
-ghost use Rattle.be_model.specs.Matching.{satisfied, is_assigned};
+ghost use Rattle.be_shape.specs.Search.{visited, visited_in_parts, visited_in_half, all_of};
+ghost use Rattle.be_model.specs.Matching.{satisfied};
 ghost use Rattle.be_base.specs.Lists.{BeginsWith};
 ghost use Rattle.be_match.specs.Leaves.{AreCountable, FindsSome, KeepsRoom, cost_of_leaves};
 
-use crate::counts::{self, joined};
-use be_base::{AttrNo, NoMemory};
+use crate::counts::joined;
+use be_base::NoMemory;
 use be_model::{Cost, Found, Row, Schema};
 use be_shape::{Leaf, Node, NodeRange, Part, Sight, lower_range, upper_range, whole_range};
 use std::sync::Arc;
@@ -65,7 +65,7 @@ fn search_part(part: &Part, s: &Schema, e: &Sight, found: &mut Found) -> Result<
     ensures front { BeginsWith found.new.rows found.old.rows }
     ensures room { KeepsRoom found.old found.new }
 {
-    if enters_part(part.attr, e) {
+    if e.assigns(part.attr) {
         search_node(&part.root, s, e, whole_range(s, part.attr), found)
     } else {
         Ok(Cost::none())
@@ -90,7 +90,7 @@ fn search_half(
 {
     match half {
         Some(n) => {
-            if holds_value(range, e) {
+            if e.holds_value(range) {
                 search_node(n, s, e, range, found)
             } else {
                 Ok(Cost::none())
@@ -133,19 +133,4 @@ fn test(
         found.push_again(row)?;
     }
     Ok(())
-}
-
-// Whether a search for the event enters the parts of the attribute.
-fn enters_part(a: AttrNo, e: &Sight) -> bool
-    ensures { result ≡ is_assigned e.now a }
-{
-    counts::enters_part(a, e.event())
-}
-
-// Whether the range holds at least one of the event's values of its attribute.
-fn holds_value(range: NodeRange, e: &Sight) -> bool
-    ensures value { result ≡ holds_value e.now range }
-    ensures rising { result ≡ true → is_rising range ≡ true }
-{
-    be_shape::holds_value(range, e.event())
 }

@@ -46,7 +46,7 @@ search_part-search_node-requires t c =
     let s = c.args.s.now in
     let e = c.args.e.now in
     let p = c.args.part.now in
-    let h : is_assigned e (out-Part p).attr ≡ true = sym c.enters_part.ensures ∙ c.if-enters_part.true in
+    let h : is_assigned e (out-Part p).attr ≡ true = sym c.assigns.ensures ∙ c.if-assigns.true in
     (search (rules, the_lemmas), (c.whole_range.ensures.bounded, (c.whole_range.ensures.rising, subst (λ r. AreCountable (visited s e r (plain c.deref.result.now))) (sym c.whole_range.ensures.range) (subst (λ n. AreCountable (visited s e (whole s (out-Part p).attr) (plain n))) (sym c.deref.ensures) (part_countable s e p h c.requires.countable)))))
 
 pub search_parts-search_part-requires : goal.search_parts-search_part-requires
