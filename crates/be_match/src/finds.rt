@@ -34,9 +34,10 @@ pub fn find_in(t: &Tree, e: &Event, found: &mut Found) -> Result<Cost, NoMemory>
     let _ = e.items();
     let before = found.len();
     let s: &Schema = &t.schema;
-    let sight = Sight::of(s, e);
-    match search_node(&t.root, s, &sight, None, found) {
-        Ok(cost) => Ok(cost),
+    let sight = Sight::of(e);
+    let mut cost = Cost::none();
+    match search_node(&t.root, s, &sight, None, found, &mut cost) {
+        Ok(()) => Ok(cost),
         Err(NoMemory) => {
             found.cut(before);
             Err(NoMemory)

@@ -152,9 +152,12 @@ impl FewTests {
         ensures { result ≡ satisfies e.now conj.now }
     {
         if !self.is_worth(e) {
-            return false;
+            false
+        } else if extent.is_whole() {
+            self.may_meet(e.event())
+        } else {
+            conj.satisfied_by(e.event())
         }
-        self.may_meet(e.event()) && (extent.is_whole() || conj.satisfied_by(e.event()))
     }
 
     /// The ends of the test on the attribute.
