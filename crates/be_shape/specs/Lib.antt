@@ -8,7 +8,6 @@ pub mod Shape
 pub mod Search
 pub mod Ranges
 pub mod Paths
-pub mod Common
 pub mod Contents
 pub mod Children
 pub mod NodeList
