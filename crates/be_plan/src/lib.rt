@@ -14,7 +14,6 @@ mod plans;
 mod seeks;
 mod shifts;
 mod splits;
-mod tallies;
 
 pub use laws::plan_is_whole;
 pub use plans::plan;
