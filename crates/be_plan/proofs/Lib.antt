@@ -2,6 +2,7 @@ pub mod Rooms
 pub mod Rows
 pub mod Stays
 pub mod Ids
+pub mod Thousandths
 pub mod Gains
 pub mod Moves
 pub mod Counts

@@ -12,6 +12,7 @@ mod merges;
 mod movers;
 mod plans;
 mod seeks;
+mod shares;
 mod shifts;
 mod splits;
 
