@@ -13,5 +13,6 @@ pub mod Places
 pub mod Firsts
 pub mod Narrow
 pub mod Apart
+pub mod FullNodes
 pub mod Seeking
 pub mod Law

@@ -7,6 +7,7 @@
 #![tactic(auto)]
 
 mod bests;
+mod fulls;
 mod laws;
 mod merges;
 mod movers;
