@@ -1,7 +1,7 @@
 use Rattle.std.proofs.Common.{◌≡◌, false}
 use Rattle.be_shape.specs.Spots.{known_of}
 use Rattle.be_plan.specs.Splits.{any_is_had}
-use Rattle.be_plan.proofs.splits.any_is_had.Given as goal
+use Rattle.be_plan.proofs.splits.any_below_is_had.Given as goal
 
 -- none of those below is had
 abbrev pub invariant-loop-number : goal.invariant-loop-number
