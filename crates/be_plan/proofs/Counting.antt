@@ -8,7 +8,7 @@ use Rattle.std.proofs.lemmas.Option.{slice_get_within, get_or_from_slice_get}
 use mathlib.Core.Logic.{dite}
 use native.Mathlib.Decide.{ℕ_discrete}
 use Rattle.be_base.specs.declared.names.AttrNo.{AttrNo}
-use Rattle.be_base.specs.declared.limits.TheConstants.{EARLY_ROWS}
+use Rattle.be_base.specs.declared.limits.TheConstants.{ATTRIBUTES, EARLY_ROWS}
 use Rattle.be_model.specs.declared.changes.Row.{Row}
 use Rattle.be_model.specs.Lies.{row_lies}
 use Rattle.be_model.specs.Rows.{has}
@@ -117,12 +117,13 @@ one_had used rows zero R f h = absurd (true≢false (sym h))
 one_had used rows (suc n) R f h = ⊎_elim (one_had used rows n R f) (f (numbered n)) (or_cases (any_is_had used rows n) (is_had used rows (numbered n)) h)
 
 -- some attribute is had where one is of those that many rows have
-pub common_had : (s : Attributes) (used : List AttrNo) (rows : List Row) (l : RowAttrs) → list_all (row_lies s) rows ≡ true → is_many l ≡ false → AreCommon rows l → any_listed (is_had used rows) l ≡ any_is_had used rows (length s)
-common_had s used rows l lies few common = by_tests (any_listed (is_had used rows) l) (any_is_had used rows (length s)) refl refl
+pub common_had : (s : Attributes) (used : List AttrNo) (rows : List Row) (l : RowAttrs) → length s ≤ ATTRIBUTES → list_all (row_lies s) rows ≡ true → is_many l ≡ false → AreCommon rows l → any_listed (is_had used rows) l ≡ any_is_had used rows (length s)
+common_had s used rows l small lies few common = by_tests (any_listed (is_had used rows) l) (any_is_had used rows (length s)) refl refl
   where
     listed : (a : AttrNo) → is_had used rows a ≡ true → any_listed (is_had used rows) l ≡ true
     listed a h =
-        let k = and_parts (not (is_used used a)) (leb EARLY_ROWS (count_by (has a) rows)) h in listed_same (is_had used rows) a l h (common few a k.1)
+        let k = and_parts (not (is_used used a)) (leb EARLY_ROWS (count_by (has a) rows)) h in
+        let below = some_below s a rows lies (some_pass (has a) rows k.1) in listed_same (is_had used rows) a l h (common few a (omega (arith, below, small)) k.1)
 
     by_tests : (b c : Bool) → any_listed (is_had used rows) l ≡ b → any_is_had used rows (length s) ≡ c → b ≡ c
     by_tests true true e g = refl

@@ -112,6 +112,8 @@ fn any_is_had(leaf: &Leaf, s: &Schema, k: &Spot) -> bool
     requires many { EARLY_ROWS ≤ length leaf.now }
     ensures { result ≡ any_is_had (known_of k.now).used leaf.now (length s.now) }
 {
+    // The count shows the form of the schema.
+    let _ = s.count();
     let common = leaf.common();
     if common.is_many() {
         any_below_is_had(leaf, s, k)

@@ -5,4 +5,4 @@ use Rattle.be_plan.proofs.splits.any_is_had.Goals as goal
 
 pub returns-else-is_many : goal.returns-else-is_many
 returns-else-is_many c =
-    c.listed_is_had.ensures ∙ common_had c.args.s.now (known_of c.args.k.now).used c.args.leaf.now c.common-common.result c.requires.lie (sym c.is_many.ensures ∙ c.if-is_many.false) c.common-common.ensures
+    c.listed_is_had.ensures ∙ common_had c.args.s.now (known_of c.args.k.now).used c.args.leaf.now c.common-common.result c.count.ensures.form.few c.requires.lie (sym c.is_many.ensures ∙ c.if-is_many.false) c.common-common.ensures
