@@ -58,8 +58,8 @@ fn share_of(span: (i64, i64), domain: (i64, i64)) -> Share
     }
 }
 
-/// The share of the row that stands at this place of the leaf. It is that of the whole where the row weighs nothing on the
-/// attribute.
+/// The share by which the row, which stands at this place of the leaf, weighs what it does on the attribute. Where it weighs
+/// nothing that is all of the domain.
 #[tactic(auto, using(std::proofs::lemmas::Option::slice_get_within))]
 pub(crate) fn share_at(leaf: &Leaf, place: usize, row: &Row, s: &Schema, a: AttrNo) -> Share
     requires at { slice_get leaf.now place ≡ Some row.now }
@@ -91,8 +91,8 @@ pub(crate) fn is_light(small: bool, values: u64, domain: u64) -> bool
     }
 }
 
-/// Whether a row gains that has the one share of its own part's domain, and the other of another's. Mostly the other tells that
-/// it doesn't, without a division.
+/// Whether a row weighs at least 500 more by the other share than by its own. Mostly the other tells that it doesn't, without
+/// a division.
 pub(crate) fn is_gain(own: Share, other: Share) -> bool
     ensures { result ≡ nat_le ((1000 - 1000 * own.values / own.domain) + SHIFT_GAIN) (1000 - 1000 * other.values / other.domain) }
 {

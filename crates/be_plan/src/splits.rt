@@ -60,7 +60,7 @@ fn is_had(a: AttrNo, leaf: &Leaf, s: &Schema, k: &Spot) -> bool
     enough_pass(leaf, s, Hop::Part(a), k.range)
 }
 
-// Whether that holds of an attribute of the schema. Each is asked.
+// Whether that holds of an attribute of the schema.
 fn any_below_is_had(leaf: &Leaf, s: &Schema, k: &Spot) -> bool
     requires lie { list_all (row_lies s.now) leaf.now ≡ true }
     requires many { EARLY_ROWS ≤ length leaf.now }
@@ -106,7 +106,8 @@ fn listed_is_had(attrs: RowAttrs, leaf: &Leaf, s: &Schema, k: &Spot) -> bool
     }
 }
 
-// Whether at least 8 rows of the leaf have some attribute that isn't used. Mostly the leaf tells which they have.
+// Whether at least 8 rows of the leaf have some attribute that isn't used. Only those are asked that the leaf tells,
+// where it tells them.
 fn any_is_had(leaf: &Leaf, s: &Schema, k: &Spot) -> bool
     requires lie { list_all (row_lies s.now) leaf.now ≡ true }
     requires many { EARLY_ROWS ≤ length leaf.now }
