@@ -1,12 +1,12 @@
 //! An event as a search looks at it.
 
-ghost use Rattle.std.specs.Prelude.{◌≡◌, ◌<◌, ◌∷◌, [], true, length, Option, Some, List, ℤ, IfSome, option_map};
+ghost use Rattle.std.specs.Prelude.{◌≡◌, ◌<◌, ◌∷◌, [], true, Option, Some, List, ℤ, IfSome, option_map};
 ghost use Rattle.be_model.specs.Forms.{attrs_rise};
 ghost use Rattle.be_model.specs.Matching.{attrs_of, values_of, is_assigned};
 ghost use Rattle.be_shape.specs.Glances.{has_in};
 ghost use Rattle.be_shape.specs.Ranges.{is_rising};
 ghost use Rattle.be_shape.specs.Search.{holds_value};
-ghost use Rattle.be_shape.specs.Sights.{AreSmall, all_turned, clamped, overlaps, IsExact, IsHull, IsSight, TellExactly, TellHulls};
+ghost use Rattle.be_shape.specs.Sights.{AreSmall, clamped, overlaps, IsExact, IsHull, IsSight};
 
 use crate::glances::Ends;
 use crate::ranges::{NodeRange, holds_value};
@@ -81,11 +81,9 @@ fn hull_of(values: &Values) -> Ends
 
 // Writes the hulls of the items.
 fn fill(hulls: &mut Hulls, items: &[(AttrNo, Values)])
-    requires none { hulls.old ≡ all_turned }
+    requires none { hulls.old ≡ NO_HULLS }
     requires rise { attrs_rise (attrs_of items.now) ≡ true }
-    ensures size { length hulls.new ≡ SEEN }
-    ensures told { TellHulls hulls.new items.now }
-    ensures exact { TellExactly hulls.new items.now }
+    ensures { IsSight hulls.new items.now }
 {
     for item in items {
         let a = usize::from(item.0.0);
