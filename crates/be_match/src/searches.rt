@@ -2,7 +2,7 @@
 
 ghost use Rattle.std.specs.Prelude.{◌≡◌, ◌++◌, ◌∷◌, [], true, slice_get, Some, OnOk, OnErr};
 ghost use Rattle.std.specs.Arc.{arc_value};
-ghost use Rattle.be_shape.specs.Plain.{plain, half, parts_as, half_as, part_as, parts_of};
+ghost use Rattle.be_shape.specs.Plain.{plain, parts_as, half_as, part_as, parts_of};
 ghost use Rattle.be_shape.specs.Shape.{lower, upper};
 ghost use Rattle.be_shape.specs.Ranges.{is_bounded, is_rising};
 ghost use Rattle.be_shape.specs.Search.{visited, visited_in_parts, visited_in_half, all_of};
@@ -86,7 +86,7 @@ fn search_part(
     }
 }
 
-// The low half of a node of this range.
+// The low half of a node of this range. The half's own range is made again where it is searched, and so stands in memory only then.
 #[cycle(searches)]
 fn search_low(
     half: &Option<Box<Node>>,
@@ -106,7 +106,13 @@ fn search_low(
     ensures room { KeepsRoom found.old found.new }
 {
     match half {
-        Some(n) => search_half(n, s, e, lower_range(range), found, cost),
+        Some(n) => {
+            if e.holds_value(lower_range(range)) {
+                search_node(n, s, e, lower_range(range), found, cost)
+            } else {
+                Ok(())
+            }
+        }
         None => Ok(()),
     }
 }
@@ -131,32 +137,14 @@ fn search_high(
     ensures room { KeepsRoom found.old found.new }
 {
     match half {
-        Some(n) => search_half(n, s, e, upper_range(range), found, cost),
+        Some(n) => {
+            if e.holds_value(upper_range(range)) {
+                search_node(n, s, e, upper_range(range), found, cost)
+            } else {
+                Ok(())
+            }
+        }
         None => Ok(()),
-    }
-}
-
-#[cycle(searches)]
-fn search_half(
-    n: &Node,
-    s: &Schema,
-    e: &Sight,
-    range: NodeRange,
-    found: &mut Found,
-    cost: &mut Cost,
-) -> Result<(), NoMemory>
-    requires bounded { is_bounded range ≡ true }
-    requires countable { AreCountableWith cost.old (visited_in_half s.now e.now range (half (plain n.now))) }
-    ensures put { OnOk result (found.new.rows ≡ found.old.rows ++ satisfied e.now (all_of (visited_in_half s.now e.now range (half (plain n.now))))) }
-    ensures refused { OnErr result (FindsSome e.now (all_of (visited_in_half s.now e.now range (half (plain n.now))))) }
-    ensures cost { OnOk result (cost.new ≡ cost_with cost.old (visited_in_half s.now e.now range (half (plain n.now)))) }
-    ensures front { BeginsWith found.new.rows found.old.rows }
-    ensures room { KeepsRoom found.old found.new }
-{
-    if e.holds_value(range) {
-        search_node(n, s, e, range, found, cost)
-    } else {
-        Ok(())
     }
 }
 

@@ -176,18 +176,18 @@ impl<'a> Sight<'a> {
             Some((a, ends)) => match self.only_value(a) {
                 Some(Some(v)) => ends.0 <= v && v <= ends.1,
                 Some(None) => false,
-                None => self.asks(range),
+                None => self.asks(a, ends.0, ends.1),
             },
             None => false,
         }
     }
 
-    // The same, by the event itself.
+    // The same, by the event itself. It is given numbers, so that a range that isn't asked for needn't stand in memory.
     #[inline(never)]
-    fn asks(&self, range: NodeRange) -> bool
-        ensures value { result ≡ holds_value self.now range }
-        ensures rising { result ≡ true → is_rising range ≡ true }
+    fn asks(&self, a: AttrNo, low: i64, high: i64) -> bool
+        ensures value { result ≡ holds_value self.now (Some (a, (low, high))) }
+        ensures rising { result ≡ true → is_rising (Some (a, (low, high))) ≡ true }
     {
-        holds_value(range, self.event)
+        holds_value(Some((a, (low, high))), self.event)
     }
 }
