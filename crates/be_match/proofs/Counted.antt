@@ -14,64 +14,54 @@ use Rattle.be_shape.specs.Search.{visited, visited_in_parts, visited_in_half, al
 use Rattle.be_match.specs.Leaves.{AreCountable, AreCountableWith, cost_with}
 use Rattle.be_match.proofs.Sizes.{node_sizes, part_visited}
 
--- what a search of a node begins with: a cost beside which 64 bits count the node, its parts and the ranges of its halves
-pub record Begun (s : Attributes) (e : Assignments) (r : NodeRange) (n : Node) (c : Cost) (ps : List Part) (low high : NodeRange) : Type 0 where
-  pub countable : AreCountableWith c (visited s e r (plain n))
-  pub parts_are : ps ≡ (out-Node n).parts.items
-  pub low_is : low ≡ lower r
-  pub high_is : high ≡ upper r
-
 -- how much is visited of each level
-record Levels (s : Attributes) (e : Assignments) (n : Node) (c : Cost) (ps : List Part) (low high : NodeRange) (v t : ℕ) : Type 0 where
-  visits : v ≡ 1 + (length (visited_in_parts s e (parts_as ps)) + (length (visited_in_half s e low (half_as (out-Node n).low)) + length (visited_in_half s e high (half_as (out-Node n).high))))
-  tested : t ≡ length (out-Node n).leaf + (length (all_of (visited_in_parts s e (parts_as ps))) + (length (all_of (visited_in_half s e low (half_as (out-Node n).low))) + length (all_of (visited_in_half s e high (half_as (out-Node n).high)))))
+record Levels (s : Attributes) (e : Assignments) (r : NodeRange) (n : Node) (c : Cost) (ps : List Part) (v t : ℕ) : Type 0 where
+  visits : v ≡ 1 + (length (visited_in_parts s e (parts_as ps)) + (length (visited_in_half s e (lower r) (half_as (out-Node n).low)) + length (visited_in_half s e (upper r) (half_as (out-Node n).high))))
+  tested : t ≡ length (out-Node n).leaf + (length (all_of (visited_in_parts s e (parts_as ps))) + (length (all_of (visited_in_half s e (lower r) (half_as (out-Node n).low))) + length (all_of (visited_in_half s e (upper r) (half_as (out-Node n).high)))))
   few : c.visits + v < 2 ^ 64
   few_rows : c.tested + t < 2 ^ 64
 
-levels : (s : Attributes) (e : Assignments) (r : NodeRange) (n : Node) (c : Cost) (ps : List Part) (low high : NodeRange) → Begun s e r n c ps low high
-    → Levels s e n c ps low high (length (visited s e r (plain n))) (length (all_of (visited s e r (plain n))))
-levels s e r n c ps low high b =
+levels : (s : Attributes) (e : Assignments) (r : NodeRange) (n : Node) (c : Cost) (ps : List Part) → AreCountableWith c (visited s e r (plain n)) → ps ≡ (out-Node n).parts.items
+    → Levels s e r n c ps (length (visited s e r (plain n))) (length (all_of (visited s e r (plain n))))
+levels s e r n c ps k are =
     let z = node_sizes s e r n in
-    let p = λ (q : List Part). visited_in_parts s e (parts_as q) in
-    let l = λ (q : NodeRange). visited_in_half s e q (half_as (out-Node n).low) in
-    let h = λ (q : NodeRange). visited_in_half s e q (half_as (out-Node n).high) in
     record {
-      visits = omega (arith, z.visits, ap (λ q. length (p q)) b.parts_are, ap (λ q. length (l q)) b.low_is, ap (λ q. length (h q)) b.high_is);
-      tested = omega (arith, z.tested, ap (λ q. length (all_of (p q))) b.parts_are, ap (λ q. length (all_of (l q))) b.low_is, ap (λ q. length (all_of (h q))) b.high_is);
-      few = b.countable.few;
-      few_rows = b.countable.few_rows;
+      visits = omega (arith, z.visits, ap (λ q. length (visited_in_parts s e (parts_as q))) are);
+      tested = omega (arith, z.tested, ap (λ q. length (all_of (visited_in_parts s e (parts_as q)))) are);
+      few = k.few;
+      few_rows = k.few_rows;
     }
 
-pub parts_countable_with : (s : Attributes) (e : Assignments) (r : NodeRange) (n : Node) (c c1 : Cost) (ps : List Part) (low high : NodeRange) → Begun s e r n c ps low high
+pub parts_countable_with : (s : Attributes) (e : Assignments) (r : NodeRange) (n : Node) (c c1 : Cost) (ps : List Part) → AreCountableWith c (visited s e r (plain n)) → ps ≡ (out-Node n).parts.items
     → c1 ≡ cost (c.visits + 1) (c.tested + length (out-Node n).leaf) → AreCountableWith c1 (visited_in_parts s e (parts_as ps))
-parts_countable_with s e r n c c1 ps low high b h1 =
-    let z = levels s e r n c ps low high b in
+parts_countable_with s e r n c c1 ps k are h1 =
+    let z = levels s e r n c ps k are in
     record { few = omega (arith, z.visits, z.few, ap (λ q. q.visits) h1); few_rows = omega (arith, z.tested, z.few_rows, ap (λ q. q.tested) h1) }
 
-pub low_countable_with : (s : Attributes) (e : Assignments) (r : NodeRange) (n : Node) (c c1 c2 : Cost) (ps : List Part) (low high : NodeRange) → Begun s e r n c ps low high
-    → c1 ≡ cost (c.visits + 1) (c.tested + length (out-Node n).leaf) → c2 ≡ cost_with c1 (visited_in_parts s e (parts_as ps)) → AreCountableWith c2 (visited_in_half s e low (half_as (out-Node n).low))
-low_countable_with s e r n c c1 c2 ps low high b h1 h2 =
-    let z = levels s e r n c ps low high b in
+pub low_countable_with : (s : Attributes) (e : Assignments) (r : NodeRange) (n : Node) (c c1 c2 : Cost) (ps : List Part) → AreCountableWith c (visited s e r (plain n)) → ps ≡ (out-Node n).parts.items
+    → c1 ≡ cost (c.visits + 1) (c.tested + length (out-Node n).leaf) → c2 ≡ cost_with c1 (visited_in_parts s e (parts_as ps)) → AreCountableWith c2 (visited_in_half s e (lower r) (half_as (out-Node n).low))
+low_countable_with s e r n c c1 c2 ps k are h1 h2 =
+    let z = levels s e r n c ps k are in
     record { few = omega (arith, z.visits, z.few, ap (λ q. q.visits) h1, ap (λ q. q.visits) h2); few_rows = omega (arith, z.tested, z.few_rows, ap (λ q. q.tested) h1, ap (λ q. q.tested) h2) }
 
-pub high_countable_with : (s : Attributes) (e : Assignments) (r : NodeRange) (n : Node) (c c1 c2 c3 : Cost) (ps : List Part) (low high : NodeRange) → Begun s e r n c ps low high
-    → c1 ≡ cost (c.visits + 1) (c.tested + length (out-Node n).leaf) → c2 ≡ cost_with c1 (visited_in_parts s e (parts_as ps)) → c3 ≡ cost_with c2 (visited_in_half s e low (half_as (out-Node n).low))
-    → AreCountableWith c3 (visited_in_half s e high (half_as (out-Node n).high))
-high_countable_with s e r n c c1 c2 c3 ps low high b h1 h2 h3 =
-    let z = levels s e r n c ps low high b in
+pub high_countable_with : (s : Attributes) (e : Assignments) (r : NodeRange) (n : Node) (c c1 c2 c3 : Cost) (ps : List Part) → AreCountableWith c (visited s e r (plain n)) → ps ≡ (out-Node n).parts.items
+    → c1 ≡ cost (c.visits + 1) (c.tested + length (out-Node n).leaf) → c2 ≡ cost_with c1 (visited_in_parts s e (parts_as ps)) → c3 ≡ cost_with c2 (visited_in_half s e (lower r) (half_as (out-Node n).low))
+    → AreCountableWith c3 (visited_in_half s e (upper r) (half_as (out-Node n).high))
+high_countable_with s e r n c c1 c2 c3 ps k are h1 h2 h3 =
+    let z = levels s e r n c ps k are in
     record {
       few = omega (arith, z.visits, z.few, ap (λ q. q.visits) h1, ap (λ q. q.visits) h2, ap (λ q. q.visits) h3);
       few_rows = omega (arith, z.tested, z.few_rows, ap (λ q. q.tested) h1, ap (λ q. q.tested) h2, ap (λ q. q.tested) h3);
     }
 
 -- the leaf, the parts and the halves were counted: the node was
-pub node_counted : (s : Attributes) (e : Assignments) (r : NodeRange) (n : Node) (c c1 c2 c3 c4 : Cost) (ps : List Part) (low high : NodeRange) → Begun s e r n c ps low high
-    → c1 ≡ cost (c.visits + 1) (c.tested + length (out-Node n).leaf) → c2 ≡ cost_with c1 (visited_in_parts s e (parts_as ps)) → c3 ≡ cost_with c2 (visited_in_half s e low (half_as (out-Node n).low))
-    → c4 ≡ cost_with c3 (visited_in_half s e high (half_as (out-Node n).high)) → c4 ≡ cost_with c (visited s e r (plain n))
-node_counted s e r n c c1 c2 c3 c4 ps low high b h1 h2 h3 h4 =
-    let z = levels s e r n c ps low high b in
-    let v : c3.visits + length (visited_in_half s e high (half_as (out-Node n).high)) ≡ c.visits + length (visited s e r (plain n)) = omega (arith, z.visits, ap (λ q. q.visits) h1, ap (λ q. q.visits) h2, ap (λ q. q.visits) h3) in
-    let t : c3.tested + length (all_of (visited_in_half s e high (half_as (out-Node n).high))) ≡ c.tested + length (all_of (visited s e r (plain n))) = omega (arith, z.tested, ap (λ q. q.tested) h1, ap (λ q. q.tested) h2, ap (λ q. q.tested) h3) in
+pub node_counted : (s : Attributes) (e : Assignments) (r : NodeRange) (n : Node) (c c1 c2 c3 c4 : Cost) (ps : List Part) → AreCountableWith c (visited s e r (plain n)) → ps ≡ (out-Node n).parts.items
+    → c1 ≡ cost (c.visits + 1) (c.tested + length (out-Node n).leaf) → c2 ≡ cost_with c1 (visited_in_parts s e (parts_as ps)) → c3 ≡ cost_with c2 (visited_in_half s e (lower r) (half_as (out-Node n).low))
+    → c4 ≡ cost_with c3 (visited_in_half s e (upper r) (half_as (out-Node n).high)) → c4 ≡ cost_with c (visited s e r (plain n))
+node_counted s e r n c c1 c2 c3 c4 ps k are h1 h2 h3 h4 =
+    let z = levels s e r n c ps k are in
+    let v : c3.visits + length (visited_in_half s e (upper r) (half_as (out-Node n).high)) ≡ c.visits + length (visited s e r (plain n)) = omega (arith, z.visits, ap (λ q. q.visits) h1, ap (λ q. q.visits) h2, ap (λ q. q.visits) h3) in
+    let t : c3.tested + length (all_of (visited_in_half s e (upper r) (half_as (out-Node n).high))) ≡ c.tested + length (all_of (visited s e r (plain n))) = omega (arith, z.tested, ap (λ q. q.tested) h1, ap (λ q. q.tested) h2, ap (λ q. q.tested) h3) in
     h4 ∙ ap₂ cost v t
 
 -- what is counted in a part

@@ -3,6 +3,7 @@
 ghost use Rattle.std.specs.Prelude.{◌≡◌, ◌++◌, ◌∷◌, [], true, slice_get, Some, OnOk, OnErr};
 ghost use Rattle.std.specs.Arc.{arc_value};
 ghost use Rattle.be_shape.specs.Plain.{plain, parts_as, half_as, part_as, parts_of};
+ghost use Rattle.be_shape.specs.Shape.{lower, upper};
 ghost use Rattle.be_shape.specs.Ranges.{is_bounded, is_rising};
 ghost use Rattle.be_shape.specs.Search.{visited, visited_in_parts, visited_in_half, all_of};
 ghost use Rattle.be_model.specs.Matching.{satisfied};
@@ -37,8 +38,8 @@ pub(crate) fn search_node(
     *cost = cost.plus(leaf_cost(&n.leaf));
     search_leaf(&n.leaf, e, found)?;
     search_parts(n.parts.as_slice(), s, e, found, cost)?;
-    search_half(&n.low, s, e, lower_range(range), found, cost)?;
-    search_half(&n.high, s, e, upper_range(range), found, cost)?;
+    search_low(&n.low, s, e, range, found, cost)?;
+    search_high(&n.high, s, e, range, found, cost)?;
     Ok(())
 }
 
@@ -85,8 +86,9 @@ fn search_part(
     }
 }
 
+// The low half of a node of this range. The half's own range is made again where it is searched, and so stands in memory only then.
 #[cycle(searches)]
-fn search_half(
+fn search_low(
     half: &Option<Box<Node>>,
     s: &Schema,
     e: &Sight,
@@ -95,17 +97,49 @@ fn search_half(
     cost: &mut Cost,
 ) -> Result<(), NoMemory>
     requires bounded { is_bounded range ≡ true }
-    requires countable { AreCountableWith cost.old (visited_in_half s.now e.now range (half_as half.now)) }
-    ensures put { OnOk result (found.new.rows ≡ found.old.rows ++ satisfied e.now (all_of (visited_in_half s.now e.now range (half_as half.now)))) }
-    ensures refused { OnErr result (FindsSome e.now (all_of (visited_in_half s.now e.now range (half_as half.now)))) }
-    ensures cost { OnOk result (cost.new ≡ cost_with cost.old (visited_in_half s.now e.now range (half_as half.now))) }
+    requires rising { is_rising range ≡ true }
+    requires countable { AreCountableWith cost.old (visited_in_half s.now e.now (lower range) (half_as half.now)) }
+    ensures put { OnOk result (found.new.rows ≡ found.old.rows ++ satisfied e.now (all_of (visited_in_half s.now e.now (lower range) (half_as half.now)))) }
+    ensures refused { OnErr result (FindsSome e.now (all_of (visited_in_half s.now e.now (lower range) (half_as half.now)))) }
+    ensures cost { OnOk result (cost.new ≡ cost_with cost.old (visited_in_half s.now e.now (lower range) (half_as half.now))) }
     ensures front { BeginsWith found.new.rows found.old.rows }
     ensures room { KeepsRoom found.old found.new }
 {
     match half {
         Some(n) => {
-            if e.holds_value(range) {
-                search_node(n, s, e, range, found, cost)
+            if e.holds_value(lower_range(range)) {
+                search_node(n, s, e, lower_range(range), found, cost)
+            } else {
+                Ok(())
+            }
+        }
+        None => Ok(()),
+    }
+}
+
+// The high half of a node of this range.
+#[cycle(searches)]
+fn search_high(
+    half: &Option<Box<Node>>,
+    s: &Schema,
+    e: &Sight,
+    range: NodeRange,
+    found: &mut Found,
+    cost: &mut Cost,
+) -> Result<(), NoMemory>
+    requires bounded { is_bounded range ≡ true }
+    requires rising { is_rising range ≡ true }
+    requires countable { AreCountableWith cost.old (visited_in_half s.now e.now (upper range) (half_as half.now)) }
+    ensures put { OnOk result (found.new.rows ≡ found.old.rows ++ satisfied e.now (all_of (visited_in_half s.now e.now (upper range) (half_as half.now)))) }
+    ensures refused { OnErr result (FindsSome e.now (all_of (visited_in_half s.now e.now (upper range) (half_as half.now)))) }
+    ensures cost { OnOk result (cost.new ≡ cost_with cost.old (visited_in_half s.now e.now (upper range) (half_as half.now))) }
+    ensures front { BeginsWith found.new.rows found.old.rows }
+    ensures room { KeepsRoom found.old found.new }
+{
+    match half {
+        Some(n) => {
+            if e.holds_value(upper_range(range)) {
+                search_node(n, s, e, upper_range(range), found, cost)
             } else {
                 Ok(())
             }

@@ -1,5 +1,5 @@
 -- The hulls that a sight has.
-use Rattle.std.proofs.Common.{◌≡◌, ◌⊎◌, ⊎_elim, inl, inr, ℕ, ℤ, ◌+◌, ◌<◌, ◌≤◌, ◌≤ℤ◌, ◌<ℤ◌, Bool, true, false, ◌||◌, List, [], ◌∷◌, length, get_or, set, Option, Some, None, cond, refl, sym, ap, ◌∙◌, subst, arith, get_or-set_other, get_or-set_same}
+use Rattle.std.proofs.Common.{◌≡◌, ◌⊎◌, ⊎_elim, inl, inr, ℕ, ℤ, ◌+◌, ◌<◌, ◌≤◌, ◌≤ℤ◌, ◌<ℤ◌, Bool, true, false, ◌||◌, List, [], ◌∷◌, length, get_or, set, replicate, Option, Some, None, cond, refl, sym, ap, ◌∙◌, subst, arith, get_or-set_other, get_or-set_same}
 use Rattle.std.specs.Int.Signed.{le_z, lt_z}
 use Rattle.std.specs.Ordering.{int_eq}
 use Rattle.std.proofs.lemmas.Int.{ints}
@@ -11,7 +11,7 @@ use Rattle.be_model.specs.Forms.{attrs_rise}
 use Rattle.be_model.specs.Matching.{Assignments, attrs_of, values_of}
 use Rattle.be_model.proofs.EventItems.{values_of-at, values_of-none}
 use Rattle.be_shape.specs.Glances.{least, greatest, is_in, has_in}
-use Rattle.be_shape.specs.Sights.{wide, turned, all_turned, clamped, overlaps, IsHull, TellHulls, IsExact, TellExactly}
+use Rattle.be_shape.specs.Sights.{wide, clamped, overlaps, IsHull, TellHulls, IsExact, TellExactly}
 use Rattle.be_shape.proofs.ToldTests.{both, le_test, equal_from}
 
 overlap_from : (x y : ℤ × ℤ) → x.0 ≤ℤ y.1 → y.0 ≤ℤ x.1 → overlaps x y ≡ true
@@ -69,6 +69,10 @@ one_exact v = record {
   one = λ h k l. ap (λ x. Some (x ∷ [])) (sym (clamped_same v k l));
 }
 
+-- the hull of no value
+abbrev turned : ℤ × ℤ
+turned = (greatest, least)
+
 turned_exact : IsExact turned None
 turned_exact = record { none = λ h. refl; one = λ h k l. absurd (omega (arith, ints)) }
 
@@ -84,7 +88,7 @@ IsPassed e a i = (j : ℕ) (x : AttrNo × List ℤ) → j < i → (get_or e j x)
 abbrev pub AreNoted : List (ℤ × ℤ) → Assignments → ℕ → Type 0
 AreNoted hulls e i = (a : AttrNo) (d : ℤ × ℤ) → a.0 < 64 → IsTold (get_or hulls a.0 d) (values_of e a) ⊎ ((get_or hulls a.0 d ≡ turned) × IsPassed e a i)
 
-pub noted_none : (e : Assignments) → AreNoted all_turned e 0
+pub noted_none : (e : Assignments) → AreNoted (replicate 64 turned) e 0
 noted_none e = λ a d few. inr (get_or-replicate 64 a.0 turned d few, λ j x l k. absurd (omega arith))
 
 -- an item of another attribute

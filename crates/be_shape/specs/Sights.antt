@@ -1,5 +1,5 @@
 -- What a search sees of an event at a glance.
-use Rattle.std.specs.Prelude.{◌≡◌, ◌<◌, ◌≤ℤ◌, ◌<ℤ◌, ℤ, ◌&&◌, Bool, true, List, [], ◌∷◌, length, get_or, replicate, Option, Some, None, int_lt, int_le, if◌then◌else◌}
+use Rattle.std.specs.Prelude.{◌≡◌, ◌<◌, ◌≤ℤ◌, ◌<ℤ◌, ℤ, ◌&&◌, Bool, true, List, [], ◌∷◌, length, get_or, Option, Some, None, int_lt, int_le, if◌then◌else◌}
 use Rattle.be_base.specs.declared.names.AttrNo.{AttrNo}
 use Rattle.be_model.specs.Matching.{Assignments, values_of}
 use Rattle.be_shape.specs.declared.sights.TheConstants.{SEEN}
@@ -14,13 +14,6 @@ overlaps x y = int_le x.0 y.1 && int_le y.0 x.1
 
 abbrev pub wide : ℤ × ℤ
 wide = (least, greatest)
-
-abbrev pub turned : ℤ × ℤ
-turned = (greatest, least)
-
--- a table in which no attribute has a value
-abbrev pub all_turned : List (ℤ × ℤ)
-all_turned = replicate SEEN turned
 
 -- numbers of 32 bits
 pub record AreSmall (ends : ℤ × ℤ) : Type 0 where

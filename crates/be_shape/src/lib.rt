@@ -35,7 +35,7 @@ pub use looks::{
 };
 pub use nodes::{Node, Part};
 pub use ranges::{NodeRange, holds_value, lower_range, upper_range, whole_range};
-pub use sights::Sight;
+pub use sights::{Hulls, NO_HULLS, Sight, fill_hulls};
 pub use spots::Spot;
 pub use swaps::{place_on, swap_at};
 pub use trees::Tree;

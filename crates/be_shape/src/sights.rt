@@ -1,12 +1,12 @@
 //! An event as a search looks at it.
 
-ghost use Rattle.std.specs.Prelude.{◌≡◌, ◌<◌, ◌∷◌, [], true, length, Option, Some, List, ℤ, IfSome, option_map};
+ghost use Rattle.std.specs.Prelude.{◌≡◌, ◌<◌, ◌∷◌, [], true, Option, Some, List, ℤ, IfSome, option_map};
 ghost use Rattle.be_model.specs.Forms.{attrs_rise};
 ghost use Rattle.be_model.specs.Matching.{attrs_of, values_of, is_assigned};
 ghost use Rattle.be_shape.specs.Glances.{has_in};
 ghost use Rattle.be_shape.specs.Ranges.{is_rising};
 ghost use Rattle.be_shape.specs.Search.{holds_value};
-ghost use Rattle.be_shape.specs.Sights.{AreSmall, all_turned, clamped, overlaps, IsExact, IsHull, TellExactly, TellHulls};
+ghost use Rattle.be_shape.specs.Sights.{AreSmall, clamped, overlaps, IsExact, IsHull, IsSight};
 
 use crate::glances::Ends;
 use crate::ranges::{NodeRange, holds_value};
@@ -17,18 +17,21 @@ use std::marker::Model;
 /// Of each attribute below this number a sight has a hull.
 const SEEN: usize = 64;
 
+/// By attribute, ends of an event's values.
+pub type Hulls = [(i32, i32); SEEN];
+
 /// The least and the greatest number.
 const WIDE: Ends = (i32::MIN, i32::MAX);
 
-/// The hull of no value.
-const TURNED: Ends = (i32::MAX, i32::MIN);
+/// The hulls of no values. A search fills its own in place, so that they aren't copied.
+pub const NO_HULLS: Hulls = [(i32::MAX, i32::MIN); SEEN];
 
 /// An event, and by attribute ends of its values, so that most rows are passed over, and most halves entered or not,
 /// by a compare with one entry of a table.
 #[derive(Drop)]
 pub struct Sight<'a> {
     event: &'a Event,
-    hulls: [Ends; SEEN],
+    hulls: &'a Hulls,
 }
 
 impl<'a> Model for Sight<'a> {
@@ -41,7 +44,7 @@ impl<'a> Model for Sight<'a> {
 
     ghost view = { λ s. s.event.now };
 
-    ghost invariant = { λ s. IsSight s.hulls s.event.now };
+    ghost invariant = { λ s. IsSight s.hulls.now s.event.now };
 }
 
 // The number, or the nearest one of 32 bits.
@@ -76,13 +79,11 @@ fn hull_of(values: &Values) -> Ends
     }
 }
 
-// Writes the hulls of the items into a table in which there are none.
-fn fill(hulls: &mut [Ends; SEEN], items: &[(AttrNo, Values)])
-    requires none { hulls.old ≡ all_turned }
+// Writes the hulls of the items.
+fn fill(hulls: &mut Hulls, items: &[(AttrNo, Values)])
+    requires none { hulls.old ≡ NO_HULLS }
     requires rise { attrs_rise (attrs_of items.now) ≡ true }
-    ensures size { length hulls.new ≡ SEEN }
-    ensures told { TellHulls hulls.new items.now }
-    ensures exact { TellExactly hulls.new items.now }
+    ensures { IsSight hulls.new items.now }
 {
     for item in items {
         let a = usize::from(item.0.0);
@@ -109,18 +110,20 @@ fn only_of(ends: Ends) -> Option<Option<i64>>
     }
 }
 
+/// Writes the hulls of the event's values.
+pub fn fill_hulls(hulls: &mut Hulls, e: &Event)
+    requires { hulls.old ≡ NO_HULLS }
+    ensures { IsSight hulls.new e.now }
+{
+    fill(hulls, e.items());
+}
+
 impl<'a> Sight<'a> {
-    /// It takes no memory.
-    #[inline(always)]
-    pub fn of(event: &'a Event) -> Sight<'a>
+    pub fn of(event: &'a Event, hulls: &'a Hulls) -> Sight<'a>
+        requires { IsSight hulls.now event.now }
         ensures { result ≡ event.now }
     {
-        let mut sight = Sight {
-            event,
-            hulls: [TURNED; SEEN],
-        };
-        fill(&mut sight.hulls, event.items());
-        sight
+        Sight { event, hulls }
     }
 
     /// Whether a value of the attribute may be between the ends.
@@ -162,6 +165,7 @@ impl<'a> Sight<'a> {
     }
 
     /// Whether the range holds at least one of the event's values of its attribute.
+    #[inline(always)]
     #[tactic(auto, using(crate::proofs::SightHulls::one_inside))]
     pub fn holds_value(&self, range: NodeRange) -> bool
         ensures value { result ≡ holds_value self.now range }
@@ -172,9 +176,18 @@ impl<'a> Sight<'a> {
             Some((a, ends)) => match self.only_value(a) {
                 Some(Some(v)) => ends.0 <= v && v <= ends.1,
                 Some(None) => false,
-                None => holds_value(range, self.event),
+                None => self.asks(a, ends.0, ends.1),
             },
             None => false,
         }
+    }
+
+    // The same, by the event itself. It is given numbers, so that a range that isn't asked for needn't stand in memory.
+    #[inline(never)]
+    fn asks(&self, a: AttrNo, low: i64, high: i64) -> bool
+        ensures value { result ≡ holds_value self.now (Some (a, (low, high))) }
+        ensures rising { result ≡ true → is_rising (Some (a, (low, high))) ≡ true }
+    {
+        holds_value(Some((a, (low, high))), self.event)
     }
 }

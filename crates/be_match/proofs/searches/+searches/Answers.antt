@@ -1,4 +1,4 @@
-use Rattle.std.proofs.Common.{rules, refl, ◌++◌, drop, ◌≡◌, true, ◌∷◌, [], ◌+◌, sym, ap, ◌∙◌, subst, arith}
+use Rattle.std.proofs.Common.{rules, ◌++◌, drop, ◌≡◌, true, ◌∷◌, [], ◌+◌, sym, ap, ◌∙◌, subst, arith}
 use Rattle.be_shape.specs.declared.nodes.Node.TheViews.{out-Node, out-Part, the_lemmas}
 use Rattle.be_shape.specs.Plain.{plain, parts_as, half_as, part_as, parts_of}
 use Rattle.be_shape.specs.Shape.{whole, lower, upper}
@@ -9,7 +9,7 @@ use Rattle.be_match.specs.Leaves.{AreCountableWith, FindsSome}
 use Rattle.be_base.proofs.Beginnings.{BeginsWith-along}
 use Rattle.be_match.proofs.Fronts.{on_refusal, put_levels, put_step, satisfied_leaves, some_first, some_from, some_in_node}
 use Rattle.be_match.proofs.Sizes.{node_visited, visited_from, parts_sizes}
-use Rattle.be_match.proofs.Counted.{Begun, parts_countable_with, low_countable_with, high_countable_with, node_counted, part_countable_with}
+use Rattle.be_match.proofs.Counted.{parts_countable_with, low_countable_with, high_countable_with, node_counted, part_countable_with}
 use Rattle.be_match.proofs.searches.+searches.Goals as goal
 
 pub search_node-search_parts-requires : goal.search_node-search_parts-requires
@@ -19,34 +19,28 @@ search_node-search_parts-requires t c =
     let r = c.args.range in
     let n = c.args.n.now in
     let was = c.args.cost.now in
-    let b : Begun s e r n was c.as_slice.result.now (lower r) (upper r) = record { countable = c.requires.countable; parts_are = c.as_slice.ensures.value; low_is = refl; high_is = refl } in
     let leaf = c.plus.ensures ∙ ap (λ q. cost (was.visits + q.visits) (was.tested + q.tested)) c.leaf_cost.ensures in
-    (search (rules, the_lemmas), parts_countable_with s e r n was c.plus.result c.as_slice.result.now (lower r) (upper r) b leaf)
+    (search (rules, the_lemmas), parts_countable_with s e r n was c.plus.result c.as_slice.result.now c.requires.countable c.as_slice.ensures.value leaf)
 
-pub search_node-search_half-requires : goal.search_node-search_half-requires
-search_node-search_half-requires t c =
+pub search_node-search_low-requires : goal.search_node-search_low-requires
+search_node-search_low-requires t c =
     let s = c.args.s.now in
     let e = c.args.e.now in
     let r = c.args.range in
     let n = c.args.n.now in
     let was = c.args.cost.now in
-    let low = c.lower_range.result in
-    let b : Begun s e r n was c.as_slice.result.now low (upper r) = record { countable = c.requires.countable; parts_are = c.as_slice.ensures.value; low_is = c.lower_range.ensures.range; high_is = refl } in
     let leaf = c.plus.ensures ∙ ap (λ q. cost (was.visits + q.visits) (was.tested + q.tested)) c.leaf_cost.ensures in
-    (search (rules, the_lemmas), (c.lower_range.ensures.bounded, low_countable_with s e r n was c.plus.result c.search_parts.new.cost c.as_slice.result.now low (upper r) b leaf c.in_ok-search_parts.ensures.cost))
+    (search (rules, the_lemmas), (c.requires.bounded, (c.requires.rising, low_countable_with s e r n was c.plus.result c.search_parts.new.cost c.as_slice.result.now c.requires.countable c.as_slice.ensures.value leaf c.in_ok-search_parts.ensures.cost)))
 
-pub search_node-search_half-requires-2 : goal.search_node-search_half-requires-2
-search_node-search_half-requires-2 t c =
+pub search_node-search_high-requires : goal.search_node-search_high-requires
+search_node-search_high-requires t c =
     let s = c.args.s.now in
     let e = c.args.e.now in
     let r = c.args.range in
     let n = c.args.n.now in
     let was = c.args.cost.now in
-    let low = c.lower_range.result in
-    let high = c.upper_range.result in
-    let b : Begun s e r n was c.as_slice.result.now low high = record { countable = c.requires.countable; parts_are = c.as_slice.ensures.value; low_is = c.lower_range.ensures.range; high_is = c.upper_range.ensures.range } in
     let leaf = c.plus.ensures ∙ ap (λ q. cost (was.visits + q.visits) (was.tested + q.tested)) c.leaf_cost.ensures in
-    (search (rules, the_lemmas), (c.upper_range.ensures.bounded, high_countable_with s e r n was c.plus.result c.search_parts.new.cost c.search_half.new.cost c.as_slice.result.now low high b leaf c.in_ok-search_parts.ensures.cost c.in_ok-search_half.ensures.cost))
+    (search (rules, the_lemmas), (c.requires.bounded, (c.requires.rising, high_countable_with s e r n was c.plus.result c.search_parts.new.cost c.search_low.new.cost c.as_slice.result.now c.requires.countable c.as_slice.ensures.value leaf c.in_ok-search_parts.ensures.cost c.in_ok-search_low.ensures.cost)))
 
 pub search_node-returns-clause-cost : goal.search_node-returns-clause-cost
 search_node-returns-clause-cost t c =
@@ -55,11 +49,8 @@ search_node-returns-clause-cost t c =
     let r = c.args.range in
     let n = c.args.n.now in
     let was = c.args.cost.now in
-    let low = c.lower_range.result in
-    let high = c.upper_range.result in
-    let b : Begun s e r n was c.as_slice.result.now low high = record { countable = c.requires.countable; parts_are = c.as_slice.ensures.value; low_is = c.lower_range.ensures.range; high_is = c.upper_range.ensures.range } in
     let leaf = c.plus.ensures ∙ ap (λ q. cost (was.visits + q.visits) (was.tested + q.tested)) c.leaf_cost.ensures in
-    node_counted s e r n was c.plus.result c.search_parts.new.cost c.search_half.new.cost c.search_half-2.new.cost c.as_slice.result.now low high b leaf c.in_ok-search_parts.ensures.cost c.in_ok-search_half.ensures.cost c.in_ok-search_half-2.ensures.cost
+    node_counted s e r n was c.plus.result c.search_parts.new.cost c.search_low.new.cost c.search_high.new.cost c.as_slice.result.now c.requires.countable c.as_slice.ensures.value leaf c.in_ok-search_parts.ensures.cost c.in_ok-search_low.ensures.cost c.in_ok-search_high.ensures.cost
 
 pub search_part-search_node-requires : goal.search_part-search_node-requires
 search_part-search_node-requires t c =
@@ -86,12 +77,12 @@ search_node-returns-clause-put t c =
     let h = visited_in_half s e (upper c.args.range) (half_as (out-Node n).high) in
     let r1 = c.search_leaf.new.found.rows in
     let r2 = c.search_parts.new.found.rows in
-    let r3 = c.search_half.new.found.rows in
-    let r4 = c.search_half-2.new.found.rows in
+    let r3 = c.search_low.new.found.rows in
+    let r4 = c.search_high.new.found.rows in
     put_levels e c.args.found.now.rows r1 r2 r3 r4 (out-Node n).leaf p l h c.in_ok-search_leaf.ensures.put
     (c.in_ok-search_parts.ensures.put ∙ ap (λ ps. r1 ++ satisfied e (all_of (visited_in_parts s e (parts_as ps)))) c.as_slice.ensures.value)
-    (c.in_ok-search_half.ensures.put ∙ ap (λ r. r2 ++ satisfied e (all_of (visited_in_half s e r (half_as (out-Node n).low)))) c.lower_range.ensures.range)
-    (c.in_ok-search_half-2.ensures.put ∙ ap (λ r. r3 ++ satisfied e (all_of (visited_in_half s e r (half_as (out-Node n).high)))) c.upper_range.ensures.range)
+    c.in_ok-search_low.ensures.put
+    c.in_ok-search_high.ensures.put
     ∙ ap (λ v. c.args.found.now.rows ++ satisfied e (all_of v)) (sym (node_visited s e c.args.range n))
 
 pub search_parts-loop-part-preserved : goal.search_parts-loop-part-preserved
@@ -127,25 +118,25 @@ search_node-returns-in_err-search_parts-clause-refused t c =
     on_refusal c.from_residual-in_err-search_parts.result (FindsSome e (all_of (visited s e r (plain n))))
     (subst (λ v. FindsSome e (all_of v)) (sym (node_visited s e r n)) (z.in_parts (subst (λ ps. FindsSome e (all_of (visited_in_parts s e (parts_as ps)))) c.as_slice.ensures.value c.in_err-search_parts.ensures.refused)))
 
-pub search_node-returns-in_err-search_half-clause-refused : goal.search_node-returns-in_err-search_half-clause-refused
-search_node-returns-in_err-search_half-clause-refused t c =
+pub search_node-returns-in_err-search_low-clause-refused : goal.search_node-returns-in_err-search_low-clause-refused
+search_node-returns-in_err-search_low-clause-refused t c =
     let s = c.args.s.now in
     let e = c.args.e.now in
     let n = c.args.n.now in
     let r = c.args.range in
     let z = some_in_node e (out-Node n).leaf (visited_in_parts s e (parts_as (out-Node n).parts.items)) (visited_in_half s e (lower r) (half_as (out-Node n).low)) (visited_in_half s e (upper r) (half_as (out-Node n).high)) in
-    on_refusal c.from_residual-in_err-search_half.result (FindsSome e (all_of (visited s e r (plain n))))
-    (subst (λ v. FindsSome e (all_of v)) (sym (node_visited s e r n)) (z.in_low (subst (λ q. FindsSome e (all_of (visited_in_half s e q (half_as (out-Node n).low)))) c.lower_range.ensures.range c.in_err-search_half.ensures.refused)))
+    on_refusal c.from_residual-in_err-search_low.result (FindsSome e (all_of (visited s e r (plain n))))
+    (subst (λ v. FindsSome e (all_of v)) (sym (node_visited s e r n)) (z.in_low c.in_err-search_low.ensures.refused))
 
-pub search_node-returns-in_err-search_half-2-clause-refused : goal.search_node-returns-in_err-search_half-2-clause-refused
-search_node-returns-in_err-search_half-2-clause-refused t c =
+pub search_node-returns-in_err-search_high-clause-refused : goal.search_node-returns-in_err-search_high-clause-refused
+search_node-returns-in_err-search_high-clause-refused t c =
     let s = c.args.s.now in
     let e = c.args.e.now in
     let n = c.args.n.now in
     let r = c.args.range in
     let z = some_in_node e (out-Node n).leaf (visited_in_parts s e (parts_as (out-Node n).parts.items)) (visited_in_half s e (lower r) (half_as (out-Node n).low)) (visited_in_half s e (upper r) (half_as (out-Node n).high)) in
-    on_refusal c.from_residual-in_err-search_half-2.result (FindsSome e (all_of (visited s e r (plain n))))
-    (subst (λ v. FindsSome e (all_of v)) (sym (node_visited s e r n)) (z.in_high (subst (λ q. FindsSome e (all_of (visited_in_half s e q (half_as (out-Node n).high)))) c.upper_range.ensures.range c.in_err-search_half-2.ensures.refused)))
+    on_refusal c.from_residual-in_err-search_high.result (FindsSome e (all_of (visited s e r (plain n))))
+    (subst (λ v. FindsSome e (all_of v)) (sym (node_visited s e r n)) (z.in_high c.in_err-search_high.ensures.refused))
 
 pub search_parts-returns-in_err-search_part-clause-refused : goal.search_parts-returns-in_err-search_part-clause-refused
 search_parts-returns-in_err-search_part-clause-refused t c =

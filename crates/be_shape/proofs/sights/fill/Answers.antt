@@ -26,10 +26,10 @@ loop-item-preserved c =
           subst (λ hs. (length hs ≡ 64) × AreNoted hs e (i + 1)) (sym w.hulls-is) (was.0, noted_beyond hulls e i x below c.item-item.is far was.1)
     ]
 
-pub returns-clause-told : goal.returns-clause-told
-returns-clause-told c =
-    told_all c.loop-item.hulls c.args.items.now c.loop-item.item-index (omega (arith, c.loop-item-test.false)) c.loop-item.invariant.1
-
-pub returns-clause-exact : goal.returns-clause-exact
-returns-clause-exact c =
-    told_exactly c.loop-item.hulls c.args.items.now c.loop-item.item-index (omega (arith, c.loop-item-test.false)) c.loop-item.invariant.1
+pub returns : goal.returns
+returns c =
+    let hulls = c.loop-item.hulls in
+    let e = c.args.items.now in
+    let i = c.loop-item.item-index in
+    let end : length e ≤ i = omega (arith, c.loop-item-test.false) in
+    record { size = c.loop-item.invariant.0; told = told_all hulls e i end c.loop-item.invariant.1; exact = told_exactly hulls e i end c.loop-item.invariant.1 }
