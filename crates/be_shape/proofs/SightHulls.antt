@@ -106,9 +106,6 @@ kept_told : (hulls more : List (ℤ × ℤ)) (e : Assignments) (i : ℕ) (x : At
 kept_told hulls more e i x a d l is other same was =
     ⊎_elim (λ t. inl (subst (λ h. IsTold h (values_of e a)) (sym same) t)) (λ n. inr (same ∙ n.0, one_passed e i x a l is other n.1)) was
 
-same_attr : (a b : AttrNo) → a.0 ≡ b.0 → a ≡ b
-same_attr a b h = ap (λ n. record { 0 = n }) h
-
 -- one more item is told of
 pub noted_put : (hulls : List (ℤ × ℤ)) (e : Assignments) (i : ℕ) (x : AttrNo × List ℤ) (hull : ℤ × ℤ) → length hulls ≡ 64 → attrs_rise (attrs_of e) ≡ true → i < length e → x ≡ get_or e i x
     → x.0.0 < 64 → IsHull hull (Some x.1) → IsExact hull (Some x.1) → AreNoted hulls e i → AreNoted (set hulls x.0.0 hull) e (i + 1)
