@@ -38,6 +38,7 @@ fn merge_child(n: &mut Node, hop: Hop)
         Some(mut below) => move_node(&mut below, &mut n.leaf),
         None => unreachable!(),
     }
+    n.leaf.note_common();
 }
 
 // Whether the merge of the child at the end of the last step stands in the tree.

@@ -53,6 +53,8 @@ pub(crate) fn draw_off(
     ensures room { HasRoom hop n.new }
 {
     move_rows(&mut n.leaf, &mut below.leaf, s, hop, range, first);
+    n.leaf.note_common();
+    below.leaf.note_common();
 }
 
 /// Takes the memory of a new child: for the node, and for its place among the parts.

@@ -69,21 +69,28 @@ fn half_cost(half: &Option<Box<Node>>, s: &Schema, e: &Event, range: NodeRange) 
 }
 
 // Whether a search for the event enters the parts of the attribute.
-pub(crate) fn enters_part(a: AttrNo, e: &Event) -> bool
+fn enters_part(a: AttrNo, e: &Event) -> bool
     ensures { result ≡ is_assigned e.now a }
 {
     e.values(a).is_some()
 }
 
+// What a visit of a leaf costs.
+pub(crate) fn leaf_cost(leaf: &Leaf) -> Cost
+    ensures { result ≡ cost 1 (length leaf.now) }
+{
+    Cost {
+        visits: 1,
+        tested: leaf.len() as u64,
+    }
+}
+
 // The cost of a node whose parts and halves cost so much.
-pub(crate) fn joined(leaf: &Leaf, parts: Cost, low: Cost, high: Cost) -> Cost
+fn joined(leaf: &Leaf, parts: Cost, low: Cost, high: Cost) -> Cost
     requires visits { 1 + parts.visits + low.visits + high.visits < 2 ^ 64 }
     requires tested { length leaf.now + parts.tested + low.tested + high.tested < 2 ^ 64 }
     ensures { result ≡ cost (1 + parts.visits + low.visits + high.visits) (length leaf.now + parts.tested + low.tested + high.tested) }
 {
-    let own = Cost {
-        visits: 1,
-        tested: leaf.len() as u64,
-    };
+    let own = leaf_cost(leaf);
     own.plus(parts).plus(low).plus(high)
 }

@@ -13,7 +13,7 @@ use crate::counts::node_cost;
 use crate::searches::search_node;
 use be_base::NoMemory;
 use be_model::{Cost, Event, Found, Schema};
-use be_shape::{Sight, Tree};
+use be_shape::{NO_HULLS, Sight, Tree, fill_hulls};
 
 /// Appends the rows that the event satisfies, each once. It takes memory for the list of found rows alone,
 /// and further references to rows, of which there may be no more.
@@ -34,9 +34,12 @@ pub fn find_in(t: &Tree, e: &Event, found: &mut Found) -> Result<Cost, NoMemory>
     let _ = e.items();
     let before = found.len();
     let s: &Schema = &t.schema;
-    let sight = Sight::of(s, e);
-    match search_node(&t.root, s, &sight, None, found) {
-        Ok(cost) => Ok(cost),
+    let mut hulls = NO_HULLS;
+    fill_hulls(&mut hulls, e);
+    let sight = Sight::of(e, &hulls);
+    let mut cost = Cost::none();
+    match search_node(&t.root, s, &sight, None, found, &mut cost) {
+        Ok(()) => Ok(cost),
         Err(NoMemory) => {
             found.cut(before);
             Err(NoMemory)

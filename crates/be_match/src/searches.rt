@@ -1,16 +1,17 @@
 //! The search for the rows that an event satisfies.
 
-ghost use Rattle.std.specs.Prelude.{◌≡◌, ◌++◌, ◌∷◌, [], true, slice_get, Some, OnOk, OnErr, IfOk};
+ghost use Rattle.std.specs.Prelude.{◌≡◌, ◌++◌, ◌∷◌, [], true, slice_get, Some, OnOk, OnErr};
 ghost use Rattle.std.specs.Arc.{arc_value};
 ghost use Rattle.be_shape.specs.Plain.{plain, parts_as, half_as, part_as, parts_of};
+ghost use Rattle.be_shape.specs.Shape.{lower, upper};
 ghost use Rattle.be_shape.specs.Ranges.{is_bounded, is_rising};
-ghost use Rattle.be_shape.specs.Search.{visited, visited_in_parts, visited_in_half, all_of, holds_value};
-ghost use Rattle.be_model.specs.Matching.{satisfied, is_assigned};
+ghost use Rattle.be_shape.specs.Search.{visited, visited_in_parts, visited_in_half, all_of};
+ghost use Rattle.be_model.specs.Matching.{satisfied};
 ghost use Rattle.be_base.specs.Lists.{BeginsWith};
-ghost use Rattle.be_match.specs.Leaves.{AreCountable, FindsSome, KeepsRoom, cost_of_leaves};
+ghost use Rattle.be_match.specs.Leaves.{AreCountableWith, FindsSome, KeepsRoom, cost_with};
 
-use crate::counts::{self, joined};
-use be_base::{AttrNo, NoMemory};
+use crate::counts::leaf_cost;
+use be_base::NoMemory;
 use be_model::{Cost, Found, Row, Schema};
 use be_shape::{Leaf, Node, NodeRange, Part, Sight, lower_range, upper_range, whole_range};
 use std::sync::Arc;
@@ -23,80 +24,127 @@ pub(crate) fn search_node(
     e: &Sight,
     range: NodeRange,
     found: &mut Found,
-) -> Result<Cost, NoMemory>
+    cost: &mut Cost,
+) -> Result<(), NoMemory>
     requires bounded { is_bounded range ≡ true }
     requires rising { is_rising range ≡ true }
-    requires countable { AreCountable (visited s.now e.now range (plain n.now)) }
+    requires countable { AreCountableWith cost.old (visited s.now e.now range (plain n.now)) }
     ensures put { OnOk result (found.new.rows ≡ found.old.rows ++ satisfied e.now (all_of (visited s.now e.now range (plain n.now)))) }
     ensures refused { OnErr result (FindsSome e.now (all_of (visited s.now e.now range (plain n.now)))) }
-    ensures cost { IfOk result (λ cost. cost ≡ cost_of_leaves (visited s.now e.now range (plain n.now))) }
+    ensures cost { OnOk result (cost.new ≡ cost_with cost.old (visited s.now e.now range (plain n.now))) }
     ensures front { BeginsWith found.new.rows found.old.rows }
     ensures room { KeepsRoom found.old found.new }
 {
+    *cost = cost.plus(leaf_cost(&n.leaf));
     search_leaf(&n.leaf, e, found)?;
-    let parts = search_parts(n.parts.as_slice(), s, e, found)?;
-    let low = search_half(&n.low, s, e, lower_range(range), found)?;
-    let high = search_half(&n.high, s, e, upper_range(range), found)?;
-    Ok(joined(&n.leaf, parts, low, high))
+    search_parts(n.parts.as_slice(), s, e, found, cost)?;
+    search_low(&n.low, s, e, range, found, cost)?;
+    search_high(&n.high, s, e, range, found, cost)?;
+    Ok(())
 }
 
 #[cycle(searches)]
-fn search_parts(parts: &[Part], s: &Schema, e: &Sight, found: &mut Found) -> Result<Cost, NoMemory>
-    requires countable { AreCountable (visited_in_parts s.now e.now (parts_as parts.now)) }
+fn search_parts(
+    parts: &[Part],
+    s: &Schema,
+    e: &Sight,
+    found: &mut Found,
+    cost: &mut Cost,
+) -> Result<(), NoMemory>
+    requires countable { AreCountableWith cost.old (visited_in_parts s.now e.now (parts_as parts.now)) }
     ensures put { OnOk result (found.new.rows ≡ found.old.rows ++ satisfied e.now (all_of (visited_in_parts s.now e.now (parts_as parts.now)))) }
     ensures refused { OnErr result (FindsSome e.now (all_of (visited_in_parts s.now e.now (parts_as parts.now)))) }
-    ensures cost { IfOk result (λ cost. cost ≡ cost_of_leaves (visited_in_parts s.now e.now (parts_as parts.now))) }
+    ensures cost { OnOk result (cost.new ≡ cost_with cost.old (visited_in_parts s.now e.now (parts_as parts.now))) }
     ensures front { BeginsWith found.new.rows found.old.rows }
     ensures room { KeepsRoom found.old found.new }
 {
-    let mut cost = Cost::none();
     for part in parts {
-        cost = cost.plus(search_part(part, s, e, found)?);
+        search_part(part, s, e, found, cost)?;
     }
-    Ok(cost)
+    Ok(())
 }
 
 #[cycle(searches)]
-fn search_part(part: &Part, s: &Schema, e: &Sight, found: &mut Found) -> Result<Cost, NoMemory>
-    requires countable { AreCountable (visited_in_parts s.now e.now (parts_of (part_as part.now ∷ []))) }
+fn search_part(
+    part: &Part,
+    s: &Schema,
+    e: &Sight,
+    found: &mut Found,
+    cost: &mut Cost,
+) -> Result<(), NoMemory>
+    requires countable { AreCountableWith cost.old (visited_in_parts s.now e.now (parts_of (part_as part.now ∷ []))) }
     ensures put { OnOk result (found.new.rows ≡ found.old.rows ++ satisfied e.now (all_of (visited_in_parts s.now e.now (parts_of (part_as part.now ∷ []))))) }
     ensures refused { OnErr result (FindsSome e.now (all_of (visited_in_parts s.now e.now (parts_of (part_as part.now ∷ []))))) }
-    ensures cost { IfOk result (λ cost. cost ≡ cost_of_leaves (visited_in_parts s.now e.now (parts_of (part_as part.now ∷ [])))) }
+    ensures cost { OnOk result (cost.new ≡ cost_with cost.old (visited_in_parts s.now e.now (parts_of (part_as part.now ∷ [])))) }
     ensures front { BeginsWith found.new.rows found.old.rows }
     ensures room { KeepsRoom found.old found.new }
 {
-    if enters_part(part.attr, e) {
-        search_node(&part.root, s, e, whole_range(s, part.attr), found)
+    if e.assigns(part.attr) {
+        search_node(&part.root, s, e, whole_range(s, part.attr), found, cost)
     } else {
-        Ok(Cost::none())
+        Ok(())
     }
 }
 
+// The low half of a node of this range. The half's own range is made again where it is searched, and so stands in memory only then.
 #[cycle(searches)]
-fn search_half(
+fn search_low(
     half: &Option<Box<Node>>,
     s: &Schema,
     e: &Sight,
     range: NodeRange,
     found: &mut Found,
-) -> Result<Cost, NoMemory>
+    cost: &mut Cost,
+) -> Result<(), NoMemory>
     requires bounded { is_bounded range ≡ true }
-    requires countable { AreCountable (visited_in_half s.now e.now range (half_as half.now)) }
-    ensures put { OnOk result (found.new.rows ≡ found.old.rows ++ satisfied e.now (all_of (visited_in_half s.now e.now range (half_as half.now)))) }
-    ensures refused { OnErr result (FindsSome e.now (all_of (visited_in_half s.now e.now range (half_as half.now)))) }
-    ensures cost { IfOk result (λ cost. cost ≡ cost_of_leaves (visited_in_half s.now e.now range (half_as half.now))) }
+    requires rising { is_rising range ≡ true }
+    requires countable { AreCountableWith cost.old (visited_in_half s.now e.now (lower range) (half_as half.now)) }
+    ensures put { OnOk result (found.new.rows ≡ found.old.rows ++ satisfied e.now (all_of (visited_in_half s.now e.now (lower range) (half_as half.now)))) }
+    ensures refused { OnErr result (FindsSome e.now (all_of (visited_in_half s.now e.now (lower range) (half_as half.now)))) }
+    ensures cost { OnOk result (cost.new ≡ cost_with cost.old (visited_in_half s.now e.now (lower range) (half_as half.now))) }
     ensures front { BeginsWith found.new.rows found.old.rows }
     ensures room { KeepsRoom found.old found.new }
 {
     match half {
         Some(n) => {
-            if holds_value(range, e) {
-                search_node(n, s, e, range, found)
+            if e.holds_value(lower_range(range)) {
+                search_node(n, s, e, lower_range(range), found, cost)
             } else {
-                Ok(Cost::none())
+                Ok(())
             }
         }
-        None => Ok(Cost::none()),
+        None => Ok(()),
+    }
+}
+
+// The high half of a node of this range.
+#[cycle(searches)]
+fn search_high(
+    half: &Option<Box<Node>>,
+    s: &Schema,
+    e: &Sight,
+    range: NodeRange,
+    found: &mut Found,
+    cost: &mut Cost,
+) -> Result<(), NoMemory>
+    requires bounded { is_bounded range ≡ true }
+    requires rising { is_rising range ≡ true }
+    requires countable { AreCountableWith cost.old (visited_in_half s.now e.now (upper range) (half_as half.now)) }
+    ensures put { OnOk result (found.new.rows ≡ found.old.rows ++ satisfied e.now (all_of (visited_in_half s.now e.now (upper range) (half_as half.now)))) }
+    ensures refused { OnErr result (FindsSome e.now (all_of (visited_in_half s.now e.now (upper range) (half_as half.now)))) }
+    ensures cost { OnOk result (cost.new ≡ cost_with cost.old (visited_in_half s.now e.now (upper range) (half_as half.now))) }
+    ensures front { BeginsWith found.new.rows found.old.rows }
+    ensures room { KeepsRoom found.old found.new }
+{
+    match half {
+        Some(n) => {
+            if e.holds_value(upper_range(range)) {
+                search_node(n, s, e, upper_range(range), found, cost)
+            } else {
+                Ok(())
+            }
+        }
+        None => Ok(()),
     }
 }
 
@@ -133,19 +181,4 @@ fn test(
         found.push_again(row)?;
     }
     Ok(())
-}
-
-// Whether a search for the event enters the parts of the attribute.
-fn enters_part(a: AttrNo, e: &Sight) -> bool
-    ensures { result ≡ is_assigned e.now a }
-{
-    counts::enters_part(a, e.event())
-}
-
-// Whether the range holds at least one of the event's values of its attribute.
-fn holds_value(range: NodeRange, e: &Sight) -> bool
-    ensures value { result ≡ holds_value e.now range }
-    ensures rising { result ≡ true → is_rising range ≡ true }
-{
-    be_shape::holds_value(range, e.event())
 }

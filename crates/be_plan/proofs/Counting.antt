@@ -1,34 +1,29 @@
--- How often attributes are listed, row by row, and what that says of how many rows have them.
-use Rattle.std.proofs.Common.{◌≡◌, ℕ, zero, suc, ◌+◌, ◌-◌, ◌<◌, ◌≤◌, leb, Bool, true, false, true≢false, not, cond, ◌&&◌, ◌||◌, List, [], ◌∷◌, length, take, drop, length-drop, get_or, slice_get, Some, refl, sym, ap, ◌∙◌, subst, arith}
+-- How many rows pass a test, row by row, and whether enough have some attribute.
+use Rattle.std.proofs.Common.{◌≡◌, ⊎_elim, ℕ, zero, suc, ◌+◌, ◌-◌, ◌<◌, ◌≤◌, leb, eqb, Bool, true, false, true≢false, not, cond, ◌||◌, List, [], ◌∷◌, length, take, drop, length-drop, get_or, slice_get, Some, refl, sym, ap, ◌∙◌, subst, arith}
 use Rattle.std.specs.List.{list_all, list_any, count_by}
-use Rattle.std.proofs.lemmas.Bool.{leb-false, lt-leb, le-leb, and_parts, and_from, or_left, or_right, not_from_false, false_from_ne_true}
-use Rattle.std.proofs.lemmas.List.Sums.{count_by_more_yes, count_by_more_no, count_by-le-length, sum_by-take-le, sum_by-take-drop}
+use Rattle.std.proofs.lemmas.Bool.{lt-leb, le-leb, and_parts, and_from, or_cases, or_left, or_right, eqb-true, not_from_false, false_from_ne_true}
+use Rattle.std.proofs.lemmas.List.Sums.{count_by_more_yes, count_by_more_no, count_by-le-length, sum_by-take-drop}
 use Rattle.std.proofs.lemmas.List.{take_all}
 use Rattle.std.proofs.lemmas.Option.{slice_get_within, get_or_from_slice_get}
 use mathlib.Core.Logic.{dite}
 use native.Mathlib.Decide.{ℕ_discrete}
 use Rattle.be_base.specs.declared.names.AttrNo.{AttrNo}
-use Rattle.be_base.specs.declared.limits.TheConstants.{ATTRIBUTES, EARLY_ROWS, LEAF_ROWS}
+use Rattle.be_base.specs.declared.limits.TheConstants.{ATTRIBUTES, EARLY_ROWS}
 use Rattle.be_model.specs.declared.changes.Row.{Row}
 use Rattle.be_model.specs.Lies.{row_lies}
 use Rattle.be_model.specs.Rows.{has}
 use Rattle.be_model.specs.Schemas.{Attributes, numbered}
 use Rattle.be_score.proofs.Widths.{attr-below}
+use Rattle.be_shape.specs.Common.{AreCommon}
+use Rattle.be_shape.specs.Listed.{is_many, any_listed}
 use Rattle.be_shape.specs.Shape.{is_used}
-use Rattle.be_plan.specs.Splits.{may_have, is_had, any_is_had, most_of, IsMost, Counts}
-use Rattle.be_plan.proofs.Counts.{fewer}
-use Rattle.be_plan.proofs.Fails.{has_may}
-
--- one count after another: of each attribute one more is counted where either test holds
-pub both : (bound : ℕ) (p q : ℕ → Bool) (c c1 c2 : List ℕ) (m m1 m2 : ℕ) → Counts (suc bound) p c m c1 m1 → Counts (suc bound) q c1 m1 c2 m2 → Counts bound (λ a. p a || q a) c m c2 m2
-both bound p q c c1 c2 m m1 m2 f g a n l b h = by_first (p a) (f a n l (omega (arith, b)) h)
-  where
-    by_first : (t : Bool) → n + cond t 1 0 ≤ most_of c1 m1 a → n + cond (t || q a) 1 0 ≤ most_of c2 m2 a
-    by_first true k = let e = g a (n + 1) l (omega (arith, b)) k in omega (arith, e)
-    by_first false k = g a n l (omega (arith, b)) (omega (arith, k))
+use Rattle.be_shape.specs.declared.listings.RowAttrs.{RowAttrs}
+use Rattle.be_shape.specs.declared.listings.RowAttrs.TheVariants.{Zero, One, Two, Three, Many}
+use Rattle.be_plan.specs.Splits.{is_had, any_is_had}
+use Rattle.be_plan.proofs.Counts.{some_pass}
 
 -- a row more
-pub one_more : (p : Row → Bool) (rows : List Row) (i : ℕ) (x : Row) → slice_get rows i ≡ Some x → count_by p (take (i + 1) rows) ≡ count_by p (take i rows) + cond (p x) 1 0
+one_more : (p : Row → Bool) (rows : List Row) (i : ℕ) (x : Row) → slice_get rows i ≡ Some x → count_by p (take (i + 1) rows) ≡ count_by p (take i rows) + cond (p x) 1 0
 one_more p rows i x at = by_test (p x) refl
   where
     is : get_or rows i x ≡ x
@@ -38,14 +33,6 @@ one_more p rows i x at = by_test (p x) refl
     by_test true e = count_by_more_yes p rows i x (slice_get_within rows i x at) (ap p is ∙ e)
     by_test false e =
         let k = count_by_more_no p rows i x (slice_get_within rows i x at) (ap p is ∙ e) in omega (arith, k)
-
-pub most_more : (rows : List Row) (i : ℕ) (x : Row) (c c1 : List ℕ) (m m1 : ℕ) → length rows ≤ LEAF_ROWS → slice_get rows i ≡ Some x → Counts 253 (λ a. may_have (numbered a) x) c m c1 m1 → IsMost (take i rows) c m → IsMost (take (i + 1) rows) c1 m1
-most_more rows i x c c1 m m1 few at counts most a l =
-    let p = may_have (numbered a) in
-    let most_rows = sum_by-take-le (λ row. cond (p row) 1 0) rows i in
-    let all = count_by-le-length p rows in
-    let e = one_more p rows i x at in
-    let k = counts a (count_by p (take i rows)) l (omega arith) (most a l) in omega (arith, e, k)
 
 -- rows of which some pass and the others fail
 abbrev pub Fail : (Row → Bool) → List Row → ℕ → ℕ → Type 0
@@ -64,19 +51,6 @@ too_many p rows i fails many in_rows h l =
 pub few_enough : (p : Row → Bool) (rows : List Row) (i fails : ℕ) → EARLY_ROWS ≤ length rows → length rows ≤ i → i ≤ length rows → Fail p rows i fails → fails ≤ length rows - EARLY_ROWS → leb EARLY_ROWS (count_by p rows) ≡ true
 few_enough p rows i fails many all in_rows h l =
     let e = ap (count_by p) (take_all i rows all) in le-leb EARLY_ROWS (count_by p rows) (omega (arith, e, many, all, in_rows, h, l))
-
--- where the tally tells that fewer than 8 rows have the attribute
-pub not_had : (used : List AttrNo) (a : AttrNo) (rows : List Row) (c : List ℕ) (m : ℕ) → a.0 < ATTRIBUTES → IsMost rows c m → leb EARLY_ROWS (most_of c m a.0) ≡ false → is_had used rows a ≡ false
-not_had used a rows c m l most h =
-    let few = leb-false EARLY_ROWS (most_of c m a.0) h in
-    let may = most a.0 l in
-    let less = fewer (has a) (may_have a) rows (has_may a) in
-    let none = lt-leb EARLY_ROWS (count_by (has a) rows) (omega (arith, few, may, less)) in
-    ap (λ b. not (is_used used a) && b) none ∙ and_no (not (is_used used a))
-  where
-    and_no : (b : Bool) → (b && false) ≡ false
-    and_no true = refl
-    and_no false = refl
 
 -- one below a number
 pub had_below : (used : List AttrNo) (rows : List Row) (n m : ℕ) → n < m → is_had used rows (numbered n) ≡ true → any_is_had used rows m ≡ true
@@ -103,3 +77,56 @@ too_few_have s used a rows lies some unused h = false_from_ne_true (leb EARLY_RO
     none e =
         let is = and_from (not (is_used used a)) (leb EARLY_ROWS (count_by (has a) rows)) (not_from_false (is_used used a) unused) e in
         true≢false (sym (had_below used rows a.0 (length s) (some_below s a rows lies some) is) ∙ h)
+
+-- an attribute that is had is one of the schema
+had_somewhere : (s : Attributes) (used : List AttrNo) (a : AttrNo) (rows : List Row) → list_all (row_lies s) rows ≡ true → is_had used rows a ≡ true → any_is_had used rows (length s) ≡ true
+had_somewhere s used a rows lies h =
+    let k = and_parts (not (is_used used a)) (leb EARLY_ROWS (count_by (has a) rows)) h in
+    had_below used rows a.0 (length s) (some_below s a rows lies (some_pass (has a) rows k.1)) h
+
+-- of attributes of which one is listed that passes a test, one passes it
+one_of : (test : AttrNo → Bool) (l : RowAttrs) (R : Type 0) → ((a : AttrNo) → test a ≡ true → R) → any_listed test l ≡ true → R
+one_of test Zero R f h = absurd (true≢false (sym h))
+one_of test (One x) R f h = f (numbered x) h
+one_of test (Two x y) R f h = ⊎_elim (f (numbered x)) (f (numbered y)) (or_cases (test (numbered x)) (test (numbered y)) h)
+one_of test (Three x y z) R f h =
+    ⊎_elim (λ k. ⊎_elim (f (numbered x)) (f (numbered y)) (or_cases (test (numbered x)) (test (numbered y)) k)) (f (numbered z)) (or_cases (test (numbered x) || test (numbered y)) (test (numbered z)) h)
+one_of test Many R f h = absurd (true≢false (sym h))
+
+-- the listed one that is this one passes the test too
+listed_same : (test : AttrNo → Bool) (a : AttrNo) (l : RowAttrs) → test a ≡ true → any_listed (λ (b : AttrNo). eqb b.0 a.0) l ≡ true → any_listed test l ≡ true
+listed_same test a l t e = by_list l e
+  where
+    same : (x : ℕ) → eqb x a.0 ≡ true → test (numbered x) ≡ true
+    same x k = ap (λ n. test (numbered n)) (eqb-true x a.0 k) ∙ t
+
+    either : (x y : ℕ) → (eqb x a.0 || eqb y a.0) ≡ true → (test (numbered x) || test (numbered y)) ≡ true
+    either x y k = ⊎_elim (λ i. or_left (test (numbered x)) (test (numbered y)) (same x i)) (λ i. or_right (test (numbered x)) (test (numbered y)) (same y i)) (or_cases (eqb x a.0) (eqb y a.0) k)
+
+    by_list : (m : RowAttrs) → any_listed (λ (b : AttrNo). eqb b.0 a.0) m ≡ true → any_listed test m ≡ true
+    by_list Zero k = absurd (true≢false (sym k))
+    by_list (One x) k = same x k
+    by_list (Two x y) k = either x y k
+    by_list (Three x y z) k =
+        ⊎_elim (λ i. or_left (test (numbered x) || test (numbered y)) (test (numbered z)) (either x y i)) (λ i. or_right (test (numbered x) || test (numbered y)) (test (numbered z)) (same z i)) (or_cases (eqb x a.0 || eqb y a.0) (eqb z a.0) k)
+    by_list Many k = absurd (true≢false (sym k))
+
+-- where an attribute below a number is had, there is one
+one_had : (used : List AttrNo) (rows : List Row) (n : ℕ) (R : Type 0) → ((a : AttrNo) → is_had used rows a ≡ true → R) → any_is_had used rows n ≡ true → R
+one_had used rows zero R f h = absurd (true≢false (sym h))
+one_had used rows (suc n) R f h = ⊎_elim (one_had used rows n R f) (f (numbered n)) (or_cases (any_is_had used rows n) (is_had used rows (numbered n)) h)
+
+-- some attribute is had where one is of those that many rows have
+pub common_had : (s : Attributes) (used : List AttrNo) (rows : List Row) (l : RowAttrs) → length s ≤ ATTRIBUTES → list_all (row_lies s) rows ≡ true → is_many l ≡ false → AreCommon rows l → any_listed (is_had used rows) l ≡ any_is_had used rows (length s)
+common_had s used rows l small lies few common = by_tests (any_listed (is_had used rows) l) (any_is_had used rows (length s)) refl refl
+  where
+    listed : (a : AttrNo) → is_had used rows a ≡ true → any_listed (is_had used rows) l ≡ true
+    listed a h =
+        let k = and_parts (not (is_used used a)) (leb EARLY_ROWS (count_by (has a) rows)) h in
+        let below = some_below s a rows lies (some_pass (has a) rows k.1) in listed_same (is_had used rows) a l h (common few a (omega (arith, below, small)) k.1)
+
+    by_tests : (b c : Bool) → any_listed (is_had used rows) l ≡ b → any_is_had used rows (length s) ≡ c → b ≡ c
+    by_tests true true e g = refl
+    by_tests true false e g = sym (one_of (is_had used rows) l (any_is_had used rows (length s) ≡ true) (λ a. had_somewhere s used a rows lies) e) ∙ g
+    by_tests false true e g = sym e ∙ one_had used rows (length s) (any_listed (is_had used rows) l ≡ true) listed g
+    by_tests false false e g = refl

@@ -1,9 +1,9 @@
 -- How many pass a test, and whether enough do.
-use Rattle.std.proofs.Common.{◌≡◌, ◌+◌, ◌<◌, ◌≤◌, leb, eqb, Bool, true, false, true≢false, not, cond, List, [], ◌∷◌, length, refl, sym, ap, ◌∙◌, arith}
+use Rattle.std.proofs.Common.{◌≡◌, ◌<◌, leb, eqb, Bool, true, false, not, cond, List, [], ◌∷◌, length, refl, ap, ◌∙◌, arith}
 use Rattle.std.specs.List.{list_all, list_any, count_by}
 use Rattle.std.proofs.lemmas.Bool.{eqb-true, lt-leb, leb-true, or_parts, and_from}
 use Rattle.std.proofs.lemmas.List.Folds.{sum_by-zero}
-use Rattle.std.proofs.lemmas.List.Sums.{sum_by-cons, count_by-le-length}
+use Rattle.std.proofs.lemmas.List.Sums.{count_by-le-length}
 use Rattle.be_base.specs.declared.limits.TheConstants.{EARLY_ROWS}
 use Rattle.be_shape.proofs.Levels.{same_tests}
 
@@ -35,17 +35,3 @@ too_few p xs l = let m = count_by-le-length p xs in lt-leb EARLY_ROWS (count_by 
 
 pub not_enough : {X : Type 0} (p : X → Bool) (xs : List X) → list_all (λ x. not (p x)) xs ≡ true → leb EARLY_ROWS (count_by p xs) ≡ false
 not_enough p xs h = let z = none_counted p xs h in lt-leb EARLY_ROWS (count_by p xs) (omega arith)
-
--- no more pass than pass a wider test
-one_more : {X : Type 0} (p : X → Bool) (x : X) (xs : List X) (b : Bool) → p x ≡ b → count_by p (x ∷ xs) ≡ cond b 1 0 + count_by p xs
-one_more p x xs b e = sum_by-cons (λ y. cond (p y) 1 0) x xs ∙ ap (λ t. cond t 1 0 + count_by p xs) e
-
-pub fewer : {X : Type 0} (p q : X → Bool) (xs : List X) → ((x : X) → p x ≡ true → q x ≡ true) → count_by p xs ≤ count_by q xs
-fewer p q [] f = omega arith
-fewer p q (x ∷ xs) f = by_tests (p x) (q x) refl refl (fewer p q xs f)
-  where
-    by_tests : (b c : Bool) → p x ≡ b → q x ≡ c → count_by p xs ≤ count_by q xs → count_by p (x ∷ xs) ≤ count_by q (x ∷ xs)
-    by_tests true true e g h = let i = one_more p x xs true e in let j = one_more q x xs true g in omega arith
-    by_tests true false e g h = absurd (true≢false (sym (f x e) ∙ g))
-    by_tests false true e g h = let i = one_more p x xs false e in let j = one_more q x xs true g in omega arith
-    by_tests false false e g h = let i = one_more p x xs false e in let j = one_more q x xs false g in omega arith

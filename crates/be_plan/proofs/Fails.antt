@@ -1,16 +1,12 @@
--- Enough rows pass a test where few fail it, and a row that has an attribute may have it.
-use Rattle.std.proofs.Common.{◌≡◌, ℕ, zero, suc, ◌+◌, ◌-◌, ◌≤◌, eqb, leb, Bool, true, false, cond, ◌||◌, List, [], ◌∷◌, length, drop, slice_get, Some, refl, sym, ap, ◌∙◌, arith}
+-- Enough rows pass a test where few fail it.
+use Rattle.std.proofs.Common.{◌≡◌, ℕ, zero, suc, ◌+◌, ◌-◌, ◌≤◌, eqb, leb, Bool, true, false, cond, List, [], ◌∷◌, length, drop, slice_get, Some, refl, sym, ap, ◌∙◌, arith}
 use Rattle.std.specs.List.{count_by}
-use Rattle.std.proofs.lemmas.Bool.{le-leb, lt-leb, or_left, or_right}
+use Rattle.std.proofs.lemmas.Bool.{le-leb, lt-leb}
 use Rattle.std.proofs.lemmas.Bool.Decides.{nat_tests}
 use Rattle.std.proofs.lemmas.List.Sums.{sum_by-cons, count_by-le-length}
-use Rattle.be_base.specs.declared.names.AttrNo.{AttrNo}
 use Rattle.be_base.specs.declared.limits.TheConstants.{EARLY_ROWS}
 use Rattle.be_model.specs.declared.changes.Row.{Row}
-use Rattle.be_model.specs.Rows.{has}
-use Rattle.be_shape.specs.Listed.{is_many, any_listed, attrs_of}
-use Rattle.be_shape.proofs.FewAttrs.{has_is_listed}
-use Rattle.be_plan.specs.Splits.{may_have, few_fail}
+use Rattle.be_plan.specs.Splits.{few_fail}
 use Rattle.be_plan.proofs.Rows.{at_place}
 
 counted : (test : Row → Bool) (row : Row) (rows : List Row) → count_by test (row ∷ rows) ≡ cond (test row) 1 0 + count_by test rows
@@ -63,14 +59,3 @@ passes_on test spare i x rows at t =
 pub fails_on : (test : Row → Bool) (spare i : ℕ) (x : Row) (rows : List Row) → slice_get rows i ≡ Some x → test x ≡ false → few_fail test spare (drop i rows) ≡ cond (eqb spare 0) false (few_fail test (spare - 1) (drop (i + 1) rows))
 fails_on test spare i x rows at t =
     ap (few_fail test spare) (at_place rows i x at) ∙ ap (λ b. cond b (few_fail test spare (drop (i + 1) rows)) (cond (eqb spare 0) false (few_fail test (spare - 1) (drop (i + 1) rows)))) t
-
--- a row that has the attribute may have it, for all that its place tells
-pub has_may : (a : AttrNo) (row : Row) → has a row ≡ true → may_have a row ≡ true
-has_may a row h = by_many (is_many (attrs_of row.conj)) refl
-  where
-    listed : Bool
-    listed = any_listed (λ (b : AttrNo). eqb b.0 a.0) (attrs_of row.conj)
-
-    by_many : (b : Bool) → is_many (attrs_of row.conj) ≡ b → (is_many (attrs_of row.conj) || listed) ≡ true
-    by_many true e = or_left (is_many (attrs_of row.conj)) listed e
-    by_many false e = or_right (is_many (attrs_of row.conj)) listed (sym (has_is_listed row.conj a e) ∙ h)

@@ -2,6 +2,7 @@ pub mod Rooms
 pub mod Rows
 pub mod Stays
 pub mod Ids
+pub mod Thousandths
 pub mod Gains
 pub mod Moves
 pub mod Counts
@@ -12,5 +13,6 @@ pub mod Places
 pub mod Firsts
 pub mod Narrow
 pub mod Apart
+pub mod FullNodes
 pub mod Seeking
 pub mod Law

@@ -1,12 +1,13 @@
 -- Where a child may be merged.
-use Rattle.std.specs.Prelude.{ℕ, ◌-◌, ◌==◌, Bool, true, false, not, List, nat_le, Option, Some, None, if◌then◌else◌}
+use Rattle.std.specs.Prelude.{ℕ, ◌-◌, ◌==◌, Bool, true, false, not, List, length, nat_lt, nat_le, Option, Some, None, if◌then◌else◌}
 use Rattle.std.specs.List.{list_all, list_any}
 use Rattle.be_model.specs.declared.changes.Row.{Row}
 use Rattle.be_base.specs.declared.names.AttrNo.{AttrNo}
+use Rattle.be_base.specs.declared.limits.TheConstants.{MERGE_ROWS}
 use Rattle.be_model.specs.declared.paths.Hop.{Hop}
 use Rattle.be_model.specs.declared.paths.Hop.TheVariants.{Part, Low, High}
 use Rattle.be_model.specs.Schemas.{Attributes}
-use Rattle.be_shape.specs.Plain.{Plain}
+use Rattle.be_shape.specs.Plain.{Plain, leaf_of}
 use Rattle.be_shape.specs.Shape.{NodeRange}
 use Rattle.be_shape.specs.Children.{children, may_pass}
 use Rattle.be_shape.specs.Steps.{without_child}
@@ -34,3 +35,14 @@ abbrev pub is_same : Hop → Hop → Bool
 is_same Low Low = true
 is_same High High = true
 is_same half hop = false
+
+-- the node has more rows in its own leaf than are merged
+abbrev pub is_full : Plain → Bool
+is_full n = nat_lt MERGE_ROWS (length (leaf_of n))
+
+-- each of these has, and each child
+abbrev pub all_full : List (Hop × Plain) → Bool
+all_full xs = list_all (λ (x : Hop × Plain). is_full x.1) xs
+
+abbrev pub are_full : Plain → Bool
+are_full n = all_full (children n)

@@ -1,7 +1,7 @@
 -- The first splits at a node.
-use Rattle.std.specs.Prelude.{ℕ, zero, suc, ◌+◌, ◌-◌, ◌<◌, ◌≤◌, ◌==◌, ◌&&◌, ◌||◌, Bool, true, false, not, List, [], ◌∷◌, nat_le, count_by, slice_index_or, Option, Some, None, if◌then◌else◌}
+use Rattle.std.specs.Prelude.{ℕ, zero, suc, ◌-◌, ◌==◌, ◌&&◌, ◌||◌, Bool, true, false, not, List, [], ◌∷◌, nat_le, count_by, Option, Some, None, if◌then◌else◌}
 use Rattle.be_base.specs.declared.names.AttrNo.{AttrNo}
-use Rattle.be_base.specs.declared.limits.TheConstants.{ATTRIBUTES, EARLY_ROWS}
+use Rattle.be_base.specs.declared.limits.TheConstants.{EARLY_ROWS}
 use Rattle.be_model.specs.declared.changes.Row.{Row}
 use Rattle.be_model.specs.declared.paths.Hop.{Hop}
 use Rattle.be_model.specs.declared.paths.Hop.TheVariants.{Part, Low, High}
@@ -10,20 +10,10 @@ use Rattle.be_model.specs.Schemas.{Attributes, numbered}
 use Rattle.be_score.specs.Picks.{pick}
 use Rattle.be_shape.specs.Shape.{NodeRange, Known, is_used, can_split}
 use Rattle.be_shape.specs.Children.{may_pass}
-use Rattle.be_shape.specs.declared.listings.RowAttrs.{RowAttrs}
-use Rattle.be_shape.specs.Listed.{is_many, any_listed, attrs_of}
 
 -- at least 8 rows may pass
 abbrev pub enough_pass : Attributes → Hop → NodeRange → List Row → Bool
 enough_pass s hop r rows = nat_le EARLY_ROWS (count_by (may_pass s hop r) rows)
-
--- the attribute is listed, or the attributes aren't
-abbrev pub may_list : AttrNo → RowAttrs → Bool
-may_list a l = is_many l || any_listed (λ b. b.0 == a.0) l
-
--- the row has the attribute, or more attributes than its place tells
-abbrev pub may_have : AttrNo → Row → Bool
-may_have a row = may_list a (attrs_of row.conj)
 
 -- the attribute isn't used, and at least 8 rows have it
 abbrev pub is_had : List AttrNo → List Row → AttrNo → Bool
@@ -35,20 +25,6 @@ abbrev pub any_is_had : List AttrNo → List Row → ℕ → Bool
 any_is_had used rows zero = false
 any_is_had used rows (suc n) =
     any_is_had used rows n || is_had used rows (numbered n)
-
--- how often an attribute is listed, with the rows that list none
-abbrev pub most_of : List ℕ → ℕ → ℕ → ℕ
-most_of counts many a = slice_index_or counts a 0 + many
-
--- no attribute is had by more of the rows than that
-abbrev pub IsMost : List Row → List ℕ → ℕ → Type 0
-IsMost rows counts many =
-    (a : ℕ) → a < ATTRIBUTES → count_by (may_have (numbered a)) rows ≤ most_of counts many a
-
--- of each attribute one more is counted where a test holds, as long as there are fewer than a bound
-abbrev pub Counts : ℕ → (ℕ → Bool) → List ℕ → ℕ → List ℕ → ℕ → Type 0
-Counts bound test counts many counts' many' =
-    (a n : ℕ) → a < ATTRIBUTES → n < bound → n ≤ most_of counts many a → n + (if test a then 1 else 0) ≤ most_of counts' many' a
 
 -- at most so many rows fail the test
 abbrev pub few_fail : (Row → Bool) → ℕ → List Row → Bool

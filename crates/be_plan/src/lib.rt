@@ -7,14 +7,15 @@
 #![tactic(auto)]
 
 mod bests;
+mod fulls;
 mod laws;
 mod merges;
 mod movers;
 mod plans;
 mod seeks;
+mod shares;
 mod shifts;
 mod splits;
-mod tallies;
 
 pub use laws::plan_is_whole;
 pub use plans::plan;

@@ -10,10 +10,12 @@ ghost use Rattle.be_shape.specs.Paths.{child, in_half};
 ghost use Rattle.be_shape.specs.Children.{known_below};
 ghost use Rattle.be_shape.specs.NodeList.{node_at, nodes_from, nodes_in_half};
 ghost use Rattle.be_shape.specs.Spots.{known_of, CanLeave, used_above};
+ghost use Rattle.be_plan.specs.Merges.{are_full};
 ghost use Rattle.be_plan.specs.Plan.{merges, shifts, part_splits, half_splits};
 ghost use Rattle.be_plan.specs.Best.{IsAt, first, better, after_others, best_after, below_after};
 
 use crate::bests::{Best, HALF_SPLITS, MERGES, PART_SPLITS, SHIFTS};
+use crate::fulls::are_full;
 use crate::merges::{Above, may_merge};
 use crate::shifts::shift_at;
 use crate::splits::{half_split_at, part_split_at};
@@ -21,10 +23,11 @@ use be_base::NoMemory;
 use be_model::{Hop, Path, Step};
 use be_shape::{Node, NodeRange, Part, Spot, Tree};
 
-// Looks at the child that a step leads to, as one to be merged.
+// Looks at the child that a step leads to, as one to be merged, but where all children are too full for that.
 fn look_at_merge(
     t: &Tree,
     n: &Node,
+    full: bool,
     hop: Hop,
     m: &Node,
     k: &Spot,
@@ -32,9 +35,13 @@ fn look_at_merge(
     best: &mut Best,
 ) -> Result<(), NoMemory>
     requires at { IsAt (arc_value t.now.schema) (plain t.now.root) path.now (known_of k.now) (plain n.now) }
+    requires full { full ≡ are_full (plain n.now) }
     requires there { child hop (plain n.now) ≡ Some (plain m.now) }
     ensures { OnOk result (best.new ≡ better MERGES (first (arc_value t.now.schema) (plain t.now.root) (Merge (path.now ++ hop ∷ []) ∷ [])) best.old) }
 {
+    if full {
+        return Ok(());
+    }
     if best.sought <= MERGES {
         return Ok(());
     }
@@ -123,6 +130,7 @@ fn look(t: &Tree, n: &Node, k: &Spot, path: &Path, best: &mut Best) -> Result<()
 fn go_down(
     t: &Tree,
     n: &Node,
+    full: bool,
     hop: Hop,
     m: &Node,
     k: &mut Spot,
@@ -130,12 +138,13 @@ fn go_down(
     best: &mut Best,
 ) -> Result<(), NoMemory>
     requires at { IsAt (arc_value t.now.schema) (plain t.now.root) path.old (known_of k.old) (plain n.now) }
+    requires full { full ≡ are_full (plain n.now) }
     requires there { child hop (plain n.now) ≡ Some (plain m.now) }
     ensures best { OnOk result (best.new ≡ better MERGES (first (arc_value t.now.schema) (plain t.now.root) (Merge (path.old ++ hop ∷ []) ∷ [])) best.old) }
     ensures path { OnOk result (path.new ≡ path.old ++ hop ∷ []) }
     ensures known { OnOk result (known_of k.new ≡ known_below (arc_value t.now.schema) hop (known_of k.old)) }
 {
-    look_at_merge(t, n, hop, m, k, path, best)?;
+    look_at_merge(t, n, full, hop, m, k, path, best)?;
     path.push(hop)?;
     k.enter(&t.schema, hop)?;
     Ok(())
@@ -171,12 +180,13 @@ pub(crate) fn seek(
     if best.sought == MERGES {
         return Ok(());
     }
+    let full = are_full(n);
     look(t, n, k, path, best)?;
     for part in n.parts.as_slice() {
-        seek_part(t, part, n, k, path, best)?;
+        seek_part(t, part, n, full, k, path, best)?;
     }
-    seek_half(t, &n.low, Hop::Low, n, k, path, best)?;
-    seek_half(t, &n.high, Hop::High, n, k, path, best)?;
+    seek_half(t, &n.low, Hop::Low, n, full, k, path, best)?;
+    seek_half(t, &n.high, Hop::High, n, full, k, path, best)?;
     Ok(())
 }
 
@@ -186,11 +196,13 @@ fn seek_part(
     t: &Tree,
     part: &Part,
     n: &Node,
+    full: bool,
     k: &mut Spot,
     path: &mut Path,
     best: &mut Best,
 ) -> Result<(), NoMemory>
     requires at { IsAt (arc_value t.now.schema) (plain t.now.root) path.old (known_of k.old) (plain n.now) }
+    requires full { full ≡ are_full (plain n.now) }
     requires there { child (Hop.Part (part_as part.now).0) (plain n.now) ≡ Some (part_as part.now).1 }
     ensures best { OnOk result (best.new ≡ best_after (arc_value t.now.schema) t.now.alpha (plain t.now.root) (nodes_from (arc_value t.now.schema) (path.old ++ Hop.Part (part_as part.now).0 ∷ []) (in_part (arc_value t.now.schema) (part_as part.now).0 (known_of k.old)) (part_as part.now).1) best.old) }
     ensures path { OnOk result (path.new ≡ path.old) }
@@ -198,7 +210,7 @@ fn seek_part(
 {
     let hop = Hop::Part(part.attr);
     let range = k.range;
-    go_down(t, n, hop, &part.root, k, path, best)?;
+    go_down(t, n, full, hop, &part.root, k, path, best)?;
     seek(t, &part.root, k, path, best)?;
     go_up(hop, range, k, path);
     Ok(())
@@ -211,11 +223,13 @@ fn seek_half(
     half: &Option<Box<Node>>,
     hop: Hop,
     n: &Node,
+    full: bool,
     k: &mut Spot,
     path: &mut Path,
     best: &mut Best,
 ) -> Result<(), NoMemory>
     requires at { IsAt (arc_value t.now.schema) (plain t.now.root) path.old (known_of k.old) (plain n.now) }
+    requires full { full ≡ are_full (plain n.now) }
     requires there { child hop (plain n.now) ≡ in_half (half_as half.now) }
     ensures best { OnOk result (best.new ≡ best_after (arc_value t.now.schema) t.now.alpha (plain t.now.root) (nodes_in_half (arc_value t.now.schema) (path.old ++ hop ∷ []) (known_below (arc_value t.now.schema) hop (known_of k.old)) (half_as half.now)) best.old) }
     ensures path { OnOk result (path.new ≡ path.old) }
@@ -225,7 +239,7 @@ fn seek_half(
         return Ok(());
     };
     let range = k.range;
-    go_down(t, n, hop, m, k, path, best)?;
+    go_down(t, n, full, hop, m, k, path, best)?;
     seek(t, m, k, path, best)?;
     go_up(hop, range, k, path);
     Ok(())

@@ -13,7 +13,8 @@ ghost use Rattle.be_shape.specs.Plain.{Plain, plain, parts_as, half_as, part_as,
 ghost use Rattle.be_shape.specs.Shape.{attrs_of, may_stand, whole};
 ghost use Rattle.be_plan.specs.Shifts.{gain_of, lower_id, least_gain, first_shift, are_small, is_narrow, IsBelow, ChildBelow, PartsBelow, IsRightSomewhere};
 
-use crate::movers::{Mover, are_small, gains_somewhere, is_among, is_light, own_at, width_of};
+use crate::movers::{Mover, are_small, gains_somewhere, is_among};
+use crate::shares::{is_light, share_at, width_of};
 use be_base::{AttrNo, Id, LEAF_ROWS, SHIFT_GAIN};
 use be_model::{Row, Schema};
 use be_score::weight;
@@ -70,9 +71,10 @@ fn gain_at(leaf: &Leaf, place: usize, row: &Row, from: &From) -> Option<(Id, Att
     requires may { may_stand from.now.s.now row.now ≡ true }
     ensures { result ≡ gain_of from.now.s.now (attrs_of (parts_as from.now.parts.now)) from.now.attr row.now }
 {
-    let Some(own) = own_at(leaf, place, row, from.s, from.attr, from.small) else {
+    let own = share_at(leaf, place, row, from.s, from.attr);
+    if is_light(from.small, own.values, own.domain) {
         return None;
-    };
+    }
     let mover = Mover {
         leaf,
         place,
@@ -85,7 +87,7 @@ fn gain_at(leaf: &Leaf, place: usize, row: &Row, from: &From) -> Option<(Id, Att
     if !gains_somewhere(&mover) {
         return None;
     }
-    first_gain(row, from, own)
+    first_gain(row, from, own.weight() as i64)
 }
 
 // Whether the range is so little of the attribute's domain that no row inside gains.

@@ -2,20 +2,23 @@
 
 ghost use Rattle.std.specs.Prelude.{◌≡◌, ◌≤◌, ◌<◌, ◌+◌, ◌-◌, ◌||◌, true, not, length, nat_le, slice_get, Some, if◌then◌else◌};
 ghost use Rattle.std.specs.List.{list_all};
-ghost use Rattle.be_base.specs.declared.limits.TheConstants.{ATTRIBUTES, EARLY_ROWS, LEAF_ROWS};
+ghost use Rattle.be_base.specs.declared.limits.TheConstants.{EARLY_ROWS, LEAF_ROWS};
 ghost use Rattle.be_model.specs.Lies.{row_lies};
+ghost use Rattle.be_model.specs.Schemas.{numbered};
 ghost use Rattle.be_model.specs.declared.paths.Hop.TheVariants.{Low, High};
 ghost use Rattle.be_shape.specs.Shape.{can_split, is_inside, is_stuck};
 ghost use Rattle.be_shape.specs.Children.{may_pass};
+ghost use Rattle.be_shape.specs.Listed.{any_listed};
 ghost use Rattle.be_shape.specs.Ranges.{is_bounded, is_rising};
 ghost use Rattle.be_shape.specs.Spots.{known_of};
-ghost use Rattle.be_plan.specs.Splits.{enough_pass, is_had, any_is_had, IsMost, early_part, early_half};
+ghost use Rattle.be_plan.specs.Splits.{enough_pass, is_had, any_is_had, early_part, early_half};
 
-use crate::tallies::Tally;
 use be_base::{AttrNo, EARLY_ROWS, LEAF_ROWS};
 use be_model::{Hop, Row, Schema};
 use be_score::pick_attr;
-use be_shape::{Leaf, NodeRange, Spot, can_split, is_used, lower_range, may_pass_at, upper_range};
+use be_shape::{
+    Leaf, NodeRange, RowAttrs, Spot, can_split, is_used, lower_range, may_pass_at, upper_range,
+};
 
 // How many rows of the leaf may fail a test that at least 8 are to pass.
 fn spare_rows(leaf: &Leaf) -> usize
@@ -45,37 +48,79 @@ fn enough_pass(leaf: &Leaf, s: &Schema, hop: Hop, range: NodeRange) -> bool
     true
 }
 
-// Whether the attribute isn't used, and at least 8 rows of the leaf have it. Mostly the tally tells that they don't.
-fn is_had(a: AttrNo, tally: &Tally, leaf: &Leaf, s: &Schema, k: &Spot) -> bool
+// Whether the attribute isn't used, and at least 8 rows of the leaf have it.
+fn is_had(a: AttrNo, leaf: &Leaf, s: &Schema, k: &Spot) -> bool
     requires lie { list_all (row_lies s.now) leaf.now ≡ true }
     requires many { EARLY_ROWS ≤ length leaf.now }
-    requires below { a.0 < ATTRIBUTES }
-    requires most { IsMost leaf.now tally.now.counts tally.now.many }
     ensures { result ≡ is_had (known_of k.now).used leaf.now a }
 {
-    if !tally.allows(a) {
-        return false;
-    }
     if is_used(k.used.as_slice(), a) {
         return false;
     }
     enough_pass(leaf, s, Hop::Part(a), k.range)
 }
 
-// Whether at least 8 rows of the leaf have some attribute that isn't used.
-fn any_is_had(leaf: &Leaf, s: &Schema, k: &Spot) -> bool
+// Whether that holds of an attribute of the schema.
+fn any_below_is_had(leaf: &Leaf, s: &Schema, k: &Spot) -> bool
     requires lie { list_all (row_lies s.now) leaf.now ≡ true }
     requires many { EARLY_ROWS ≤ length leaf.now }
-    requires few { length leaf.now ≤ LEAF_ROWS }
     ensures { result ≡ any_is_had (known_of k.now).used leaf.now (length s.now) }
 {
-    let tally = Tally::of(leaf);
     for number in 0..s.count() {
-        if is_had(AttrNo(number), &tally, leaf, s, k) {
+        if is_had(AttrNo(number), leaf, s, k) {
             return true;
         }
     }
     false
+}
+
+// Whether it holds of the attribute of this number.
+fn one_is_had(x: u8, leaf: &Leaf, s: &Schema, k: &Spot) -> bool
+    requires lie { list_all (row_lies s.now) leaf.now ≡ true }
+    requires many { EARLY_ROWS ≤ length leaf.now }
+    ensures { result ≡ is_had (known_of k.now).used leaf.now (numbered x) }
+{
+    is_had(AttrNo(u16::from(x)), leaf, s, k)
+}
+
+fn either_is_had(x: u8, y: u8, leaf: &Leaf, s: &Schema, k: &Spot) -> bool
+    requires lie { list_all (row_lies s.now) leaf.now ≡ true }
+    requires many { EARLY_ROWS ≤ length leaf.now }
+    ensures { result ≡ (is_had (known_of k.now).used leaf.now (numbered x) || is_had (known_of k.now).used leaf.now (numbered y)) }
+{
+    one_is_had(x, leaf, s, k) || one_is_had(y, leaf, s, k)
+}
+
+// Whether it holds of one of the attributes.
+fn listed_is_had(attrs: RowAttrs, leaf: &Leaf, s: &Schema, k: &Spot) -> bool
+    requires lie { list_all (row_lies s.now) leaf.now ≡ true }
+    requires many { EARLY_ROWS ≤ length leaf.now }
+    ensures { result ≡ any_listed (is_had (known_of k.now).used leaf.now) attrs }
+{
+    match attrs {
+        RowAttrs::Zero => false,
+        RowAttrs::One(x) => one_is_had(x, leaf, s, k),
+        RowAttrs::Two(x, y) => either_is_had(x, y, leaf, s, k),
+        RowAttrs::Three(x, y, z) => { either_is_had(x, y, leaf, s, k) || one_is_had(z, leaf, s, k) }
+        RowAttrs::Many => false,
+    }
+}
+
+// Whether at least 8 rows of the leaf have some attribute that isn't used. Only those are asked that the leaf tells,
+// where it tells them.
+fn any_is_had(leaf: &Leaf, s: &Schema, k: &Spot) -> bool
+    requires lie { list_all (row_lies s.now) leaf.now ≡ true }
+    requires many { EARLY_ROWS ≤ length leaf.now }
+    ensures { result ≡ any_is_had (known_of k.now).used leaf.now (length s.now) }
+{
+    // The count shows the form of the schema.
+    let _ = s.count();
+    let common = leaf.common();
+    if common.is_many() {
+        any_below_is_had(leaf, s, k)
+    } else {
+        listed_is_had(common, leaf, s, k)
+    }
 }
 
 // Whether a leaf has too few rows for a split, or more than 16, of which none can move.
@@ -86,7 +131,7 @@ fn is_still(leaf: &Leaf) -> bool
 }
 
 // Whether the row, which stands at this place of the leaf, may stand in the low half of the range, and whether in the high
-// one. Mostly the row isn't looked at.
+// one. Few rows are looked at.
 #[tactic(auto, using(std::proofs::lemmas::Option::slice_get_within))]
 fn sides_at(leaf: &Leaf, place: usize, row: &Row, s: &Schema, range: NodeRange) -> (bool, bool)
     requires at { slice_get leaf.now place ≡ Some row.now }

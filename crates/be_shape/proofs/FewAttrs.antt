@@ -1,102 +1,132 @@
 -- What a place tells of its row's attributes is true of the row.
-use Rattle.std.proofs.Common.{◌≡◌, ⊎_elim, ℕ, ◌==◌, nat_lt, Bool, true, false, ◌||◌, List, [], ◌∷◌, ◌++◌, cond, refl, sym, ap, subst, ◌∙◌}
+use Rattle.std.proofs.Common.{◌≡◌, ◌==◌, leb, Bool, true, false, ◌||◌, List, [], ◌∷◌, ◌++◌, length, is_some, Option, Some, None, cond, refl, sym, ap, subst, ◌∙◌}
 use Rattle.std.specs.List.{list_any}
 use Rattle.std.proofs.lemmas.List.{append-nil, append_assoc}
 use Rattle.std.proofs.lemmas.List.Folds.{list_any-append}
-use Rattle.std.proofs.lemmas.Bool.{or_cases, or_left, or_right, eqb-true}
+use Rattle.std.proofs.lemmas.Bool.{or_left, or_right}
 use Rattle.be_base.specs.declared.names.AttrNo.{AttrNo}
 use Rattle.be_model.specs.declared.preds.Pred.{Pred}
-use Rattle.be_model.specs.Schemas.{numbered}
 use Rattle.be_model.specs.Hulls.{is_on}
-use Rattle.be_shape.specs.declared.listings.RowAttrs.{RowAttrs}
-use Rattle.be_shape.specs.declared.listings.RowAttrs.TheVariants.{Zero, One, Two, Three, Many}
-use Rattle.be_shape.specs.Listed.{is_many, any_listed, with_number, with_attr, with_attrs, attrs_of}
+use Rattle.be_model.proofs.InSchema.{same_attribute}
+use Rattle.be_shape.specs.declared.glances.Bounds.{Bounds}
+use Rattle.be_shape.specs.declared.glances.Extent.{Extent}
+use Rattle.be_shape.specs.declared.glances.Extent.TheVariants.{Whole, Few, Part}
+use Rattle.be_shape.specs.declared.glances.Glance.{Glance}
+use Rattle.be_shape.specs.declared.listings.RowAttrs.TheVariants.{Many}
+use Rattle.be_shape.specs.Glances.{Test, test_on, is_part, bounds_of, glance, with_test, with_bounds, with_pred, with_preds, glance_of}
+use Rattle.be_shape.specs.Listed.{is_many, any_listed, listed, attrs_told, attrs_of}
 
--- a test of attributes, of predicates
+-- a test of attributes, of predicates and of tests of values
 abbrev pub by_attr : (AttrNo → Bool) → Pred → Bool
 by_attr test p = test p.attr
 
--- some predicate's attribute passes a test exactly where one that is listed does
-abbrev Lists : List Pred → RowAttrs → Type 0
-Lists conj l = is_many l ≡ false → (test : AttrNo → Bool) → list_any (by_attr test) conj ≡ any_listed test l
+abbrev pub of_test : (AttrNo → Bool) → Test → Bool
+of_test test t = test t.0
+
+-- unless there may be others, some predicate's attribute passes a test exactly where one that is told does
+abbrev pub Lists : List Pred → Glance → Type 0
+Lists conj g = is_part g.extent ≡ false → (test : AttrNo → Bool) → list_any (by_attr test) conj ≡ list_any (of_test test) g.tests
+
+or_false : (b : Bool) → (b || false) ≡ b
+or_false true = refl
+or_false false = refl
 
 absorb : (u v : Bool) → (v ≡ true → u ≡ true) → (u || v) ≡ u
 absorb true v f = refl
 absorb false false f = refl
 absorb false true f = absurd (let k = f refl in cc)
 
-three : (u v w : Bool) → ((u || v) || w) ≡ (u || v || w)
-three true v w = refl
-three false v w = refl
+-- the attribute on which there is a test is among those that are told
+on_told : (a : AttrNo) (ts : List Test) (test : AttrNo → Bool) → is_some (test_on a ts) ≡ true → test a ≡ true → list_any (of_test test) ts ≡ true
+on_told a [] test s h = absurd (cc)
+on_told a (t ∷ ts) test s h = by_test (t.0.0 == a.0) refl s (λ k. on_told a ts test k h)
+  where
+    by_test : (b : Bool) → (t.0.0 == a.0) ≡ b → is_some (cond b (Some t.1) (test_on a ts)) ≡ true → (is_some (test_on a ts) ≡ true → list_any (of_test test) ts ≡ true) → list_any (of_test test) (t ∷ ts) ≡ true
+    by_test true e k on = or_left (test t.0) (list_any (of_test test) ts) (ap test (same_attribute t.0 a e) ∙ h)
+    by_test false e k on = or_right (test t.0) (list_any (of_test test) ts) (on k)
+
+pub on_is : (a : AttrNo) (ts : List Test) → list_any (of_test (λ b. b.0 == a.0)) ts ≡ is_some (test_on a ts)
+on_is a [] = refl
+on_is a (t ∷ ts) = by_test (t.0.0 == a.0) (on_is a ts)
+  where
+    by_test : (b : Bool) → list_any (of_test (λ c. c.0 == a.0)) ts ≡ is_some (test_on a ts) → (b || list_any (of_test (λ c. c.0 == a.0)) ts) ≡ is_some (cond b (Some t.1) (test_on a ts))
+    by_test true on = refl
+    by_test false on = on
 
 more : (test : AttrNo → Bool) (xs : List Pred) (p : Pred) → list_any (by_attr test) (xs ++ p ∷ []) ≡ (list_any (by_attr test) xs || test p.attr)
 more test xs p = list_any-append (by_attr test) xs (p ∷ []) ∙ ap (λ b. list_any (by_attr test) xs || b) (or_false (test p.attr))
+
+more_told : (test : AttrNo → Bool) (ts : List Test) (t : Test) → list_any (of_test test) (ts ++ t ∷ []) ≡ (list_any (of_test test) ts || test t.0)
+more_told test ts t = list_any-append (of_test test) ts (t ∷ []) ∙ ap (λ b. list_any (of_test test) ts || b) (or_false (test t.0))
+
+lists_part : (conj : List Pred) (ts : List Test) → Lists conj (glance ts Part)
+lists_part conj ts = λ m test. absurd (cc)
+
+lists_again : (xs : List Pred) (p : Pred) (g : Glance) (x : Extent) → is_part g.extent ≡ false → is_some (test_on p.attr g.tests) ≡ true → Lists xs g → Lists (xs ++ p ∷ []) (glance g.tests x)
+lists_again xs p g x n s l = λ m test.
+    more test xs p ∙ ap (λ b. b || test p.attr) (l n test) ∙ absorb (list_any (of_test test) g.tests) (test p.attr) (on_told p.attr g.tests test s)
+
+lists_test : (xs : List Pred) (p : Pred) (b : Bounds) (g : Glance) → is_part g.extent ≡ false → Lists xs g → Lists (xs ++ p ∷ []) (with_test p.attr b g)
+lists_test xs p b g n l = by_room (leb 256 p.attr.0 || leb 3 (length g.tests))
   where
-    or_false : (b : Bool) → (b || false) ≡ b
-    or_false true = refl
-    or_false false = refl
+    t : Test
+    t = (p.attr, b.ends)
 
-same : (test : AttrNo → Bool) (x a : ℕ) → (x == a) ≡ true → test (numbered a) ≡ true → test (numbered x) ≡ true
-same test x a e h = ap (λ n. test (numbered n)) (eqb-true x a e) ∙ h
+    by_room : (c : Bool) → Lists (xs ++ p ∷ []) (cond c (glance g.tests Part) (glance (g.tests ++ t ∷ []) (cond b.exact g.extent Few)))
+    by_room true = lists_part (xs ++ p ∷ []) g.tests
+    by_room false = λ m test. more test xs p ∙ ap (λ c. c || test p.attr) (l n test) ∙ sym (more_told test g.tests t)
 
-listed_one : (xs : List Pred) (p : Pred) (x : ℕ) → Lists xs (One x) → Lists (xs ++ p ∷ []) (with_number p.attr.0 (One x))
-listed_one xs p x t = by_test (x == p.attr.0) refl
+lists_bounds : (xs : List Pred) (p : Pred) (o : Option Bounds) (g : Glance) → is_part g.extent ≡ false → Lists xs g → Lists (xs ++ p ∷ []) (with_bounds p.attr o g)
+lists_bounds xs p None g n l = lists_part (xs ++ p ∷ []) g.tests
+lists_bounds xs p (Some b) g n l = lists_test xs p b g n l
+
+pub lists_pred : (xs : List Pred) (p : Pred) (g : Glance) → Lists xs g → Lists (xs ++ p ∷ []) (with_pred p g)
+lists_pred xs p g l = by_tests (is_part g.extent) (is_some (test_on p.attr g.tests)) refl refl
   where
-    by_test : (b : Bool) → (x == p.attr.0) ≡ b → Lists (xs ++ p ∷ []) (cond b (One x) (Two x p.attr.0))
-    by_test true e m test = more test xs p ∙ ap (λ b. b || test p.attr) (t refl test) ∙ absorb (test (numbered x)) (test p.attr) (same test x p.attr.0 e)
-    by_test false e m test = more test xs p ∙ ap (λ b. b || test p.attr) (t refl test)
+    by_tests : (b c : Bool) → is_part g.extent ≡ b → is_some (test_on p.attr g.tests) ≡ c
+        → Lists (xs ++ p ∷ []) (cond b g (cond c (glance g.tests Few) (with_bounds p.attr (bounds_of p.op) g)))
+    by_tests true c e d = λ m test. absurd (cc)
+    by_tests false true e d = lists_again xs p g Few e d l
+    by_tests false false e d = lists_bounds xs p (bounds_of p.op) g e l
 
-listed_two : (xs : List Pred) (p : Pred) (x y : ℕ) → Lists xs (Two x y) → Lists (xs ++ p ∷ []) (with_number p.attr.0 (Two x y))
-listed_two xs p x y t = by_test ((x == p.attr.0) || (y == p.attr.0)) refl
+lists_preds : (xs ps : List Pred) (g : Glance) → Lists xs g → Lists (xs ++ ps) (with_preds ps g)
+lists_preds xs [] g l = subst (λ c. Lists c g) (sym (append-nil xs)) l
+lists_preds xs (p ∷ ps) g l =
+    subst (λ c. Lists c (with_preds ps (with_pred p g))) (append_assoc xs (p ∷ []) ps) (lists_preds (xs ++ p ∷ []) ps (with_pred p g) (lists_pred xs p g l))
+
+pub lists : (conj : List Pred) → Lists conj (glance_of conj)
+lists conj = lists_preds [] conj (glance [] Whole) (λ _ _. refl)
+
+-- as many tests as can be listed are
+listed_is : (ts : List Test) (test : AttrNo → Bool) → is_many (listed ts) ≡ false → list_any (of_test test) ts ≡ any_listed test (listed ts)
+listed_is [] test m = refl
+listed_is (x ∷ []) test m = or_false (test x.0)
+listed_is (x ∷ y ∷ []) test m = ap (λ b. test x.0 || b) (or_false (test y.0))
+listed_is (x ∷ y ∷ z ∷ []) test m = right (test x.0) (test y.0) (test z.0)
   where
-    a : ℕ
-    a = p.attr.0
+    right : (u v w : Bool) → (u || (v || (w || false))) ≡ ((u || v) || w)
+    right true v w = refl
+    right false true w = refl
+    right false false w = or_false w
+listed_is (x ∷ y ∷ z ∷ w ∷ ts) test m = absurd (cc)
 
-    had : ((x == p.attr.0) || (y == p.attr.0)) ≡ true → (test : AttrNo → Bool) → test p.attr ≡ true → (test (numbered x) || test (numbered y)) ≡ true
-    had e test h =
-        ⊎_elim (λ k. or_left (test (numbered x)) (test (numbered y)) (same test x p.attr.0 k h)) (λ k. or_right (test (numbered x)) (test (numbered y)) (same test y p.attr.0 k h)) (or_cases (x == p.attr.0) (y == p.attr.0) e)
-
-    by_test : (b : Bool) → ((x == p.attr.0) || (y == p.attr.0)) ≡ b → Lists (xs ++ p ∷ []) (cond b (Two x y) (Three x y p.attr.0))
-    by_test true e m test = more test xs p ∙ ap (λ b. b || test p.attr) (t refl test) ∙ absorb (test (numbered x) || test (numbered y)) (test p.attr) (had e test)
-    by_test false e m test = more test xs p ∙ ap (λ b. b || test p.attr) (t refl test) ∙ three (test (numbered x)) (test (numbered y)) (test p.attr)
-
-listed_three : (xs : List Pred) (p : Pred) (x y z : ℕ) → Lists xs (Three x y z) → Lists (xs ++ p ∷ []) (with_number p.attr.0 (Three x y z))
-listed_three xs p x y z t = by_test ((x == p.attr.0) || (y == p.attr.0) || (z == p.attr.0)) refl
+told_is_listed : (conj : List Pred) (g : Glance) (test : AttrNo → Bool) → Lists conj g → is_many (attrs_told g) ≡ false → list_any (by_attr test) conj ≡ any_listed test (attrs_told g)
+told_is_listed conj g test l = by_part (is_part g.extent) refl
   where
-    had : ((x == p.attr.0) || (y == p.attr.0) || (z == p.attr.0)) ≡ true → (test : AttrNo → Bool) → test p.attr ≡ true → (test (numbered x) || test (numbered y) || test (numbered z)) ≡ true
-    had e test h =
-        ⊎_elim
-        (λ r. or_left (test (numbered x) || test (numbered y)) (test (numbered z))
-        (⊎_elim (λ k. or_left (test (numbered x)) (test (numbered y)) (same test x p.attr.0 k h)) (λ k. or_right (test (numbered x)) (test (numbered y)) (same test y p.attr.0 k h)) (or_cases (x == p.attr.0) (y == p.attr.0) r)))
-        (λ k. or_right (test (numbered x) || test (numbered y)) (test (numbered z)) (same test z p.attr.0 k h))
-        (or_cases ((x == p.attr.0) || (y == p.attr.0)) (z == p.attr.0) e)
-
-    by_test : (b : Bool) → ((x == p.attr.0) || (y == p.attr.0) || (z == p.attr.0)) ≡ b → Lists (xs ++ p ∷ []) (cond b (Three x y z) Many)
-    by_test true e m test = more test xs p ∙ ap (λ b. b || test p.attr) (t refl test) ∙ absorb (test (numbered x) || test (numbered y) || test (numbered z)) (test p.attr) (had e test)
-    by_test false e m test = absurd (cc)
-
-listed_number : (xs : List Pred) (p : Pred) (l : RowAttrs) → Lists xs l → Lists (xs ++ p ∷ []) (with_number p.attr.0 l)
-listed_number xs p Zero t = λ m test. more test xs p ∙ ap (λ b. b || test p.attr) (t refl test)
-listed_number xs p (One x) t = listed_one xs p x t
-listed_number xs p (Two x y) t = listed_two xs p x y t
-listed_number xs p (Three x y z) t = listed_three xs p x y z t
-listed_number xs p Many t = λ m test. absurd (cc)
-
-listed_attr : (xs : List Pred) (p : Pred) (l : RowAttrs) → Lists xs l → Lists (xs ++ p ∷ []) (with_attr p l)
-listed_attr xs p l t = by_test (nat_lt p.attr.0 256)
-  where
-    by_test : (b : Bool) → Lists (xs ++ p ∷ []) (cond b (with_number p.attr.0 l) Many)
-    by_test true = listed_number xs p l t
-    by_test false = λ m test. absurd (cc)
-
-listed_attrs : (xs ps : List Pred) (l : RowAttrs) → Lists xs l → Lists (xs ++ ps) (with_attrs ps l)
-listed_attrs xs [] l t = subst (λ c. Lists c l) (sym (append-nil xs)) t
-listed_attrs xs (p ∷ ps) l t =
-    subst (λ c. Lists c (with_attrs ps (with_attr p l))) (append_assoc xs (p ∷ []) ps) (listed_attrs (xs ++ p ∷ []) ps (with_attr p l) (listed_attr xs p l t))
+    by_part : (b : Bool) → is_part g.extent ≡ b → is_many (cond b Many (listed g.tests)) ≡ false → list_any (by_attr test) conj ≡ any_listed test (cond b Many (listed g.tests))
+    by_part true e m = absurd (cc)
+    by_part false e m = l e test ∙ listed_is g.tests test m
 
 -- what holds of some attribute of a row holds of one that is listed, and the other way round
 pub any_is_listed : (conj : List Pred) (test : AttrNo → Bool) → is_many (attrs_of conj) ≡ false → list_any (λ (p : Pred). test p.attr) conj ≡ any_listed test (attrs_of conj)
-any_is_listed conj test m = listed_attrs [] conj Zero (λ _ _. refl) m test
+any_is_listed conj test m = told_is_listed conj (glance_of conj) test (lists conj) m
 
 pub has_is_listed : (conj : List Pred) (a : AttrNo) → is_many (attrs_of conj) ≡ false → list_any (is_on a) conj ≡ any_listed (λ b. b.0 == a.0) (attrs_of conj)
 has_is_listed conj a m = any_is_listed conj (λ b. b.0 == a.0) m
+
+-- unless there may be attributes with no test, a row has those on which there is one
+pub has_is_told : (conj : List Pred) (tests : List Test) (extent : Extent) (a : AttrNo) → glance tests extent ≡ glance_of conj → is_part extent ≡ false → list_any (is_on a) conj ≡ is_some (test_on a tests)
+has_is_told conj tests extent a e n = l n (λ b. b.0 == a.0) ∙ on_is a tests
+  where
+    l : Lists conj (glance tests extent)
+    l = subst (Lists conj) (sym e) (lists conj)

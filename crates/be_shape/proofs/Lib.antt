@@ -1,4 +1,5 @@
-pub mod TwoTests
+pub mod Commons
+pub mod ToldTests
 pub mod ToldSpans
 pub mod FewAttrs
 pub mod LeafRows

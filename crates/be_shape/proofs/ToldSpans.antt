@@ -1,5 +1,5 @@
 -- What a place tells of spans and attributes is true of its row.
-use Rattle.std.proofs.Common.{◌≡◌, ℤ, pos, ◌+ℤ◌, ◌-ℤ◌, ◌≤ℤ◌, ◌<ℤ◌, ◌<◌, ◌==◌, Bool, true, false, not, ◌&&◌, ◌||◌, List, [], ◌∷◌, ◌++◌, find, is_some, Option, Some, None, option_map, option_and_then, cond, refl, sym, ap, ap₂, subst, ◌∙◌, arith}
+use Rattle.std.proofs.Common.{◌≡◌, ℤ, pos, ◌+ℤ◌, ◌-ℤ◌, ◌≤ℤ◌, ◌<ℤ◌, ◌<◌, ◌==◌, leb, Bool, true, false, ◌&&◌, ◌||◌, List, [], ◌∷◌, ◌++◌, length, find, is_some, Option, Some, None, option_map, option_and_then, cond, refl, sym, ap, ap₂, subst, ◌∙◌, arith}
 use Rattle.std.specs.Int.{int_max, int_min}
 use Rattle.std.specs.Ordering.{int_eq}
 use Rattle.std.specs.List.{list_any}
@@ -23,9 +23,12 @@ use Rattle.be_model.proofs.InSchema.{same_attribute}
 use Rattle.be_model.proofs.Ranges.{within_parts, hulls_lie}
 use Rattle.be_model.proofs.Spans.{pred_found}
 use Rattle.be_shape.specs.declared.glances.Bounds.{Bounds}
+use Rattle.be_shape.specs.declared.glances.Extent.{Extent}
+use Rattle.be_shape.specs.declared.glances.Extent.TheVariants.{Whole, Few, Part}
 use Rattle.be_shape.specs.declared.glances.Glance.{Glance}
-use Rattle.be_shape.specs.Glances.{least, greatest, small, bounds, bounds_of, of_none, is_narrower, unsure, with_first, with_second, with_test, with_bounds, with_pred, with_preds, glance_of, test_on, hull_low, hull_high, hull_in}
-use Rattle.be_shape.proofs.TwoTests.{by_small}
+use Rattle.be_shape.specs.Glances.{least, greatest, small, bounds, bounds_of, Test, test_on, is_part, glance, with_bounds, with_pred, with_preds, glance_of, hull_low, hull_high, hull_in}
+use Rattle.be_shape.proofs.FewAttrs.{Lists, lists_pred, on_is, has_is_told}
+use Rattle.be_shape.proofs.ToldTests.{by_small}
 
 -- the ends are those of the first predicate on the attribute
 record IsFirst (conj : List Pred) (a : AttrNo) (ends : ℤ × ℤ) : Type 0 where
@@ -36,9 +39,12 @@ record IsFirst (conj : List Pred) (a : AttrNo) (ends : ℤ × ℤ) : Type 0 wher
   same : bounds.ends ≡ ends
 
 -- each test is of the first predicate on its attribute
+abbrev AreFirst : List Pred → List Test → Type 0
+AreFirst conj ts = (a : AttrNo) (ends : ℤ × ℤ) → test_on a ts ≡ Some ends → IsFirst conj a ends
+
 record Firsts (conj : List Pred) (g : Glance) : Type 0 where
-  first : g.has_first ≡ true → IsFirst conj g.first_attr g.first
-  second : g.has_second ≡ true → IsFirst conj g.second_attr g.second
+  listed : Lists conj g
+  first : AreFirst conj g.tests
 
 first_more : (xs ys : List Pred) (a : AttrNo) (ends : ℤ × ℤ) → IsFirst xs a ends → IsFirst (xs ++ ys) a ends
 first_more xs ys a ends f =
@@ -62,46 +68,13 @@ first_new xs p b h e =
       same = refl;
     }
 
-firsts_unsure : (xs : List Pred) (p : Pred) (g : Glance) → Firsts xs g → Firsts (xs ++ p ∷ []) (unsure g)
-firsts_unsure xs p g f = record { first = λ h. first_more xs (p ∷ []) g.first_attr g.first (f.first h); second = λ h. first_more xs (p ∷ []) g.second_attr g.second (f.second h) }
-
-firsts_first : (xs : List Pred) (p : Pred) (b : Bounds) (g : Glance) → Firsts xs g → IsFirst (xs ++ p ∷ []) p.attr b.ends → Firsts (xs ++ p ∷ []) (with_first p.attr b g)
-firsts_first xs p b g f n = record { first = λ h. n; second = λ h. first_more xs (p ∷ []) g.first_attr g.first (f.first h) }
-
-firsts_second : (xs : List Pred) (p : Pred) (b : Bounds) (g : Glance) → Firsts xs g → IsFirst (xs ++ p ∷ []) p.attr b.ends → Firsts (xs ++ p ∷ []) (with_second p.attr b g)
-firsts_second xs p b g f n = record { first = λ h. first_more xs (p ∷ []) g.first_attr g.first (f.first h); second = λ h. n }
-
-either : (c : Bool) (conj : List Pred) (g h : Glance) → Firsts conj g → Firsts conj h → Firsts conj (cond c g h)
-either true conj g h t u = t
-either false conj g h t u = u
-
-firsts_test : (xs : List Pred) (p : Pred) (b : Bounds) (g : Glance) → Firsts xs g → IsFirst (xs ++ p ∷ []) p.attr b.ends → Firsts (xs ++ p ∷ []) (with_test p.attr b g)
-firsts_test xs p b g f n =
-    let conj = xs ++ p ∷ [] in
-    either (not g.has_first || is_narrower b.ends g.first) conj (with_first p.attr b g) (cond (not g.has_second || is_narrower b.ends g.second) (with_second p.attr b g) (unsure g)) (firsts_first xs p b g f n)
-    (either (not g.has_second || is_narrower b.ends g.second) conj (with_second p.attr b g) (unsure g) (firsts_second xs p b g f n) (firsts_unsure xs p g f))
-
-firsts_bounds : (xs : List Pred) (p : Pred) (o : Option Bounds) (g : Glance) → bounds_of p.op ≡ o → list_any (is_on p.attr) xs ≡ false → Firsts xs g → Firsts (xs ++ p ∷ []) (with_bounds p.attr o g)
-firsts_bounds xs p None g e h f = firsts_unsure xs p g f
-firsts_bounds xs p (Some b) g e h f = firsts_test xs p b g f (first_new xs p b h e)
-
-firsts_pred : (xs : List Pred) (p : Pred) (g : Glance) → Firsts xs g → Firsts (xs ++ p ∷ []) (with_pred xs p g)
-firsts_pred xs p g f = by_test (list_any (is_on p.attr) xs) refl
+on_more : (a : AttrNo) (ts : List Test) (t : Test) → test_on a (ts ++ t ∷ []) ≡ option_or (test_on a ts) (test_on a (t ∷ []))
+on_more a [] t = refl
+on_more a (x ∷ xs) t = by_test (x.0.0 == a.0) (on_more a xs t)
   where
-    by_test : (b : Bool) → list_any (is_on p.attr) xs ≡ b → Firsts (xs ++ p ∷ []) (cond b (unsure g) (with_bounds p.attr (bounds_of p.op) g))
-    by_test true e = firsts_unsure xs p g f
-    by_test false e = firsts_bounds xs p (bounds_of p.op) g refl e f
-
-firsts_preds : (xs ps : List Pred) (g : Glance) → Firsts xs g → Firsts (xs ++ ps) (with_preds xs ps g)
-firsts_preds xs [] g f = subst (λ c. Firsts c g) (sym (append-nil xs)) f
-firsts_preds xs (p ∷ ps) g f =
-    subst (λ c. Firsts c (with_preds (xs ++ p ∷ []) ps (with_pred xs p g))) (append_assoc xs (p ∷ []) ps) (firsts_preds (xs ++ p ∷ []) ps (with_pred xs p g) (firsts_pred xs p g f))
-
-firsts_none : Firsts [] of_none
-firsts_none = record { first = λ h. absurd (cc); second = λ h. absurd (cc) }
-
-firsts : (conj : List Pred) → Firsts conj (glance_of conj)
-firsts conj = firsts_preds [] conj of_none firsts_none
+    by_test : (b : Bool) → test_on a (xs ++ t ∷ []) ≡ option_or (test_on a xs) (test_on a (t ∷ [])) → cond b (Some x.1) (test_on a (xs ++ t ∷ [])) ≡ option_or (cond b (Some x.1) (test_on a xs)) (test_on a (t ∷ []))
+    by_test true on = refl
+    by_test false on = on
 
 moved : (conj : List Pred) (a b : AttrNo) (x y : ℤ × ℤ) → a ≡ b → x ≡ y → IsFirst conj a x → IsFirst conj b y
 moved conj a b x y e f i = subst (λ c. IsFirst conj c y) e (subst (λ z. IsFirst conj a z) f i)
@@ -109,18 +82,46 @@ moved conj a b x y e f i = subst (λ c. IsFirst conj c y) e (subst (λ z. IsFirs
 some_same : (x y : ℤ × ℤ) → Some x ≡ Some y → x ≡ y
 some_same x y h = cc
 
--- a test on the attribute is of the first predicate there
-test_first : (conj : List Pred) (g : Glance) (a : AttrNo) (ends : ℤ × ℤ) → Firsts conj g → test_on a g ≡ Some ends → IsFirst conj a ends
-test_first conj g a ends f = by_tests (g.has_first && (g.first_attr.0 == a.0)) (g.has_second && (g.second_attr.0 == a.0)) refl refl
+kept : (xs : List Pred) (p : Pred) (ts : List Test) → AreFirst xs ts → AreFirst (xs ++ p ∷ []) ts
+kept xs p ts f = λ a ends h. first_more xs (p ∷ []) a ends (f a ends h)
+
+-- with a test more
+joined : (xs : List Pred) (p : Pred) (x : ℤ × ℤ) (ts : List Test) → AreFirst xs ts → IsFirst (xs ++ p ∷ []) p.attr x → AreFirst (xs ++ p ∷ []) (ts ++ (p.attr, x) ∷ [])
+joined xs p x ts f n = λ a ends h. by_old a ends (test_on a ts) refl (sym (on_more a ts (p.attr, x)) ∙ h)
   where
-    by_tests : (b c : Bool) → (g.has_first && (g.first_attr.0 == a.0)) ≡ b → (g.has_second && (g.second_attr.0 == a.0)) ≡ c → cond b (Some g.first) (cond c (Some g.second) None) ≡ Some ends → IsFirst conj a ends
-    by_tests true c e d h =
-        let z = and_parts g.has_first (g.first_attr.0 == a.0) e in
-        moved conj g.first_attr a g.first ends (same_attribute g.first_attr a z.1) (some_same g.first ends h) (f.first z.0)
-    by_tests false true e d h =
-        let z = and_parts g.has_second (g.second_attr.0 == a.0) d in
-        moved conj g.second_attr a g.second ends (same_attribute g.second_attr a z.1) (some_same g.second ends h) (f.second z.0)
-    by_tests false false e d h = absurd (cc)
+    by_attr : (a : AttrNo) (ends : ℤ × ℤ) (c : Bool) → (p.attr.0 == a.0) ≡ c → cond c (Some x) None ≡ Some ends → IsFirst (xs ++ p ∷ []) a ends
+    by_attr a ends true e h = moved (xs ++ p ∷ []) p.attr a x ends (same_attribute p.attr a e) (some_same x ends h) n
+    by_attr a ends false e h = absurd (cc)
+
+    by_old : (a : AttrNo) (ends : ℤ × ℤ) (o : Option (ℤ × ℤ)) → test_on a ts ≡ o → option_or o (test_on a ((p.attr, x) ∷ [])) ≡ Some ends → IsFirst (xs ++ p ∷ []) a ends
+    by_old a ends (Some y) e h = first_more xs (p ∷ []) a ends (f a ends (e ∙ h))
+    by_old a ends None e h = by_attr a ends (p.attr.0 == a.0) refl h
+
+first_bounds : (xs : List Pred) (p : Pred) (o : Option Bounds) (g : Glance) → bounds_of p.op ≡ o → list_any (is_on p.attr) xs ≡ false → AreFirst xs g.tests → AreFirst (xs ++ p ∷ []) (with_bounds p.attr o g).tests
+first_bounds xs p None g e h f = kept xs p g.tests f
+first_bounds xs p (Some b) g e h f = by_room (leb 256 p.attr.0 || leb 3 (length g.tests))
+  where
+    by_room : (c : Bool) → AreFirst (xs ++ p ∷ []) (cond c (glance g.tests Part) (glance (g.tests ++ (p.attr, b.ends) ∷ []) (cond b.exact g.extent Few))).tests
+    by_room true = kept xs p g.tests f
+    by_room false = joined xs p b.ends g.tests f (first_new xs p b h e)
+
+first_pred : (xs : List Pred) (p : Pred) (g : Glance) → Firsts xs g → AreFirst (xs ++ p ∷ []) (with_pred p g).tests
+first_pred xs p g f = by_tests (is_part g.extent) (is_some (test_on p.attr g.tests)) refl refl
+  where
+    by_tests : (b c : Bool) → is_part g.extent ≡ b → is_some (test_on p.attr g.tests) ≡ c
+        → AreFirst (xs ++ p ∷ []) (cond b g (cond c (glance g.tests Few) (with_bounds p.attr (bounds_of p.op) g))).tests
+    by_tests true c e d = kept xs p g.tests f.first
+    by_tests false true e d = kept xs p g.tests f.first
+    by_tests false false e d = first_bounds xs p (bounds_of p.op) g refl (f.listed e (λ b. b.0 == p.attr.0) ∙ on_is p.attr g.tests ∙ d) f.first
+
+firsts_preds : (xs ps : List Pred) (g : Glance) → Firsts xs g → Firsts (xs ++ ps) (with_preds ps g)
+firsts_preds xs [] g f = subst (λ c. Firsts c g) (sym (append-nil xs)) f
+firsts_preds xs (p ∷ ps) g f =
+    subst (λ c. Firsts c (with_preds ps (with_pred p g))) (append_assoc xs (p ∷ []) ps)
+    (firsts_preds (xs ++ p ∷ []) ps (with_pred p g) (record { listed = lists_pred xs p g f.listed; first = first_pred xs p g f }))
+
+firsts : (conj : List Pred) → Firsts conj (glance_of conj)
+firsts conj = firsts_preds [] conj (glance [] Whole) (record { listed = λ _ _. refl; first = λ a ends h. absurd (cc) })
 
 not_equal : (x y : ℤ) → x <ℤ y → int_eq x y ≡ false
 not_equal x y h = by_test (int_eq x y) refl
@@ -173,6 +174,16 @@ HullTold d op (Some b) = hull d op ≡ hull_in d b.ends
 one_within : (d : Range) (x : ℤ) → lies_within d (x ∷ []) ≡ true → (d.0 ≤ℤ x) × (x ≤ℤ d.1)
 one_within d x h = within_parts d x (and_parts (is_within d x) true h).0
 
+first_within : (d : Range) (z : ℤ) (zs : List ℤ) → lies_within d (z ∷ zs) ≡ true → (d.0 ≤ℤ z) × (z ≤ℤ d.1)
+first_within d z zs h = within_parts d z (and_parts (is_within d z) (lies_within d zs) h).0
+
+between : (d : Range) (v : ℤ) → (d.0 ≤ℤ v) × (v ≤ℤ d.1) → d.0 ≤ℤ d.1
+between d v k = let a = k.0 in let b = k.1 in omega (arith, ints)
+
+-- the widest ends tell the domain where it has a value
+whole_told : (d : Range) (v : ℤ) → (d.0 ≤ℤ v) × (v ≤ℤ d.1) → d ≡ hull_in d (least, greatest)
+whole_told d v k = hull_from d least greatest d.0 d.1 d.1 refl refl (max_is d.0 d.1 (between d v k))
+
 -- the ends tell the hull
 hull_told : (d : Range) (op : Op) → OpForm op → lies_within d (values_in op) ≡ true → HullTold d op (bounds_of op)
 hull_told d (Lt x) f h =
@@ -184,7 +195,7 @@ hull_told d (Le x) f h =
 hull_told d (Eq x) f h =
     by_small x (λ o. HullTold d (Eq x) (option_map (λ v. bounds v v true) o))
     (λ l g. hull_from d x x x x x (low_at d x l (one_within d x h).1) (high_is d x g) (max_is x x (le_refl x))) tt
-hull_told d (Ne x) f h = tt
+hull_told d (Ne x) f h = whole_told d x (one_within d x h)
 hull_told d (Ge x) f h =
     by_small x (λ o. HullTold d (Ge x) (option_map (λ v. bounds v greatest true) o))
     (λ l g. hull_from d x greatest x d.1 d.1 (low_at d x l (one_within d x h).1) refl (max_is x d.1 (one_within d x h).1)) tt
@@ -200,15 +211,13 @@ hull_told d (OneOf []) f h = absurd (let k : 0 < 0 = f.some in omega arith)
 hull_told d (OneOf (z ∷ zs)) f h =
     let x = first_of_values (z ∷ zs) in
     let y = last_of_values (z ∷ zs) in
-    let k = within_parts d z (and_parts (is_within d z) (lies_within d zs) h).0 in
-    let part = hulls_lie d (OneOf (z ∷ zs)) f (between d z k.0 k.1) h in
+    let k = first_within d z zs h in
+    let part = hulls_lie d (OneOf (z ∷ zs)) f (between d z k) h in
     by_small x (λ o. HullTold d (OneOf (z ∷ zs)) (option_and_then (λ v. option_map (λ w. bounds v w false) (small y)) o))
     (λ l g. by_small y (λ o. HullTold d (OneOf (z ∷ zs)) (option_map (λ w. bounds x w false) o))
     (λ m n. hull_from d x y x y y (low_at d x l k.1) (high_is d y n) (max_is x y part.rising)) tt) tt
-  where
-    between : (r : Range) (v : ℤ) → r.0 ≤ℤ v → v ≤ℤ r.1 → r.0 ≤ℤ r.1
-    between r v a b = omega (arith, ints)
-hull_told d (NoneOf xs) f h = tt
+hull_told d (NoneOf []) f h = absurd (let k : 0 < 0 = f.some in omega arith)
+hull_told d (NoneOf (z ∷ zs)) f h = whole_told d z (first_within d z zs h)
 
 hull_of_first : (d : Range) (op : Op) (b : Bounds) (ends : ℤ × ℤ) → OpForm op → lies_within d (values_in op) ≡ true → bounds_of op ≡ Some b → b.ends ≡ ends → hull d op ≡ hull_in d ends
 hull_of_first d op b ends f h e s =
@@ -216,12 +225,12 @@ hull_of_first d op b ends f h e s =
     k ∙ ap (hull_in d) s
 
 -- the span that a test tells
-pub told_span : (s : Attributes) (a : AttrNo) (conj : List Pred) (ends : ℤ × ℤ) → IsConj conj → conj_lies s conj ≡ true → test_on a (glance_of conj) ≡ Some ends
-    → span_in s a conj ≡ option_map (λ d. hull_in d ends) (range_of s a)
-told_span s a conj ends f lies e = by_range (range_of s a) refl
+pub told_span : (s : Attributes) (a : AttrNo) (conj : List Pred) (tests : List Test) (extent : Extent) (ends : ℤ × ℤ) → glance tests extent ≡ glance_of conj → IsConj conj → conj_lies s conj ≡ true
+    → test_on a tests ≡ Some ends → span_in s a conj ≡ option_map (λ d. hull_in d ends) (range_of s a)
+told_span s a conj tests extent ends same f lies e = by_range (range_of s a) refl
   where
     i : IsFirst conj a ends
-    i = test_first conj (glance_of conj) a ends (firsts conj) e
+    i = subst (λ (g : Glance). AreFirst conj g.tests) (sym same) (firsts conj).first a ends e
 
     by_range : (o : Option Range) → range_of s a ≡ o → option_and_then (λ d. span d a conj) o ≡ option_map (λ d. hull_in d ends) o
     by_range None k = refl
@@ -230,3 +239,35 @@ told_span s a conj ends f lies e = by_range (range_of s a) refl
         let lie : lies_within d (values_in i.pred.op) ≡ true = sym (ap (λ o. lies_in o (values_in i.pred.op)) (ap (range_of s) on ∙ k)) ∙ pred_found s a conj i.pred lies i.found in
         let form : OpForm i.pred.op = found_has (λ (q : Pred). OpForm q.op) (is_on a) conj i.pred f.forms i.found in
         ap (option_map (λ (q : Pred). hull d q.op)) i.found ∙ ap Some (hull_of_first d i.pred.op i.bounds ends form lie i.told i.same)
+
+-- there is no span where there is no test, unless there may be attributes with none
+pub told_no_span : (s : Attributes) (a : AttrNo) (conj : List Pred) (tests : List Test) (extent : Extent) → glance tests extent ≡ glance_of conj → is_part extent ≡ false → test_on a tests ≡ None → span_in s a conj ≡ None
+told_no_span s a conj tests extent same n e = by_range (range_of s a)
+  where
+    none : find (is_on a) conj ≡ None
+    none = none_of (find (is_on a) conj) (is_some-find (is_on a) conj ∙ has_is_told conj tests extent a same n ∙ ap is_some e)
+
+    by_range : (o : Option Range) → option_and_then (λ d. span d a conj) o ≡ None
+    by_range None = refl
+    by_range (Some d) = ap (option_map (λ (q : Pred). hull d q.op)) none
+
+-- a row has the attributes on which there are tests, and others only where there may be some
+pub has_told : (conj : List Pred) (tests : List Test) (extent : Extent) (a : AttrNo) → glance tests extent ≡ glance_of conj → list_any (is_on a) conj ≡ (is_some (test_on a tests) || (is_part extent && list_any (is_on a) conj))
+has_told conj tests extent a same = by_part (is_part extent) refl
+  where
+    is_found : (ends : ℤ × ℤ) → test_on a tests ≡ Some ends → list_any (is_on a) conj ≡ true
+    is_found ends e =
+        let i : IsFirst conj a ends = subst (λ (g : Glance). AreFirst conj g.tests) (sym same) (firsts conj).first a ends e in
+        sym (is_some-find (is_on a) conj) ∙ ap is_some i.found
+
+    by_test : (o : Option (ℤ × ℤ)) → test_on a tests ≡ o → list_any (is_on a) conj ≡ (is_some o || list_any (is_on a) conj)
+    by_test (Some ends) e = is_found ends e
+    by_test None e = refl
+
+    or_false : (b : Bool) → b ≡ (b || false)
+    or_false true = refl
+    or_false false = refl
+
+    by_part : (b : Bool) → is_part extent ≡ b → list_any (is_on a) conj ≡ (is_some (test_on a tests) || (b && list_any (is_on a) conj))
+    by_part true e = by_test (test_on a tests) refl
+    by_part false e = has_is_told conj tests extent a same e ∙ or_false (is_some (test_on a tests))

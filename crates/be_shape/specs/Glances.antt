@@ -1,6 +1,7 @@
--- What a place of a leaf tells of its row without a look at the row: at most two tests, and whether these are all.
-use Rattle.std.specs.Prelude.{ℤ, pos, negsuc, ◌+ℤ◌, ◌-ℤ◌, ◌&&◌, ◌||◌, Bool, true, false, not, ◌==◌, List, [], ◌∷◌, ◌++◌, Option, Some, None, option_map, option_and_then, int_lt, int_le, if◌then◌else◌}
-use Rattle.std.specs.List.{list_any}
+-- What a place of a leaf tells of its row without a look at the row: at most three tests, and how much of the row these are.
+use Rattle.std.specs.Prelude.{ℤ, pos, negsuc, ◌+ℤ◌, ◌-ℤ◌, ◌&&◌, ◌||◌, Bool, true, false, ◌==◌, List, [], ◌∷◌, ◌++◌, length, nat_le, Option, Some, None, option_map, option_and_then, int_lt, int_le, if◌then◌else◌}
+use Rattle.std.specs.List.{list_any, list_all}
+use Rattle.std.specs.Option.{is_some}
 use Rattle.std.specs.Ordering.{int_eq}
 use Rattle.std.specs.Int.{int_max, int_min}
 use Rattle.be_base.specs.declared.names.AttrNo.{AttrNo}
@@ -8,9 +9,11 @@ use Rattle.be_model.specs.declared.ops.Op.{Op}
 use Rattle.be_model.specs.declared.ops.Op.TheVariants.{Lt, Le, Eq, Ne, Ge, Gt, Between, OneOf, NoneOf}
 use Rattle.be_model.specs.declared.preds.Pred.{Pred}
 use Rattle.be_model.specs.Domains.{Range}
-use Rattle.be_model.specs.Hulls.{first_of_values, last_of_values, is_on}
+use Rattle.be_model.specs.Hulls.{first_of_values, last_of_values}
 use Rattle.be_model.specs.Matching.{Assignments, values_of}
 use Rattle.be_shape.specs.declared.glances.Bounds.{Bounds}
+use Rattle.be_shape.specs.declared.glances.Extent.{Extent}
+use Rattle.be_shape.specs.declared.glances.Extent.TheVariants.{Whole, Few, Part}
 use Rattle.be_shape.specs.declared.glances.Glance.{Glance}
 
 -- the least and the greatest number of 32 bits, which stand for no bound
@@ -40,73 +43,67 @@ abbrev pub bounds_of : Op → Option Bounds
 bounds_of (Lt x) = option_map (λ v. bounds least (v -ℤ pos 1) true) (small x)
 bounds_of (Le x) = option_map (λ v. bounds least v true) (small x)
 bounds_of (Eq x) = option_map (λ v. bounds v v true) (small x)
-bounds_of (Ne x) = None
+bounds_of (Ne x) = Some (bounds least greatest false)
 bounds_of (Ge x) = option_map (λ v. bounds v greatest true) (small x)
 bounds_of (Gt x) = option_map (λ v. bounds (v +ℤ pos 1) greatest true) (small x)
 bounds_of (Between x y) = option_and_then (λ v. option_map (λ w. bounds v w true) (small y)) (small x)
 bounds_of (OneOf xs) = option_and_then (λ v. option_map (λ w. bounds v w false) (small (last_of_values xs))) (small (first_of_values xs))
-bounds_of (NoneOf xs) = None
+bounds_of (NoneOf xs) = Some (bounds least greatest false)
 
-abbrev pub glance_with : ℤ × ℤ → ℤ × ℤ → AttrNo → AttrNo → Bool → Bool → Bool → Glance
-glance_with first second first_attr second_attr has_first has_second whole =
-    record { first = first; second = second; first_attr = first_attr; second_attr = second_attr; has_first = has_first; has_second = has_second; whole = whole }
+-- a test: an attribute, and ends between which it is to have a value
+abbrev pub Test : Type 0
+Test = AttrNo × (ℤ × ℤ)
 
--- of no predicate: no test, and these are all
-abbrev pub of_none : Glance
-of_none = record { first = (pos 0, pos 0); second = (pos 0, pos 0); first_attr = record { 0 = 0 }; second_attr = record { 0 = 0 }; has_first = false; has_second = false; whole = true }
+abbrev pub passes : Assignments → Test → Bool
+passes e t = has_in t.1 (values_of e t.0)
 
--- how far the greatest is above the least
-abbrev pub spread : ℤ × ℤ → ℤ
-spread x = x.1 -ℤ x.0
+-- the event passes the tests
+abbrev pub may_meet : Assignments → List Test → Bool
+may_meet e tests = list_all (passes e) tests
 
-abbrev pub is_narrower : ℤ × ℤ → ℤ × ℤ → Bool
-is_narrower x y = int_lt (spread x) (spread y)
+-- the ends of the test on an attribute
+abbrev pub test_on : AttrNo → List Test → Option (ℤ × ℤ)
+test_on a [] = None
+test_on a (t ∷ ts) = if t.0.0 == a.0 then Some t.1 else test_on a ts
 
--- the tests aren't all
-abbrev pub unsure : Glance → Glance
-unsure g = record g { whole = false }
+-- an event that passes the tests satisfies the condition
+abbrev pub is_whole : Extent → Bool
+is_whole Whole = true
+is_whole Few = false
+is_whole Part = false
 
-abbrev pub with_first : AttrNo → Bounds → Glance → Glance
-with_first a b g =
-    record { first = b.ends; second = g.first; first_attr = a; second_attr = g.first_attr; has_first = true; has_second = g.has_first; whole = g.whole && b.exact && not g.has_second }
+-- there may be attributes of the condition with no test
+abbrev pub is_part : Extent → Bool
+is_part Whole = false
+is_part Few = false
+is_part Part = true
 
-abbrev pub with_second : AttrNo → Bounds → Glance → Glance
-with_second a b g =
-    record { first = g.first; second = b.ends; first_attr = g.first_attr; second_attr = a; has_first = g.has_first; has_second = true; whole = g.whole && b.exact && not g.has_second }
+abbrev pub glance : List Test → Extent → Glance
+glance tests extent = record { tests = tests; extent = extent }
 
--- of two tests and one more the narrowest, the narrower first
+-- with a test more, if there is room for it
 abbrev pub with_test : AttrNo → Bounds → Glance → Glance
 with_test a b g =
-    if not g.has_first || is_narrower b.ends g.first then with_first a b g
-    else (if not g.has_second || is_narrower b.ends g.second then with_second a b g else unsure g)
+    if nat_le 256 a.0 || nat_le 3 (length g.tests) then glance g.tests Part
+    else glance (g.tests ++ (a, b.ends) ∷ []) (if b.exact then g.extent else Few)
 
 abbrev pub with_bounds : AttrNo → Option Bounds → Glance → Glance
-with_bounds a None g = unsure g
+with_bounds a None g = glance g.tests Part
 with_bounds a (Some b) g = with_test a b g
 
--- with a predicate more, after earlier ones. Only the first predicate on an attribute gives a test
-abbrev pub with_pred : List Pred → Pred → Glance → Glance
-with_pred earlier p g =
-    if list_any (is_on p.attr) earlier then unsure g else with_bounds p.attr (bounds_of p.op) g
+-- with a predicate more. The first on an attribute gives a test, and behind one that has none to give no other does
+abbrev pub with_pred : Pred → Glance → Glance
+with_pred p g =
+    if is_part g.extent then g
+    else (if is_some (test_on p.attr g.tests) then glance g.tests Few else with_bounds p.attr (bounds_of p.op) g)
 
-abbrev pub with_preds : List Pred → List Pred → Glance → Glance
-with_preds earlier [] g = g
-with_preds earlier (p ∷ ps) g = with_preds (earlier ++ p ∷ []) ps (with_pred earlier p g)
+abbrev pub with_preds : List Pred → Glance → Glance
+with_preds [] g = g
+with_preds (p ∷ ps) g = with_preds ps (with_pred p g)
 
 -- what is told of a condition
 abbrev pub glance_of : List Pred → Glance
-glance_of conj = with_preds [] conj of_none
-
--- the event meets the tests
-abbrev pub may_meet : Assignments → Glance → Bool
-may_meet e g =
-    (not g.has_first || has_in g.first (values_of e g.first_attr)) && (not g.has_second || has_in g.second (values_of e g.second_attr))
-
--- the test on an attribute
-abbrev pub test_on : AttrNo → Glance → Option (ℤ × ℤ)
-test_on a g =
-    if g.has_first && (g.first_attr.0 == a.0) then Some g.first
-    else (if g.has_second && (g.second_attr.0 == a.0) then Some g.second else None)
+glance_of conj = with_preds conj (glance [] Whole)
 
 -- the hull that a test stands for, over a domain
 abbrev pub hull_low : Range → ℤ → ℤ

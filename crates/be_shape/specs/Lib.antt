@@ -1,5 +1,7 @@
+pub mod Common
 pub mod Leaves
 pub mod Glances
+pub mod FewTests
 pub mod Listed
 pub mod Held
 pub mod Plain

@@ -1,10 +1,12 @@
 -- The attributes of a row, where they are few.
-use Rattle.std.specs.Prelude.{ℕ, ◌==◌, ◌||◌, ◌%◌, Bool, true, false, List, [], ◌∷◌, nat_lt, if◌then◌else◌}
+use Rattle.std.specs.Prelude.{ℕ, ◌||◌, ◌%◌, Bool, true, false, List, [], ◌∷◌, if◌then◌else◌}
 use Rattle.be_base.specs.declared.names.AttrNo.{AttrNo}
 use Rattle.be_model.specs.declared.preds.Pred.{Pred}
 use Rattle.be_model.specs.Schemas.{numbered}
+use Rattle.be_shape.specs.declared.glances.Glance.{Glance}
 use Rattle.be_shape.specs.declared.listings.RowAttrs.{RowAttrs}
 use Rattle.be_shape.specs.declared.listings.RowAttrs.TheVariants.{Zero, One, Two, Three, Many}
+use Rattle.be_shape.specs.Glances.{Test, is_part, glance_of}
 
 abbrev pub is_many : RowAttrs → Bool
 is_many Zero = false
@@ -21,25 +23,22 @@ any_listed test (Two x y) = test (numbered x) || test (numbered y)
 any_listed test (Three x y z) = test (numbered x) || test (numbered y) || test (numbered z)
 any_listed test Many = false
 
-abbrev pub with_number : ℕ → RowAttrs → RowAttrs
-with_number a Zero = One a
-with_number a (One x) = if x == a then One x else Two x a
-with_number a (Two x y) = if x == a || y == a then Two x y else Three x y a
-with_number a (Three x y z) = if x == a || y == a || z == a then Three x y z else Many
-with_number a Many = Many
+-- the attributes of tests
+abbrev pub listed : List Test → RowAttrs
+listed [] = Zero
+listed (x ∷ []) = One x.0.0
+listed (x ∷ y ∷ []) = Two x.0.0 y.0.0
+listed (x ∷ y ∷ z ∷ []) = Three x.0.0 y.0.0 z.0.0
+listed (x ∷ y ∷ z ∷ w ∷ more) = Many
 
--- with the attribute of a predicate
-abbrev pub with_attr : Pred → RowAttrs → RowAttrs
-with_attr p l = if nat_lt p.attr.0 256 then with_number p.attr.0 l else Many
-
-abbrev pub with_attrs : List Pred → RowAttrs → RowAttrs
-with_attrs [] l = l
-with_attrs (p ∷ ps) l = with_attrs ps (with_attr p l)
+-- the attributes that a glance tells
+abbrev pub attrs_told : Glance → RowAttrs
+attrs_told g = if is_part g.extent then Many else listed g.tests
 
 -- the attributes of a condition
 abbrev pub attrs_of : List Pred → RowAttrs
-attrs_of conj = with_attrs conj Zero
+attrs_of conj = attrs_told (glance_of conj)
 
--- the lower half of an id, by which most others are told apart
+-- the lower 16 bits of an id, by which most others are told apart
 abbrev pub low_part : ℕ → ℕ
-low_part id = id % 4294967296
+low_part id = id % 65536

@@ -1,5 +1,5 @@
 -- What a search sees of an event at a glance.
-use Rattle.std.specs.Prelude.{◌≡◌, ◌<◌, ◌≤ℤ◌, ℤ, ◌&&◌, Bool, true, List, length, get_or, Option, int_lt, int_le, if◌then◌else◌}
+use Rattle.std.specs.Prelude.{◌≡◌, ◌<◌, ◌≤ℤ◌, ◌<ℤ◌, ℤ, ◌&&◌, Bool, true, List, [], ◌∷◌, length, get_or, Option, Some, None, int_lt, int_le, if◌then◌else◌}
 use Rattle.be_base.specs.declared.names.AttrNo.{AttrNo}
 use Rattle.be_model.specs.Matching.{Assignments, values_of}
 use Rattle.be_shape.specs.declared.sights.TheConstants.{SEEN}
@@ -30,6 +30,17 @@ IsHull hull vs = (ends : ℤ × ℤ) → AreSmall ends → has_in ends vs ≡ tr
 abbrev pub TellHulls : List (ℤ × ℤ) → Assignments → Type 0
 TellHulls hulls e = (a : AttrNo) (d : ℤ × ℤ) → a.0 < SEEN → IsHull (get_or hulls a.0 d) (values_of e a)
 
+-- where the ends are turned there is no value; where both are one number strictly between the least and the greatest,
+-- there is that value alone; other ends say nothing here
+pub record IsExact (hull : ℤ × ℤ) (vs : Option (List ℤ)) : Type 0 where
+  pub none : hull.1 <ℤ hull.0 → vs ≡ None
+  pub one : hull.0 ≡ hull.1 → least <ℤ hull.0 → hull.0 <ℤ greatest → vs ≡ Some (hull.0 ∷ [])
+
+-- by attribute, such ends are true of the event's values
+abbrev pub TellExactly : List (ℤ × ℤ) → Assignments → Type 0
+TellExactly hulls e = (a : AttrNo) (d : ℤ × ℤ) → a.0 < SEEN → IsExact (get_or hulls a.0 d) (values_of e a)
+
 pub record IsSight (hulls : List (ℤ × ℤ)) (e : Assignments) : Type 0 where
   pub size : length hulls ≡ SEEN
   pub told : TellHulls hulls e
+  pub exact : TellExactly hulls e

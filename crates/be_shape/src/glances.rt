@@ -1,17 +1,15 @@
-//! What is told of a row without a look at it: at most two tests, and whether these are all of its meaning.
+//! What is told of a row without a look at it: at most three tests, and how much of its meaning these are.
 
 ghost use Rattle.std.specs.Prelude.{◌≡◌, true};
 ghost use Rattle.std.specs.List.{list_any};
 ghost use Rattle.be_model.specs.declared.ops.Op.{Op};
 ghost use Rattle.be_model.specs.Forms.{IsConj};
-ghost use Rattle.be_model.specs.Hulls.{is_on, span_in};
-ghost use Rattle.be_model.specs.Lies.{conj_lies};
-ghost use Rattle.be_model.specs.Matching.{values_of, satisfies};
-ghost use Rattle.be_shape.specs.Glances.{is_in, has_in, small, bounds_of, of_none, spread, is_narrower, unsure, with_first, with_second, with_test, with_bounds, with_pred, glance_of, may_meet, test_on, hull_low, hull_high, hull_in};
+ghost use Rattle.be_model.specs.Matching.{values_of};
+ghost use Rattle.be_shape.specs.Glances.{is_in, has_in, small, bounds_of, is_whole, is_part, glance, with_test, with_pred, glance_of, hull_low, hull_high, hull_in};
 
-use crate::sights::Sight;
+use crate::few_tests::FewTests;
 use be_base::AttrNo;
-use be_model::{Conj, Event, Op, Pred, Schema, Values};
+use be_model::{Conj, Event, Op, Pred, Values};
 
 /// The least and the greatest number that are allowed. The least and the greatest of 32 bits stand for no bound.
 pub(crate) type Ends = (i32, i32);
@@ -24,17 +22,22 @@ pub(crate) struct Bounds {
     exact: bool,
 }
 
-/// At most two tests of a row, the narrower first.
+/// How much of a row its tests are.
 #[derive(Clone, Copy)]
+pub(crate) enum Extent {
+    /// All: an event that passes them satisfies the row.
+    Whole,
+    /// They are on all its attributes.
+    Few,
+    /// There may be attributes with no test.
+    Part,
+}
+
+/// Tests of a row, of the first predicate on each attribute.
+#[derive(Drop)]
 pub(crate) struct Glance {
-    pub(crate) first: Ends,
-    pub(crate) second: Ends,
-    pub(crate) first_attr: AttrNo,
-    pub(crate) second_attr: AttrNo,
-    pub(crate) has_first: bool,
-    pub(crate) has_second: bool,
-    /// The tests are all: an event that meets them satisfies the row.
-    pub(crate) whole: bool,
+    pub(crate) tests: FewTests,
+    pub(crate) extent: Extent,
 }
 
 // The number, where it isn't the least or the greatest of 32 bits, nor beyond.
@@ -58,12 +61,12 @@ fn bounds_of(op: &Op) -> Option<Bounds>
             let v = small(*x)?;
             Some(Bounds::exactly((v, v)))
         }
-        Op::Ne(_) => None,
+        Op::Ne(_) => Some(Bounds::widest()),
         Op::Ge(x) => Some(Bounds::from(small(*x)?)),
         Op::Gt(x) => Some(Bounds::from(small(*x)? + 1)),
         Op::Between(x, y) => Some(Bounds::exactly((small(*x)?, small(*y)?))),
         Op::OneOf(xs) => bounds_of_set(xs),
-        Op::NoneOf(_) => None,
+        Op::NoneOf(_) => Some(Bounds::widest()),
     }
 }
 
@@ -75,12 +78,6 @@ fn bounds_of_set(xs: &Values) -> Option<Bounds>
         ends: (small(low)?, small(high)?),
         exact: false,
     })
-}
-
-fn any_is_on(preds: &[Pred], a: AttrNo) -> bool
-    ensures { result ≡ list_any (is_on a) preds.now }
-{
-    preds.iter().any(|pred| pred.attr.0 == a.0)
 }
 
 fn hull_low(d: (i64, i64), low: i32) -> i64
@@ -99,8 +96,8 @@ fn hull_high(d: (i64, i64), high: i32) -> i64
     if high == i32::MAX { d.1 } else { high as i64 }
 }
 
-// The hull that a test stands for, over a domain.
-fn hull_in(d: (i64, i64), ends: Ends) -> (i64, i64)
+/// The hull that a test stands for, over a domain.
+pub(crate) fn hull_in(d: (i64, i64), ends: Ends) -> (i64, i64)
     ensures { result ≡ hull_in d ends }
 {
     let low = hull_low(d, ends.0);
@@ -108,7 +105,7 @@ fn hull_in(d: (i64, i64), ends: Ends) -> (i64, i64)
 }
 
 impl Bounds {
-    ghost use Rattle.std.specs.Prelude.{true};
+    ghost use Rattle.std.specs.Prelude.{true, false};
     ghost use Rattle.be_shape.specs.Glances.{bounds, least, greatest};
 
     fn exactly(ends: Ends) -> Bounds
@@ -128,6 +125,16 @@ impl Bounds {
     {
         Bounds::exactly((low, i32::MAX))
     }
+
+    // An event must have a value, and that may be any.
+    fn widest() -> Bounds
+        ensures { result ≡ bounds least greatest false }
+    {
+        Bounds {
+            ends: (i32::MIN, i32::MAX),
+            exact: false,
+        }
+    }
 }
 
 // Whether the number is between the ends.
@@ -143,8 +150,8 @@ fn any_is_in(ends: Ends, values: &Values) -> bool
     values.as_slice().iter().any(|v| is_in(ends, *v))
 }
 
-// Whether the event has a value of the attribute between the ends.
-fn has_in(ends: Ends, a: AttrNo, e: &Event) -> bool
+/// Whether the event has a value of the attribute between the ends.
+pub(crate) fn has_in(ends: Ends, a: AttrNo, e: &Event) -> bool
     ensures { result ≡ has_in ends (values_of e.now a) }
 {
     match e.values(a) {
@@ -153,98 +160,67 @@ fn has_in(ends: Ends, a: AttrNo, e: &Event) -> bool
     }
 }
 
-// How far the greatest is above the least.
-fn spread(x: Ends) -> i64
-    ensures { result ≡ spread x }
-{
-    x.1 as i64 - x.0 as i64
-}
+impl Extent {
+    pub(crate) fn is_whole(self) -> bool
+        ensures { result ≡ is_whole self }
+    {
+        matches!(self, Extent::Whole)
+    }
 
-fn is_narrower(x: Ends, y: Ends) -> bool
-    ensures { result ≡ is_narrower x y }
-{
-    spread(x) < spread(y)
+    pub(crate) fn is_part(self) -> bool
+        ensures { result ≡ is_part self }
+    {
+        matches!(self, Extent::Part)
+    }
 }
 
 impl Glance {
-    /// Of the condition of no predicate, and where there is no row.
-    pub(crate) fn of_none() -> Glance
-        ensures { result ≡ of_none }
+    ghost use Rattle.std.specs.Prelude.{[]};
+    ghost use Rattle.be_shape.specs.declared.glances.Extent.TheVariants.{Whole};
+
+    // Of the condition of no predicate.
+    fn of_none() -> Glance
+        ensures { result ≡ glance [] Whole }
     {
         Glance {
-            first: (0, 0),
-            second: (0, 0),
-            first_attr: AttrNo(0),
-            second_attr: AttrNo(0),
-            has_first: false,
-            has_second: false,
-            whole: true,
+            tests: FewTests::none(),
+            extent: Extent::Whole,
         }
     }
 
-    fn with_first(self, a: AttrNo, b: Bounds) -> Glance
-        ensures { result ≡ with_first a b self }
+    fn with_extent(self, extent: Extent) -> Glance
+        ensures { result ≡ glance self.tests extent }
     {
         Glance {
-            first: b.ends,
-            second: self.first,
-            first_attr: a,
-            second_attr: self.first_attr,
-            has_first: true,
-            has_second: self.has_first,
-            whole: self.whole && b.exact && !self.has_second,
-        }
-    }
-
-    fn with_second(self, a: AttrNo, b: Bounds) -> Glance
-        ensures { result ≡ with_second a b self }
-    {
-        Glance {
-            first: self.first,
-            second: b.ends,
-            first_attr: self.first_attr,
-            second_attr: a,
-            has_first: self.has_first,
-            has_second: true,
-            whole: self.whole && b.exact && !self.has_second,
-        }
-    }
-
-    fn unsure(self) -> Glance
-        ensures { result ≡ unsure self }
-    {
-        Glance {
-            first: self.first,
-            second: self.second,
-            first_attr: self.first_attr,
-            second_attr: self.second_attr,
-            has_first: self.has_first,
-            has_second: self.has_second,
-            whole: false,
+            tests: self.tests,
+            extent,
         }
     }
 
     fn with_test(self, a: AttrNo, b: Bounds) -> Glance
         ensures { result ≡ with_test a b self }
     {
-        if !self.has_first || is_narrower(b.ends, self.first) {
-            self.with_first(a, b)
-        } else if !self.has_second || is_narrower(b.ends, self.second) {
-            self.with_second(a, b)
-        } else {
-            self.unsure()
+        if 256 <= a.0 || self.tests.is_full() {
+            return self.with_extent(Extent::Part);
+        }
+        Glance {
+            tests: self.tests.with(a.0 as u8, b.ends),
+            extent: if b.exact { self.extent } else { Extent::Few },
         }
     }
 
-    fn with_pred(self, earlier: &[Pred], pred: &Pred) -> Glance
-        ensures { result ≡ with_pred earlier.now pred.now self }
+    fn with_pred(self, pred: &Pred) -> Glance
+        ensures { result ≡ with_pred pred.now self }
     {
-        if any_is_on(earlier, pred.attr) {
-            return self.unsure();
+        if self.extent.is_part() {
+            return self;
+        }
+        if self.tests.on(pred.attr).is_some() {
+            return self.with_extent(Extent::Few);
         }
         match bounds_of(&pred.op) {
             Some(b) => self.with_test(pred.attr, b),
-            None => self.unsure(),
+            None => self.with_extent(Extent::Part),
         }
     }
 
@@ -253,69 +229,10 @@ impl Glance {
         ensures told { result ≡ glance_of conj.now }
         ensures form { IsConj conj.now }
     {
-        let preds = conj.preds();
         let mut glance = Glance::of_none();
-        for place in 0..preds.len() {
-            glance = glance.with_pred(&preds[..place], &preds[place]);
+        for pred in conj.preds() {
+            glance = glance.with_pred(pred);
         }
         glance
-    }
-
-    /// Whether the event meets the tests.
-    fn may_meet(&self, e: &Event) -> bool
-        ensures { result ≡ may_meet e.now self.now }
-    {
-        (!self.has_first || has_in(self.first, self.first_attr, e))
-            && (!self.has_second || has_in(self.second, self.second_attr, e))
-    }
-
-    // Whether what is seen of the event lets it meet the tests.
-    fn is_worth(&self, e: &Sight) -> bool
-        ensures { may_meet e.now self.now ≡ true → result ≡ true }
-    {
-        (!self.has_first || e.may_have(self.first, self.first_attr))
-            && (!self.has_second || e.may_have(self.second, self.second_attr))
-    }
-
-    /// Whether the event satisfies the condition that this is told of. Most often the table of the sight says no.
-    #[tactic(auto, using(crate::proofs::TwoTests::told))]
-    pub(crate) fn is_met(&self, conj: &Conj, e: &Sight) -> bool
-        requires told { self.now ≡ glance_of conj.now }
-        requires form { IsConj conj.now }
-        ensures { result ≡ satisfies e.now conj.now }
-    {
-        if !self.is_worth(e) {
-            false
-        } else if self.whole {
-            self.may_meet(e.event())
-        } else {
-            conj.satisfied_by(e.event())
-        }
-    }
-
-    // The test on an attribute.
-    fn test_on(&self, a: AttrNo) -> Option<Ends>
-        ensures { result ≡ test_on a self.now }
-    {
-        if self.has_first && self.first_attr.0 == a.0 {
-            Some(self.first)
-        } else if self.has_second && self.second_attr.0 == a.0 {
-            Some(self.second)
-        } else {
-            None
-        }
-    }
-
-    /// The hull of the condition's first predicate on the attribute.
-    pub(crate) fn span(&self, conj: &Conj, s: &Schema, a: AttrNo) -> Option<(i64, i64)>
-        requires told { self.now ≡ glance_of conj.now }
-        requires form { IsConj conj.now }
-        requires lies { conj_lies s.now conj.now ≡ true }
-        ensures { result ≡ span_in s.now a conj.now }
-    {
-        match self.test_on(a) {
-            Some(ends) => Some(hull_in(s.range(a)?, ends)),
-            None => conj.span(s, a),
-        }
     }
 }

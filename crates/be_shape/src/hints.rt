@@ -1,13 +1,14 @@
 //! Where the rows of a large leaf may stand.
 
 use crate::places::Kept;
+use be_base::Id;
 use std::alloc::Global;
 
 /// From so many rows on a leaf has hints.
 const HINTED_ROWS: usize = 64;
 
-/// A place for the lower half of an id, at which its row may stand. Whoever asks looks whether it does, so nothing need be true of a hint, and where
-/// memory is wanting there is none.
+/// A place for an id, at which its row may stand. Whoever asks looks whether it does, so nothing need be true of a hint, and where
+/// memory is wanting there is none. To note a row it is looked at for its id, which only a leaf with hints pays.
 #[derive(Drop)]
 pub(crate) struct Hints {
     slots: Vec<u32>,
@@ -22,37 +23,32 @@ impl Hints {
     }
 
     /// A place at which the row of the id may stand.
-    pub(crate) fn guess(&self, low: u32) -> usize {
+    pub(crate) fn guess(&self, id: Id) -> usize {
         let count = self.slots.len();
         if count == 0 {
             return 0;
         }
-        self.slots[low as usize % count] as usize
-    }
-
-    // Notes that the row of an id stands at a place.
-    fn note(&mut self, low: u32, place: usize) {
-        let count = self.slots.len();
-        if count == 0 || (u32::MAX as usize) < place {
-            return;
-        }
-        self.slots[low as usize % count] = place as u32;
+        self.slots[(id.0 % count as u64) as usize] as usize
     }
 
     /// Notes what stands at a place.
     pub(crate) fn note_at(&mut self, places: &[Kept], place: usize) {
-        if place < places.len() {
-            self.note(places[place].any_low_part(), place);
+        let count = self.slots.len();
+        if count == 0 || places.len() <= place || (u32::MAX as usize) < place {
+            return;
+        }
+        if let Some(id) = places[place].any_id() {
+            self.slots[(id.0 % count as u64) as usize] = place as u32;
         }
     }
 
     /// Notes the last of these places, or all of them anew where they have become too many.
-    pub(crate) fn note_last(&mut self, places: &[Kept], low: u32) {
+    pub(crate) fn note_last(&mut self, places: &[Kept]) {
         let count = places.len();
         if HINTED_ROWS <= count && self.slots.len() / 2 < count {
             self.renew(places);
         } else if 0 < count {
-            self.note(low, count - 1);
+            self.note_at(places, count - 1);
         }
     }
 
@@ -62,8 +58,8 @@ impl Hints {
             return;
         };
         self.slots = slots;
-        for (place, kept) in places.iter().enumerate() {
-            self.note(kept.any_low_part(), place);
+        for place in 0..places.len() {
+            self.note_at(places, place);
         }
     }
 }

@@ -5,6 +5,7 @@ ghost use Rattle.std.specs.List.{Contains, remove};
 ghost use Rattle.be_model.specs.Hulls.{span_in};
 ghost use Rattle.be_model.specs.Lies.{row_lies};
 ghost use Rattle.be_model.specs.Rows.{has};
+ghost use Rattle.be_shape.specs.Common.{AreCommon};
 ghost use Rattle.be_shape.specs.Listed.{attrs_of};
 ghost use Rattle.std.specs.Arc.{arc_value};
 ghost use Rattle.be_model.specs.Matching.{satisfies};
@@ -13,6 +14,7 @@ use crate::hints::Hints;
 use crate::listings::RowAttrs;
 use crate::places::{Kept, low_part};
 use crate::sights::Sight;
+use crate::tallies::common_of;
 use be_base::AttrNo;
 use be_model::{Row, RowList, Schema};
 use smallvec::SmallVec;
@@ -20,9 +22,11 @@ use std::alloc::Global;
 use std::marker::Model;
 use std::sync::Arc;
 
-/// Rows in some order, of which 17 stand in place.
+/// Rows in some order, of which 17 stand in place. What is asked of a leaf before its rows stands before them.
 #[derive(Drop)]
 pub struct Leaf {
+    count: usize,
+    common: RowAttrs,
     places: SmallVec<Kept, 17>,
     hints: Hints,
 }
@@ -33,11 +37,12 @@ impl Model for Leaf {
 
     ghost Value = { List Row };
 
-    ghost use Rattle.be_shape.specs.Leaves.{rows_of_places, are_rows};
+    ghost use Rattle.be_shape.specs.Leaves.{rows_of_places};
+    ghost use Rattle.be_shape.specs.Common.{IsLeaf};
 
     ghost view = { λ l. rows_of_places l.places.items };
 
-    ghost invariant = { λ l. are_rows l.places.items ≡ true };
+    ghost invariant = { λ l. IsLeaf l.count l.common l.places.items };
 }
 
 impl Leaf {
@@ -46,6 +51,8 @@ impl Leaf {
         ensures { result ≡ [] }
     {
         Leaf {
+            count: 0,
+            common: RowAttrs::Zero,
             places: SmallVec::new(alloc),
             hints: Hints::none(alloc),
         }
@@ -55,7 +62,7 @@ impl Leaf {
     pub fn len(&self) -> usize
         ensures { result ≡ length self.now }
     {
-        self.places.len()
+        self.count
     }
 
     // What stands at a place.
@@ -76,7 +83,7 @@ impl Leaf {
         self.kept(place).row()
     }
 
-    /// Whether the event satisfies the row at a place. The row is looked at only where two tests of it are met and don't say all;
+    /// Whether the event satisfies the row at a place. The row is looked at only where its tests are met and don't say all;
     /// most others are passed over by the table of the sight.
     pub fn is_met(&self, place: usize, e: &Sight) -> bool
         requires { place < length self.now }
@@ -85,7 +92,7 @@ impl Leaf {
         self.kept(place).is_met(e)
     }
 
-    /// The span on the attribute of the row at a place. The row is looked at only where no test of it is on the attribute.
+    /// The span on the attribute of the row at a place. A row whose attributes are few isn't looked at.
     pub fn span(&self, place: usize, s: &Schema, a: AttrNo) -> Option<(i64, i64)>
         requires place { place < length self.now }
         requires lies { option_map (row_lies s.now) (slice_get self.now place) ≡ Some true }
@@ -110,6 +117,20 @@ impl Leaf {
         self.kept(place).has_attr(a)
     }
 
+    /// The attributes that at least 8 rows have, with others perhaps, or `Many` where they aren't known.
+    pub fn common(&self) -> RowAttrs
+        ensures { AreCommon self.now result }
+    {
+        self.common
+    }
+
+    /// Looks which these attributes are. A row that is put or taken leaves them unknown.
+    pub fn note_common(&mut self)
+        ensures { self.new ≡ self.old }
+    {
+        self.common = common_of(self);
+    }
+
     // Whether the row stands at a place.
     fn has_at(&self, place: usize, row: &Row) -> bool
         requires { place < length self.now }
@@ -118,12 +139,12 @@ impl Leaf {
         self.kept(place).low_part() == low_part(row.id) && self.row(place).same_as(row)
     }
 
-    /// Where the row stands. A row whose id has another lower half isn't looked at.
+    /// Where the row stands. A row whose id has other lower bits isn't looked at.
     pub fn place_of(&self, row: &Row) -> Option<usize>
         ensures found { IfSome result (λ place. slice_get self.now place ≡ Some row.now) }
         ensures none { IfNone result (Contains self.now row.now → ⊥) }
     {
-        let guess = self.hints.guess(low_part(row.id));
+        let guess = self.hints.guess(row.id);
         if guess < self.len() && self.has_at(guess, row) {
             return Some(guess);
         }
@@ -142,7 +163,10 @@ impl Leaf {
         ensures row { slice_get self.old place ≡ Some (arc_value result) }
         ensures rest { self.new ≡ remove self.old place }
     {
-        self.places.remove(place).into_row()
+        let row = self.places.remove(place).into_row();
+        self.count = self.places.len();
+        self.common = RowAttrs::Many;
+        row
     }
 
     /// Takes the row at a place out, and puts the last one in its place. It takes no memory.
@@ -153,6 +177,7 @@ impl Leaf {
         ensures rest { IsPermutation self.old (arc_value result ∷ self.new) }
     {
         let row = self.places.swap_remove(place).into_row();
+        self.count = self.places.len();
         self.hints.note_at(self.places.as_slice(), place);
         row
     }
@@ -166,9 +191,11 @@ impl Leaf {
     {
         match self.places.reserve(1) {
             Ok(()) => {
-                let low = low_part(row.id);
                 self.places.push_reserved(Kept::of(row));
-                self.hints.note_last(self.places.as_slice(), low);
+                self.hints.note_last(self.places.as_slice());
+                self.count = self.places.len();
+                self.common = RowAttrs::Many;
+                self.note_common();
                 Ok(())
             }
             Err(_) => Err(row),
@@ -183,6 +210,8 @@ impl Leaf {
     {
         let _ = self.places.capacity();
         self.places.push_reserved(Kept::of(row));
+        self.count = self.places.len();
+        self.common = RowAttrs::Many;
     }
 }
 

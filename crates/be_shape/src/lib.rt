@@ -6,6 +6,7 @@
 #![tactic(auto)]
 
 mod counts;
+mod few_tests;
 mod glances;
 mod hints;
 mod laws;
@@ -18,6 +19,7 @@ mod ranges;
 mod sights;
 mod spots;
 mod swaps;
+mod tallies;
 mod trees;
 mod walks;
 
@@ -33,7 +35,7 @@ pub use looks::{
 };
 pub use nodes::{Node, Part};
 pub use ranges::{NodeRange, holds_value, lower_range, upper_range, whole_range};
-pub use sights::Sight;
+pub use sights::{Hulls, NO_HULLS, Sight, fill_hulls};
 pub use spots::Spot;
 pub use swaps::{place_on, swap_at};
 pub use trees::Tree;

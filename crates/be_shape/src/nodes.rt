@@ -11,15 +11,15 @@ use be_model::Row;
 use std::alloc::Global;
 use std::sync::Arc;
 
-/// Rows, parts by attribute, and the two halves of the node's range.
+/// Rows, parts by attribute, and the two halves of the node's range. What a search asks of each node stands first, together.
 #[cycle(nodes)]
 #[derive(Drop)]
 pub struct Node {
-    pub leaf: Leaf,
-    /// Rising by attribute.
-    pub parts: Vec<Part>,
     pub low: Option<Box<Node>>,
     pub high: Option<Box<Node>>,
+    /// Rising by attribute.
+    pub parts: Vec<Part>,
+    pub leaf: Leaf,
 }
 
 impl Node {

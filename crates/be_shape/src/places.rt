@@ -7,11 +7,10 @@ ghost use Rattle.be_model.specs.Hulls.{span_in};
 ghost use Rattle.be_model.specs.Lies.{row_lies};
 ghost use Rattle.be_model.specs.Rows.{has};
 ghost use Rattle.be_shape.specs.Listed.{attrs_of, low_part};
-ghost use Rattle.be_shape.specs.Held.{GlanceTells};
 
-use crate::glances::{Ends, Glance};
+use crate::few_tests::FewTests;
+use crate::glances::{Extent, Glance};
 use crate::listings::RowAttrs;
-use crate::looks::has_attr;
 use crate::sights::Sight;
 use be_base::{AttrNo, Id};
 use be_model::{Row, Schema};
@@ -23,23 +22,17 @@ use std::sync::Arc;
 pub(crate) enum Held {
     Blank,
     Full {
-        has_first: bool,
-        has_second: bool,
-        whole: bool,
-        first_attr: AttrNo,
-        second_attr: AttrNo,
-        first: Ends,
-        second: Ends,
-        low_part: u32,
-        attrs: RowAttrs,
+        extent: Extent,
+        low_part: u16,
+        tests: FewTests,
         row: Arc<Row>,
     },
 }
 
 const _: () = prove!(size_of::<Held>() == 40);
 
-/// A place of a leaf: a row, or a blank where the leaf ends. It tells two tests of the row, its attributes where they are
-/// few, and half of its id, so that the row itself need not be looked at for these.
+/// A place of a leaf: a row, or a blank where the leaf ends. It tells three tests of the row and a part of its id, so that a
+/// row with at most three attributes isn't looked at for these, nor for its spans.
 #[derive(Drop)]
 pub(crate) struct Kept {
     held: Held,
@@ -66,11 +59,11 @@ impl Default for Kept {
     }
 }
 
-/// The lower half of an id. Most other ids have another one.
-pub(crate) fn low_part(id: Id) -> u32
+/// The lower 16 bits of an id. Most other ids have others.
+pub(crate) fn low_part(id: Id) -> u16
     ensures { result ≡ low_part id.0 }
 {
-    (id.0 % 4294967296) as u32
+    (id.0 % 65536) as u16
 }
 
 impl Kept {
@@ -80,15 +73,9 @@ impl Kept {
         let glance = Glance::of(&row.conj);
         Kept {
             held: Held::Full {
-                has_first: glance.has_first,
-                has_second: glance.has_second,
-                whole: glance.whole,
-                first_attr: glance.first_attr,
-                second_attr: glance.second_attr,
-                first: glance.first,
-                second: glance.second,
+                extent: glance.extent,
                 low_part: low_part(row.id),
-                attrs: RowAttrs::of(&row.conj),
+                tests: glance.tests,
                 row,
             },
         }
@@ -114,8 +101,8 @@ impl Kept {
         }
     }
 
-    /// The lower half of the row's id.
-    pub(crate) fn low_part(&self) -> u32
+    /// The lower 16 bits of the row's id.
+    pub(crate) fn low_part(&self) -> u16
         requires { IsSome self.now }
         ensures { option_map (λ row. low_part row.id.0) self.now ≡ Some result }
     {
@@ -125,11 +112,11 @@ impl Kept {
         }
     }
 
-    /// The same, or 0 of a blank.
-    pub(crate) fn any_low_part(&self) -> u32 {
+    /// The row's id. Of a blank there is none.
+    pub(crate) fn any_id(&self) -> Option<Id> {
         match &self.held {
-            Held::Full { low_part, .. } => *low_part,
-            Held::Blank => 0,
+            Held::Full { row, .. } => Some(row.id),
+            Held::Blank => None,
         }
     }
 
@@ -139,49 +126,24 @@ impl Kept {
         ensures { option_map (λ row. attrs_of row.conj) self.now ≡ Some result }
     {
         match &self.held {
-            Held::Full { attrs, .. } => *attrs,
+            Held::Full { extent, tests, .. } => tests.attrs(*extent),
             Held::Blank => unreachable!(),
         }
     }
 
     /// Whether the row has a predicate on the attribute.
-    #[tactic(auto, using(crate::proofs::FewAttrs::has_is_listed))]
     pub(crate) fn has_attr(&self, a: AttrNo) -> bool
         requires { IsSome self.now }
         ensures { option_map (λ row. has a row) self.now ≡ Some result }
     {
-        let attrs = self.attrs();
-        if attrs.is_many() {
-            has_attr(self.row(), a)
-        } else {
-            attrs.has(a)
-        }
-    }
-
-    // What is told of the row. Of a blank nothing is.
-    fn glance(&self) -> Glance
-        ensures { GlanceTells self.now result }
-    {
         match &self.held {
             Held::Full {
-                has_first,
-                has_second,
-                whole,
-                first_attr,
-                second_attr,
-                first,
-                second,
+                extent,
+                tests,
+                row,
                 ..
-            } => Glance {
-                first: *first,
-                second: *second,
-                first_attr: *first_attr,
-                second_attr: *second_attr,
-                has_first: *has_first,
-                has_second: *has_second,
-                whole: *whole,
-            },
-            Held::Blank => Glance::of_none(),
+            } => tests.has_attr(*extent, row, a),
+            Held::Blank => unreachable!(),
         }
     }
 
@@ -190,7 +152,15 @@ impl Kept {
         requires { IsSome self.now }
         ensures { option_map (λ row. satisfies e.now row.conj) self.now ≡ Some result }
     {
-        self.glance().is_met(&self.row().conj, e)
+        match &self.held {
+            Held::Full {
+                extent,
+                tests,
+                row,
+                ..
+            } => tests.is_met(*extent, &row.conj, e),
+            Held::Blank => unreachable!(),
+        }
     }
 
     /// The row's span on the attribute.
@@ -199,6 +169,14 @@ impl Kept {
         requires lies { option_map (row_lies s.now) self.now ≡ Some true }
         ensures { option_map (λ row. span_in s.now a row.conj) self.now ≡ Some result }
     {
-        self.glance().span(&self.row().conj, s, a)
+        match &self.held {
+            Held::Full {
+                extent,
+                tests,
+                row,
+                ..
+            } => tests.span(*extent, &row.conj, s, a),
+            Held::Blank => unreachable!(),
+        }
     }
 }

@@ -1,26 +1,37 @@
 //! An event as a search looks at it.
 
-ghost use Rattle.std.specs.Prelude.{◌≡◌, ◌<◌, true, length};
-ghost use Rattle.be_model.specs.Matching.{values_of};
+ghost use Rattle.std.specs.Prelude.{◌≡◌, ◌<◌, ◌∷◌, [], true, Option, Some, List, ℤ, IfSome, option_map};
+ghost use Rattle.be_model.specs.Forms.{attrs_rise};
+ghost use Rattle.be_model.specs.Matching.{attrs_of, values_of, is_assigned};
 ghost use Rattle.be_shape.specs.Glances.{has_in};
-ghost use Rattle.be_shape.specs.Sights.{AreSmall, clamped, overlaps, IsHull, TellHulls};
+ghost use Rattle.be_shape.specs.Ranges.{is_rising};
+ghost use Rattle.be_shape.specs.Search.{holds_value};
+ghost use Rattle.be_shape.specs.Sights.{AreSmall, clamped, overlaps, IsExact, IsHull, IsSight};
 
 use crate::glances::Ends;
+use crate::ranges::{NodeRange, holds_value};
 use be_base::AttrNo;
-use be_model::{Event, Schema};
+use be_model::{Event, Values};
 use std::marker::Model;
 
 /// Of each attribute below this number a sight has a hull.
 const SEEN: usize = 64;
 
+/// By attribute, ends of an event's values.
+pub type Hulls = [(i32, i32); SEEN];
+
 /// The least and the greatest number.
 const WIDE: Ends = (i32::MIN, i32::MAX);
 
-/// An event, and by attribute ends of its values, so that most rows are passed over by a compare with one entry of a table.
+/// The hulls of no values. A search fills its own in place, so that they aren't copied.
+pub const NO_HULLS: Hulls = [(i32::MAX, i32::MIN); SEEN];
+
+/// An event, and by attribute ends of its values, so that most rows are passed over, and most halves entered or not,
+/// by a compare with one entry of a table.
 #[derive(Drop)]
 pub struct Sight<'a> {
     event: &'a Event,
-    hulls: [Ends; SEEN],
+    hulls: &'a Hulls,
 }
 
 impl<'a> Model for Sight<'a> {
@@ -33,7 +44,7 @@ impl<'a> Model for Sight<'a> {
 
     ghost view = { λ s. s.event.now };
 
-    ghost invariant = { λ s. IsSight s.hulls s.event.now };
+    ghost invariant = { λ s. IsSight s.hulls.now s.event.now };
 }
 
 // The number, or the nearest one of 32 bits.
@@ -56,48 +67,63 @@ fn overlaps(x: Ends, y: Ends) -> bool
     x.0 <= y.1 && y.0 <= x.1
 }
 
-// Ends that overlap all that hold some of the event's values of an attribute. Several values aren't looked at.
-#[tactic(auto, using(crate::proofs::SightHulls::wide_is, crate::proofs::SightHulls::none_is, crate::proofs::SightHulls::one_is))]
-fn hull_of(e: &Event, a: AttrNo) -> Ends
-    ensures { IsHull result (values_of e.now a) }
+// Ends that overlap all that hold some of the values. Several values aren't looked at.
+#[tactic(auto, using(crate::proofs::SightHulls::wide_is, crate::proofs::SightHulls::one_is, crate::proofs::SightHulls::wide_exact, crate::proofs::SightHulls::one_exact))]
+fn hull_of(values: &Values) -> Ends
+    ensures hull { IsHull result (Some values.now) }
+    ensures exact { IsExact result (Some values.now) }
 {
-    match e.values(a) {
-        None => (i32::MAX, i32::MIN),
-        Some(values) => match values.as_slice() {
-            [v] => (clamped(*v), clamped(*v)),
-            _ => WIDE,
-        },
+    match values.as_slice() {
+        [v] => (clamped(*v), clamped(*v)),
+        _ => WIDE,
     }
 }
 
-// The hulls of the event's attributes.
-#[tactic(auto, using(crate::proofs::SightHulls::told_wide))]
-fn hulls_of(s: &Schema, e: &Event) -> [Ends; SEEN]
-    ensures size { length result ≡ SEEN }
-    ensures told { TellHulls result e.now }
+// Writes the hulls of the items.
+fn fill(hulls: &mut Hulls, items: &[(AttrNo, Values)])
+    requires none { hulls.old ≡ NO_HULLS }
+    requires rise { attrs_rise (attrs_of items.now) ≡ true }
+    ensures { IsSight hulls.new items.now }
 {
-    let mut hulls = [WIDE; SEEN];
-    for a in 0..s.count() {
-        if usize::from(a) < SEEN {
-            hulls[usize::from(a)] = hull_of(e, AttrNo(a));
+    for item in items {
+        let a = usize::from(item.0.0);
+        if a < SEEN {
+            hulls[a] = hull_of(&item.1);
         }
     }
-    hulls
+}
+
+// Of exact ends the value, or that there is none.
+fn only_of(ends: Ends) -> Option<Option<i64>>
+    ensures { (vs : Option (List ℤ)) → IsExact ends vs → IfSome result (λ only. vs ≡ option_map (λ v. v ∷ []) only) }
+{
+    if ends.0 == ends.1 {
+        if i32::MIN < ends.0 && ends.0 < i32::MAX {
+            Some(Some(ends.0 as i64))
+        } else {
+            None
+        }
+    } else if ends.1 < ends.0 {
+        Some(None)
+    } else {
+        None
+    }
+}
+
+/// Writes the hulls of the event's values.
+pub fn fill_hulls(hulls: &mut Hulls, e: &Event)
+    requires { hulls.old ≡ NO_HULLS }
+    ensures { IsSight hulls.new e.now }
+{
+    fill(hulls, e.items());
 }
 
 impl<'a> Sight<'a> {
-    /// An event, seen over a schema. It takes no memory.
-    pub fn of(s: &Schema, event: &'a Event) -> Sight<'a>
+    pub fn of(event: &'a Event, hulls: &'a Hulls) -> Sight<'a>
+        requires { IsSight hulls.now event.now }
         ensures { result ≡ event.now }
     {
-        let hulls = hulls_of(s, event);
         Sight { event, hulls }
-    }
-
-    pub fn event(&self) -> &'a Event
-        ensures { result.now ≡ self.now }
-    {
-        self.event
     }
 
     /// Whether a value of the attribute may be between the ends.
@@ -109,5 +135,59 @@ impl<'a> Sight<'a> {
         } else {
             true
         }
+    }
+
+    pub fn event(&self) -> &'a Event
+        ensures { result.now ≡ self.now }
+    {
+        self.event
+    }
+
+    // The only value of an attribute, or that it has none, where the table says so.
+    fn only_value(&self, a: AttrNo) -> Option<Option<i64>>
+        ensures { IfSome result (λ only. values_of self.now a ≡ option_map (λ v. v ∷ []) only) }
+    {
+        if usize::from(a.0) < SEEN {
+            only_of(self.hulls[usize::from(a.0)])
+        } else {
+            None
+        }
+    }
+
+    /// Whether the event gives the attribute a value.
+    pub fn assigns(&self, a: AttrNo) -> bool
+        ensures { result ≡ is_assigned self.now a }
+    {
+        match self.only_value(a) {
+            Some(only) => only.is_some(),
+            None => self.event.values(a).is_some(),
+        }
+    }
+
+    /// Whether the range holds at least one of the event's values of its attribute.
+    #[inline(always)]
+    #[tactic(auto, using(crate::proofs::SightHulls::one_inside))]
+    pub fn holds_value(&self, range: NodeRange) -> bool
+        ensures value { result ≡ holds_value self.now range }
+        // An empty range holds none.
+        ensures rising { result ≡ true → is_rising range ≡ true }
+    {
+        match range {
+            Some((a, ends)) => match self.only_value(a) {
+                Some(Some(v)) => ends.0 <= v && v <= ends.1,
+                Some(None) => false,
+                None => self.asks(a, ends.0, ends.1),
+            },
+            None => false,
+        }
+    }
+
+    // The same, by the event itself. It is given numbers, so that a range that isn't asked for needn't stand in memory.
+    #[inline(never)]
+    fn asks(&self, a: AttrNo, low: i64, high: i64) -> bool
+        ensures value { result ≡ holds_value self.now (Some (a, (low, high))) }
+        ensures rising { result ≡ true → is_rising (Some (a, (low, high))) ≡ true }
+    {
+        holds_value(Some((a, (low, high))), self.event)
     }
 }

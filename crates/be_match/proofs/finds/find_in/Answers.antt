@@ -9,6 +9,7 @@ use Rattle.std.proofs.lemmas.List.Sorted.{IsPermutation-sym}
 use Rattle.be_shape.specs.Plain.{plain, rows_below, contents}
 use Rattle.be_shape.specs.Search.{visited, all_of}
 use Rattle.be_match.specs.Leaves.{AreCountable, FindsSome}
+use Rattle.be_match.proofs.Counted.{countable_with_none, costs_alone}
 use Rattle.be_match.proofs.Within.{searched, countable, within_bound, all_found, some_in_tree}
 use Rattle.be_match.proofs.finds.find_in.Goals as goal
 
@@ -19,7 +20,7 @@ search_node-requires-clause-countable c =
     let e = c.args.e.now in
     let n = plain t.root in
     let w = searched t e (subst IsSchema c.deref.ensures c.count.ensures.form) c.items.ensures.form c.requires in
-    subst (λ x. AreCountable (visited c.deref-s.result.now x None n)) (sym c.of-sight.ensures) (subst (λ a. AreCountable (visited a e None n)) (sym c.deref-s.ensures) (countable s e n w))
+    countable_with_none c.none-cost.result (visited c.deref-s.result.now c.of-sight.result None n) c.none-cost.ensures (subst (λ x. AreCountable (visited c.deref-s.result.now x None n)) (sym c.of-sight.ensures) (subst (λ a. AreCountable (visited a e None n)) (sym c.deref-s.ensures) (countable s e n w)))
 
 pub returns-in-Ok-clause-found : goal.returns-in-Ok-clause-found
 returns-in-Ok-clause-found c =
@@ -51,5 +52,6 @@ returns-in-Ok-clause-bound c =
     let e = c.args.e.now in
     let n = plain t.root in
     let w = searched t e (subst IsSchema c.deref.ensures c.count.ensures.form) c.items.ensures.form c.requires in
-    within_bound s e n c.in-Ok.cost w (ap (λ x. x.visits) c.in-Ok.ensures.cost ∙ ap (λ x. length (visited c.deref-s.result.now x None n)) c.of-sight.ensures ∙ ap (λ a. length (visited a e None n)) c.deref-s.ensures)
-    (ap (λ x. x.tested) c.in-Ok.ensures.cost ∙ ap (λ x. length (all_of (visited c.deref-s.result.now x None n))) c.of-sight.ensures ∙ ap (λ a. length (all_of (visited a e None n))) c.deref-s.ensures)
+    let alone = costs_alone c.none-cost.result c.search_node.new.cost (visited c.deref-s.result.now c.of-sight.result None n) c.none-cost.ensures c.in-Ok.ensures.cost in
+    within_bound s e n c.search_node.new.cost w (alone.visits ∙ ap (λ x. length (visited c.deref-s.result.now x None n)) c.of-sight.ensures ∙ ap (λ a. length (visited a e None n)) c.deref-s.ensures)
+    (alone.tested ∙ ap (λ x. length (all_of (visited c.deref-s.result.now x None n))) c.of-sight.ensures ∙ ap (λ a. length (all_of (visited a e None n))) c.deref-s.ensures)

@@ -9,7 +9,7 @@ use Rattle.be_match.proofs.searches.+searches.Given as goal
 -- what was counted and put, and what is still to be visited
 abbrev pub invariant-search_parts-loop-part : goal.invariant-search_parts-loop-part
 invariant-search_parts-loop-part l =
-    (l.cost.visits + length (visited_in_parts l.s l.e (parts_as (drop l.part-index l.parts))) ≡ length (visited_in_parts l.s l.e (parts_as l.parts)))
-    × (l.cost.tested + length (all_of (visited_in_parts l.s l.e (parts_as (drop l.part-index l.parts)))) ≡ length (all_of (visited_in_parts l.s l.e (parts_as l.parts))))
+    (l.cost.visits + length (visited_in_parts l.s l.e (parts_as (drop l.part-index l.parts))) ≡ l.initial.cost.visits + length (visited_in_parts l.s l.e (parts_as l.parts)))
+    × (l.cost.tested + length (all_of (visited_in_parts l.s l.e (parts_as (drop l.part-index l.parts)))) ≡ l.initial.cost.tested + length (all_of (visited_in_parts l.s l.e (parts_as l.parts))))
     × (l.found.rows ++ satisfied l.e (all_of (visited_in_parts l.s l.e (parts_as (drop l.part-index l.parts)))) ≡ l.initial.found.rows ++ satisfied l.e (all_of (visited_in_parts l.s l.e (parts_as l.parts))))
     × BeginsWith l.found.rows l.initial.found.rows × KeepsRoom l.initial.found l.found

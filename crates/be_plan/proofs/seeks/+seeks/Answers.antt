@@ -31,7 +31,7 @@ seek-seek_part-requires t c =
       search (rules, the_lemmas),
       (
         at_moved s root c.args.path.now c.loop-part.path k (known_of c.loop-part.k) n c.requires c.loop-part.invariant.0 c.loop-part.invariant.1,
-        part_there n items c.loop-part.part-index c.part-item.result c.loop-part-test.true c.part-item.is each,
+        (c.are_full-full.ensures, part_there n items c.loop-part.part-index c.part-item.result c.loop-part-test.true c.part-item.is each),
       ),
     )
 

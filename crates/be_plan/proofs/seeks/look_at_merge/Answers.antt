@@ -9,6 +9,7 @@ use Rattle.be_shape.specs.Spots.{known_of}
 use Rattle.be_shape.specs.Children.{known_below}
 use Rattle.be_shape.specs.Steps.{can_merge}
 use Rattle.be_plan.specs.Best.{better}
+use Rattle.be_plan.proofs.FullNodes.{full_stays}
 use Rattle.be_plan.proofs.Places.{rows_lie, at_below}
 use Rattle.be_plan.proofs.Firsts.{first_merge}
 use Rattle.be_plan.proofs.Seeking.{closed, merge_range}
@@ -16,6 +17,16 @@ use Rattle.be_plan.proofs.seeks.look_at_merge.Goals as goal
 
 pub returns-then-best-le-MERGES : goal.returns-then-best-le-MERGES
 returns-then-best-le-MERGES c = closed 0 _ c.args.best.now c.if-best-le-MERGES.true
+
+pub returns-then-full : goal.returns-then-full
+returns-then-full c =
+    let s = arc_value c.args.t.now.schema in
+    let k = known_of c.args.k.now in
+    let n = plain c.args.n.now in
+    let step = Merge (c.args.path.now ++ c.args.hop ∷ []) in
+    let whole = first_merge s (plain c.args.t.now.root) c.args.path.now k n c.args.hop c.requires.at in
+    let test = full_stays s c.args.hop k n (plain c.args.m.now) c.requires.there (sym c.requires.full ∙ c.if-full.true) in
+    sym (ap (λ o. better 0 o c.args.best.now) (whole ∙ ap (λ b. cond b (Some step) None) test))
 
 pub may_merge-requires-clause-lie : goal.may_merge-requires-clause-lie
 may_merge-requires-clause-lie c =

@@ -6,14 +6,14 @@ pub returns-clause-at : goal.returns-clause-at
 returns-clause-at c =
     let ps = c.self.inside.places.items in
     let k = c.index-as_slice-place.result in
-    let l : c.args.place < length ps = omega (arith, rows_length ps c.self.invariant, ap length c.self.view_is, c.requires) in
+    let l : c.args.place < length ps = omega (arith, rows_length ps c.self.invariant.rows, ap length c.self.view_is, c.requires) in
     let e = c.index-as_slice-place.is ∙ ap (λ xs. get_or xs c.args.place k) c.as_slice.ensures in
-    ap (λ rows. slice_get rows c.args.place) (sym c.self.view_is) ∙ row_there ps c.args.place k c.self.invariant l e
+    ap (λ rows. slice_get rows c.args.place) (sym c.self.view_is) ∙ row_there ps c.args.place k c.self.invariant.rows l e
 
 pub returns-clause-row : goal.returns-clause-row
 returns-clause-row c =
     let ps = c.self.inside.places.items in
     let k = c.index-as_slice-place.result in
-    let l : c.args.place < length ps = omega (arith, rows_length ps c.self.invariant, ap length c.self.view_is, c.requires) in
+    let l : c.args.place < length ps = omega (arith, rows_length ps c.self.invariant.rows, ap length c.self.view_is, c.requires) in
     let e = c.index-as_slice-place.is ∙ ap (λ xs. get_or xs c.args.place k) c.as_slice.ensures in
-    row_some ps c.args.place k c.self.invariant l e
+    row_some ps c.args.place k c.self.invariant.rows l e

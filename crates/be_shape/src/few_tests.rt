@@ -1,0 +1,223 @@
+//! At most three tests of a row.
+
+ghost use Rattle.std.specs.Prelude.{◌≡◌, ◌<◌, true, [], ◌∷◌, ◌++◌, length, nat_le};
+ghost use Rattle.be_model.specs.Forms.{IsConj};
+ghost use Rattle.be_model.specs.Hulls.{span_in};
+ghost use Rattle.be_model.specs.Lies.{conj_lies};
+ghost use Rattle.be_model.specs.Matching.{satisfies};
+ghost use Rattle.be_model.specs.Rows.{has};
+ghost use Rattle.be_model.specs.Schemas.{numbered};
+ghost use Rattle.be_shape.specs.FewTests.{has_first, has_second, has_third};
+ghost use Rattle.be_shape.specs.Glances.{may_meet, test_on, glance, glance_of};
+ghost use Rattle.be_shape.specs.Listed.{attrs_told};
+
+use crate::glances::{Ends, Extent, has_in, hull_in};
+use crate::listings::RowAttrs;
+use crate::looks::has_attr;
+use crate::sights::Sight;
+use be_base::AttrNo;
+use be_model::{Conj, Event, Row, Schema};
+use std::marker::Model;
+
+/// How many tests there are.
+#[derive(Clone, Copy)]
+pub(crate) enum Count {
+    Zero,
+    One,
+    Two,
+    Three,
+}
+
+/// At most three tests, of attributes below 256. The fields stand in this order, as then they take 28 bytes.
+#[derive(Drop)]
+pub(crate) struct FewTests {
+    count: Count,
+    first_attr: u8,
+    second_attr: u8,
+    third_attr: u8,
+    first: Ends,
+    second: Ends,
+    third: Ends,
+}
+
+impl Model for FewTests {
+    ghost use Rattle.std.specs.Prelude.{ℤ, List};
+    ghost use Rattle.be_base.specs.declared.names.AttrNo.{AttrNo};
+    ghost use Rattle.be_model.specs.Schemas.{numbered};
+
+    ghost Value = { List (AttrNo × (ℤ × ℤ)) };
+
+    ghost use Rattle.be_shape.specs.FewTests.{tests_of};
+
+    ghost view = { λ t. tests_of t.count (numbered t.first_attr, t.first) (numbered t.second_attr, t.second) (numbered t.third_attr, t.third) };
+}
+
+impl Count {
+    fn has_first(self) -> bool
+        ensures { result ≡ has_first self }
+    {
+        !matches!(self, Count::Zero)
+    }
+
+    fn has_second(self) -> bool
+        ensures { result ≡ has_second self }
+    {
+        matches!(self, Count::Two | Count::Three)
+    }
+
+    fn has_third(self) -> bool
+        ensures { result ≡ has_third self }
+    {
+        matches!(self, Count::Three)
+    }
+}
+
+fn numbered(a: u8) -> AttrNo
+    ensures { result ≡ numbered a }
+{
+    AttrNo(u16::from(a))
+}
+
+impl FewTests {
+    pub(crate) fn none() -> FewTests
+        ensures { result ≡ [] }
+    {
+        FewTests {
+            count: Count::Zero,
+            first_attr: 0,
+            second_attr: 0,
+            third_attr: 0,
+            first: (0, 0),
+            second: (0, 0),
+            third: (0, 0),
+        }
+    }
+
+    pub(crate) fn is_full(&self) -> bool
+        ensures { result ≡ nat_le 3 (length self.now) }
+    {
+        self.count.has_third()
+    }
+
+    /// With a test more, behind the others.
+    pub(crate) fn with(self, a: u8, ends: Ends) -> FewTests
+        requires { length self < 3 }
+        ensures { result ≡ self ++ (numbered a, ends) ∷ [] }
+    {
+        match self.count {
+            Count::Zero => FewTests {
+                count: Count::One,
+                first_attr: a,
+                first: ends,
+                ..self
+            },
+            Count::One => FewTests {
+                count: Count::Two,
+                second_attr: a,
+                second: ends,
+                ..self
+            },
+            Count::Two => FewTests {
+                count: Count::Three,
+                third_attr: a,
+                third: ends,
+                ..self
+            },
+            Count::Three => unreachable!(),
+        }
+    }
+
+    // Whether what is seen of the event lets it pass. Most often the first test says no.
+    fn is_worth(&self, e: &Sight) -> bool
+        ensures { may_meet e.now self.now ≡ true → result ≡ true }
+    {
+        (!self.count.has_first() || e.may_have(self.first, numbered(self.first_attr)))
+            && (!self.count.has_second() || e.may_have(self.second, numbered(self.second_attr)))
+            && (!self.count.has_third() || e.may_have(self.third, numbered(self.third_attr)))
+    }
+
+    // Whether the event passes.
+    fn may_meet(&self, e: &Event) -> bool
+        ensures { result ≡ may_meet e.now self.now }
+    {
+        (!self.count.has_first() || has_in(self.first, numbered(self.first_attr), e))
+            && (!self.count.has_second() || has_in(self.second, numbered(self.second_attr), e))
+            && (!self.count.has_third() || has_in(self.third, numbered(self.third_attr), e))
+    }
+
+    /// Whether the event satisfies the condition of which this is told.
+    pub(crate) fn is_met(&self, extent: Extent, conj: &Conj, e: &Sight) -> bool
+        requires told { glance self.now extent ≡ glance_of conj.now }
+        requires form { IsConj conj.now }
+        ensures { result ≡ satisfies e.now conj.now }
+    {
+        if !self.is_worth(e) {
+            false
+        } else if extent.is_whole() {
+            self.may_meet(e.event())
+        } else {
+            conj.satisfied_by(e.event())
+        }
+    }
+
+    /// The ends of the test on the attribute.
+    pub(crate) fn on(&self, a: AttrNo) -> Option<Ends>
+        ensures { result ≡ test_on a self.now }
+    {
+        if self.count.has_first() && u16::from(self.first_attr) == a.0 {
+            Some(self.first)
+        } else if self.count.has_second() && u16::from(self.second_attr) == a.0 {
+            Some(self.second)
+        } else if self.count.has_third() && u16::from(self.third_attr) == a.0 {
+            Some(self.third)
+        } else {
+            None
+        }
+    }
+
+    /// The hull of the first predicate on the attribute, of the condition of which this is told.
+    pub(crate) fn span(
+        &self,
+        extent: Extent,
+        conj: &Conj,
+        s: &Schema,
+        a: AttrNo,
+    ) -> Option<(i64, i64)>
+        requires told { glance self.now extent ≡ glance_of conj.now }
+        requires form { IsConj conj.now }
+        requires lies { conj_lies s.now conj.now ≡ true }
+        ensures { result ≡ span_in s.now a conj.now }
+    {
+        if let Some(ends) = self.on(a) {
+            return Some(hull_in(s.range(a)?, ends));
+        }
+        if extent.is_part() {
+            conj.span(s, a)
+        } else {
+            None
+        }
+    }
+
+    /// Whether the row of which this is told has a predicate on the attribute.
+    pub(crate) fn has_attr(&self, extent: Extent, row: &Row, a: AttrNo) -> bool
+        requires { glance self.now extent ≡ glance_of row.now.conj }
+        ensures { result ≡ has a row.now }
+    {
+        self.on(a).is_some() || (extent.is_part() && has_attr(row, a))
+    }
+
+    /// The attributes that are told.
+    pub(crate) fn attrs(&self, extent: Extent) -> RowAttrs
+        ensures { result ≡ attrs_told (glance self.now extent) }
+    {
+        if extent.is_part() {
+            return RowAttrs::Many;
+        }
+        match self.count {
+            Count::Zero => RowAttrs::Zero,
+            Count::One => RowAttrs::One(self.first_attr),
+            Count::Two => RowAttrs::Two(self.first_attr, self.second_attr),
+            Count::Three => { RowAttrs::Three(self.first_attr, self.second_attr, self.third_attr) }
+        }
+    }
+}
