@@ -1,5 +1,5 @@
 #!/usr/bin/env bash
-# Prints how long a search takes by a tree whose leaves tell two tests of each row, which one sight of the event passes over, and by the
+# Prints how long a search takes by a tree whose leaves tell tests of each row, which one sight of the event passes over, and by the
 # tree of before, whose leaves told none and whose events were looked up by halving:
 # of 1,000, 10,000 and 100,000 subscriptions of the kind that the generated workload has, and of some like a market's. Both programs search
 # for the same events in one run, with the processor time as they measure it, the least of three. It builds, and so proves, both
@@ -7,6 +7,16 @@
 # shellcheck source=common.sh
 . "$(dirname "${BASH_SOURCE[0]}")/common.sh"
 crates=(be_base be_io be_model be_expr be_event be_shape be_score be_match be_insert)
+
+# then_as COMMIT CRATE..: takes these crates as they were at that commit
+then_as() {
+    local commit="$1" crate
+    shift
+    for crate in "$@"; do
+        rm -rf "$room/crates/$crate"
+        git -C "$top" archive "$commit" "crates/$crate" | tar -C "$room" -xf -
+    done
+}
 
 # build: proves and builds the program in this room, with the tree that grows of `worked_walks` and the rows of `worked_trees`.
 build() {
@@ -18,7 +28,7 @@ build() {
     tar -C "$walks/proofs" -cf - . | tar -C "$own_folder/proofs" -xf -
     find "$own_folder/proofs" -name '*.antt' -exec sed -i 's/worked_walks/leafbench/g' {} +
     sed -i '$s/$/ anyhow/' "$room/crates.txt"
-    [ -z "${1-}" ] || { rm -rf "$room/crates/be_model" "$room/crates/be_shape" "$room/crates/be_match"; git -C "$top" archive "$1" crates/be_model crates/be_shape crates/be_match | tar -C "$room" -xf -; }
+    [ -z "${1-}" ] || then_as "$1" be_model be_shape be_score be_match be_insert
     build_own leafbench 1
 }
 

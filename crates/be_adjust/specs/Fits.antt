@@ -47,7 +47,7 @@ abbrev pub MayMerge : Hop → Option Plain → Type 0
 MayMerge hop None = ⊥
 MayMerge hop (Some n) = HasRows hop n (child hop n)
 
--- the same, child by child
+-- the row may pass to another child than that at the end of the step, child by child
 abbrev pub passes_others : Attributes → Hop → NodeRange → Plain → Row → Bool
 passes_others s hop r (node rows parts low high) row =
     list_any (λ a. not (leads_to hop a) && has a row) (attrs_of parts) || (not (is_low hop) && fits_half s (known (lower r) []) low row)

@@ -131,7 +131,7 @@ fn shift_at(
 
 /// Moves the row of the id from one part of the node at the end of the path to another. It is placed below the second part
 /// before it is taken out below the first; where memory is wanting in between, the contents are as before, and the tree may
-/// be split further.
+/// have another shape.
 pub fn shift(t: &mut Tree, path: &Path, from: AttrNo, to: AttrNo, id: Id) -> StepDone
     ensures not_here { result ≡ NotHere ↔ stands (arc_value t.old.schema) (Shift path.now from to id) (plain t.old.root) ≡ false }
     ensures done { result ≡ Done → IsMade (arc_value t.old.schema) (Shift path.now from to id) (plain t.old.root) (plain t.new.root) }

@@ -152,7 +152,7 @@ pub fn place_below(
 /// Puts a row into the tree, or hands it back where memory is wanting. A half that encloses the row's span goes before a
 /// part; of the parts whose attribute the row has, it goes to the one on whose attribute it weighs most. A leaf that then has
 /// too many rows is split.
-/// After a refusal the contents are as before, and the tree may be split further.
+/// After a refusal the contents are as before, and the tree may have another shape.
 pub fn place(t: &mut Tree, row: Arc<Row>) -> Result<(), (Arc<Row>, NoMemory)>
     requires new { has_id (id_of (arc_value row)) (contents (plain t.old.root)) ≡ false }
     requires low { id_of (arc_value row) < LOG_CHANGES }

@@ -1,4 +1,4 @@
--- Lists of leaves, and lists that grow.
+-- Leaves that are visited, and what they cost.
 use Rattle.std.specs.Prelude.{◌+◌, ◌^◌, ◌<◌, List, length}
 use Rattle.be_model.specs.declared.changes.Row.{Row}
 pub use Rattle.be_model.specs.Matching.{FindsSome}

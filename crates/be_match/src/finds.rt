@@ -15,8 +15,8 @@ use be_base::NoMemory;
 use be_model::{Cost, Event, Found, Schema};
 use be_shape::{NO_HULLS, Sight, Tree, fill_hulls};
 
-/// Appends the rows that the event satisfies, each once. It takes memory for the list of found rows alone,
-/// and further references to rows, of which there may be no more.
+/// Appends the rows that the event satisfies, each once. It takes memory for the list of found rows alone. A further reference
+/// to a row may be refused too, where there are too many.
 pub fn find_in(t: &Tree, e: &Event, found: &mut Found) -> Result<Cost, NoMemory>
     requires { event_lies (arc_value t.now.schema) e.now ≡ true }
     ensures found { OnOk result (FindsIn e.now (contents (plain t.now.root)) found.old.rows found.new.rows) }

@@ -43,7 +43,7 @@ abbrev pub best_after : Attributes → ℕ → Plain → List NodeAt → Best �
 best_after s alpha root [] best = best
 best_after s alpha root (x ∷ xs) best = best_after s alpha root xs (after_others s alpha root x (after_merges s root x best))
 
--- the same, but for the first as one to be merged
+-- the same, but whether the first can be merged isn't asked
 abbrev pub below_after : Attributes → ℕ → Plain → List NodeAt → Best → Best
 below_after s alpha root [] best = best
 below_after s alpha root (x ∷ xs) best = best_after s alpha root xs (after_others s alpha root x best)

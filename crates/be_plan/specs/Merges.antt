@@ -40,7 +40,7 @@ is_same half hop = false
 abbrev pub is_full : Plain → Bool
 is_full n = nat_lt MERGE_ROWS (length (leaf_of n))
 
--- each of these has, and each child
+-- each of these is full, and each child of a node
 abbrev pub all_full : List (Hop × Plain) → Bool
 all_full xs = list_all (λ (x : Hop × Plain). is_full x.1) xs
 

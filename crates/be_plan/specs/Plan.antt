@@ -27,7 +27,7 @@ merges x = Merge x.path ∷ []
 abbrev pub gains : Attributes → AttrNo → Row → AttrNo → Bool
 gains s from row to = nat_le (weight s from row + SHIFT_GAIN) (weight s to row)
 
--- a row of the part `from` moves to another part, by rising attribute
+-- a row of the part `from` moves to another part on which it weighs at least 500 more, by rising attribute
 abbrev pub shifts_of : Attributes → NodeAt → AttrNo → Row → List Step
 shifts_of s x from row =
     map (λ to. Shift x.path from to row.id) (filter (gains s from row) (attrs_of (parts_under x.here)))

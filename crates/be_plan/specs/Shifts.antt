@@ -23,7 +23,7 @@ use Rattle.be_plan.specs.Plan.{gains}
 abbrev pub gain_of : Attributes → List AttrNo → AttrNo → Row → Option (Id × AttrNo)
 gain_of s attrs from row = option_map (λ to. (row.id, to)) (find (gains s from row) attrs)
 
--- there is one of these attributes, and the row weighs enough more on it
+-- the attribute is one of these, and the row weighs enough more on it
 abbrev pub gains_among : Attributes → List AttrNo → AttrNo → Row → AttrNo → Bool
 gains_among s attrs from row to = is_used attrs to && gains s from row to
 
@@ -56,7 +56,7 @@ is_small (Some r) = nat_le (width r.1) 1000
 abbrev pub are_small : Attributes → List AttrNo → Bool
 are_small s attrs = list_all (λ a. is_small (whole s a)) attrs
 
--- how many thousandths of its own part's domain a row takes at least that gains among such attributes, or among others
+-- the fewest thousandths of its own part's domain that a row takes which gains: `true` where the domains are small
 abbrev pub least_share : Bool → ℕ
 least_share true = SHIFT_GAIN + 1
 least_share false = SHIFT_GAIN
@@ -65,7 +65,7 @@ least_share false = SHIFT_GAIN
 abbrev pub is_light : Bool → ℕ → ℕ → Bool
 is_light small w d = nat_lt (1000 * w) (least_share small * d)
 
--- the range is as little of the whole, on the same attribute
+-- the range is on the same attribute as the whole, and light in it
 abbrev pub is_narrow : Bool → NodeRange → NodeRange → Bool
 is_narrow small None w = false
 is_narrow small (Some r) None = false
@@ -97,6 +97,6 @@ ChildBelow s attrs from met r x = IsBelow s attrs from (meets_by attrs x.0 met) 
 abbrev pub PartsBelow : Attributes → List AttrNo → AttrNo → Bool → Parts → Type 0
 PartsBelow s attrs from met parts = AllByRecursion (ChildBelow s attrs from met None) (roots_of parts)
 
--- a node is right, wherever it stands
+-- a node is right at some place
 abbrev pub IsRightSomewhere : Attributes → Plain → Type 0
 IsRightSomewhere s n = (k : Known) × IsRight s k n

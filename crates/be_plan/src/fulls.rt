@@ -16,7 +16,7 @@ fn is_full(n: &Node) -> bool
     MERGE_ROWS < n.leaf.len()
 }
 
-// Whether the root of each part has. It looks at all of them, one right after the other, so that the memory is waited for once.
+// Whether the root of each part is full. It looks at all of them, one right after the other, so that the memory is waited for once.
 fn are_parts_full(parts: &[Part]) -> bool
     ensures { result ≡ all_full (roots_of (parts_as parts.now)) }
 {
@@ -38,7 +38,7 @@ fn is_half_full(half: &Option<Box<Node>>) -> bool
     }
 }
 
-/// Whether each child has, so that none can be merged. It looks at the children before the way goes down to the first.
+/// Whether each child is full, so that none can be merged. It looks at the children before the way goes down to the first.
 pub(crate) fn are_full(n: &Node) -> bool
     ensures { result ≡ are_full (plain n.now) }
 {

@@ -78,7 +78,7 @@ pub(crate) fn share_at(leaf: &Leaf, place: usize, row: &Row, s: &Schema, a: Attr
     }
 }
 
-/// Whether so many values are fewer thousandths of the domain than a row takes at least that gains.
+/// Whether so many values are fewer thousandths of the domain than any row takes which gains.
 pub(crate) fn is_light(small: bool, values: u64, domain: u64) -> bool
     requires values { values ≤ 4294967296 }
     requires domain { domain ≤ 4294967296 }

@@ -186,7 +186,7 @@ pub fn take_below(n: &mut Node, s: &Schema, k: &Spot, row: &Row) -> Option<Arc<R
     take_from(n, s, k.range, row)
 }
 
-/// Takes the row out of the tree, which is there only if all its parts are the same. It enters the parts whose attributes
+/// Takes the row out of the tree. A row counts as there only where all its fields are equal. It enters the parts whose attributes
 /// the row has and the halves that enclose its span until it is found, and drops the nodes that are left without a row. It
 /// takes no memory.
 pub fn take(t: &mut Tree, row: &Row) -> Option<Arc<Row>>

@@ -33,13 +33,14 @@ is_open (Part a) k = not (is_used k.used a)
 is_open Low k = can_split k.range
 is_open High k = can_split k.range
 
--- a row may stand below a step: it has a predicate on the part's attribute, or has its span inside the half
+-- a row may stand below a step: it has a predicate on the part's attribute, or has its span inside the half. Where there is no
+-- range each row may
 abbrev pub may_pass : Attributes → Hop → NodeRange → Row → Bool
 may_pass s (Part a) r row = has a row
 may_pass s Low r row = spans_inside s (lower r) row
 may_pass s High r row = spans_inside s (upper r) row
 
--- a node with a root of a part more, before the parts of greater attributes
+-- parts with one more, before those of greater attributes
 abbrev pub with_part : AttrNo → Plain → Parts → Parts
 with_part a n no_part = part a n no_part
 with_part a n (part b root more) =

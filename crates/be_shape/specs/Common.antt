@@ -13,12 +13,12 @@ use Rattle.be_shape.specs.Listed.{is_many, any_listed, attrs_of}
 abbrev pub is_listed : ℕ → RowAttrs → Bool
 is_listed a l = any_listed (λ b. b.0 == a) l
 
--- each attribute that at least 8 of the rows have is listed, unless too many may be
+-- each attribute that at least 8 of the rows have is listed, unless none are told
 abbrev pub AreCommon : List Row → RowAttrs → Type 0
 AreCommon rows l =
     is_many l ≡ false → (a : AttrNo) → a.0 < ATTRIBUTES → nat_le EARLY_ROWS (count_by (has a) rows) ≡ true → is_listed a.0 l ≡ true
 
--- a row whose place lists the attribute, and one whose place lists none
+-- a row whose place lists the attribute, and one whose place doesn't tell its attributes
 abbrev pub lists : ℕ → Row → Bool
 lists a row = is_listed a (attrs_of row.conj)
 
@@ -33,12 +33,12 @@ with_common x (Two a b) = Three a b x
 with_common x (Three a b c) = Many
 with_common x Many = Many
 
--- of each attribute one more is counted where a test holds, as long as there are fewer than a bound
+-- counts below a bound don't fall, and rise by at least one where a test holds
 abbrev pub Notes : ℕ → (ℕ → Bool) → List ℕ → List ℕ → Type 0
 Notes bound test counts counts' =
     (a n : ℕ) → a < ATTRIBUTES → n < bound → n ≤ slice_index_or counts a 0 → n + (if test a then 1 else 0) ≤ slice_index_or counts' a 0
 
--- each attribute that is counted so often is listed, unless too many may be
+-- each attribute that is counted so often is listed, unless none are told
 abbrev pub IsTold : List ℕ → ℕ → RowAttrs → Type 0
 IsTold counts wanted l =
     (a : ℕ) → a < ATTRIBUTES → wanted ≤ slice_index_or counts a 0 → is_many l ≡ false → is_listed a l ≡ true

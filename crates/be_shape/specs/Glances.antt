@@ -31,7 +31,7 @@ abbrev pub has_in : ℤ × ℤ → Option (List ℤ) → Bool
 has_in ends None = false
 has_in ends (Some vs) = list_any (is_in ends) vs
 
--- the number, where it is between the least and the greatest
+-- the number, where it is strictly between the least and the greatest
 abbrev pub small : ℤ → Option ℤ
 small v = if int_lt least v && int_lt v greatest then Some v else None
 
@@ -91,7 +91,7 @@ abbrev pub with_bounds : AttrNo → Option Bounds → Glance → Glance
 with_bounds a None g = glance g.tests Part
 with_bounds a (Some b) g = with_test a b g
 
--- with a predicate more. The first on an attribute gives a test, and behind one that has none to give no other does
+-- with a predicate more. The first on an attribute gives a test, and behind one that gave none no other does
 abbrev pub with_pred : Pred → Glance → Glance
 with_pred p g =
     if is_part g.extent then g

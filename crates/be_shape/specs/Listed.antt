@@ -35,7 +35,7 @@ listed (x ∷ y ∷ z ∷ w ∷ more) = Many
 abbrev pub attrs_told : Glance → RowAttrs
 attrs_told g = if is_part g.extent then Many else listed g.tests
 
--- the attributes of a condition
+-- the attributes of a condition, or `Many` where the glance doesn't tell them all
 abbrev pub attrs_of : List Pred → RowAttrs
 attrs_of conj = attrs_told (glance_of conj)
 

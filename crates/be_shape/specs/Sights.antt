@@ -1,4 +1,4 @@
--- What a search sees of an event at a glance.
+-- What a search sees of an event.
 use Rattle.std.specs.Prelude.{◌≡◌, ◌<◌, ◌≤ℤ◌, ◌<ℤ◌, ℤ, ◌&&◌, Bool, true, List, [], ◌∷◌, length, get_or, Option, Some, None, int_lt, int_le, if◌then◌else◌}
 use Rattle.be_base.specs.declared.names.AttrNo.{AttrNo}
 use Rattle.be_model.specs.Matching.{Assignments, values_of}

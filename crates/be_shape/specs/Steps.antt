@@ -124,7 +124,8 @@ can_shift from to id n =
     not (from.0 == to.0) && is_node (child (Part from) n) && is_node (child (Part to) n)
     && list_any (λ row. id_of row == id && has to row) (rows_at (Part from) n)
 
--- the row stands below the second part in the place of the first, and nothing else of the node has changed
+-- the row stands below the second part in the place of the first; the leaf and the other children are as before, and of these
+-- two parts the rows are told
 pub record IsShifted (from to : AttrNo) (id : ℕ) (n m : Plain) : Type 0 where
   pub row : Row
   pub is : id_of row ≡ id

@@ -33,7 +33,7 @@ pub(crate) enum Extent {
     Part,
 }
 
-/// Tests of a row, of the first predicate on each attribute.
+/// At most three tests of a row, each of the first predicate on its attribute.
 #[derive(Drop)]
 pub(crate) struct Glance {
     pub(crate) tests: FewTests,

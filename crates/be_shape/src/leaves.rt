@@ -1,6 +1,6 @@
 //! Rows that stand together.
 
-ghost use Rattle.std.specs.Prelude.{◌≡◌, ◌↔◌, ◌<◌, true, IsTrue, [], ◌∷◌, ◌++◌, length, slice_get, Some, option_map, IsSome, IsPermutation, IfSome, IfNone, OnOk, OnErr, IfErr};
+ghost use Rattle.std.specs.Prelude.{◌≡◌, ◌↔◌, ◌<◌, true, IsTrue, [], ◌∷◌, ◌++◌, length, slice_get, Some, option_map, IsSome, IsPermutation, IfSome, IfNone, IsOk, OnOk, OnErr, IfErr};
 ghost use Rattle.std.specs.List.{Contains, remove};
 ghost use Rattle.be_model.specs.Hulls.{span_in};
 ghost use Rattle.be_model.specs.Lies.{row_lies};
@@ -22,7 +22,7 @@ use std::alloc::Global;
 use std::marker::Model;
 use std::sync::Arc;
 
-/// Rows in some order, of which 17 stand in place. What is asked of a leaf before its rows stands before them.
+/// Rows in some order. Up to 17 stand in place. What is asked of a leaf before its rows stands before them.
 #[derive(Drop)]
 pub struct Leaf {
     count: usize,
@@ -92,7 +92,7 @@ impl Leaf {
         self.kept(place).is_met(e)
     }
 
-    /// The span on the attribute of the row at a place. A row whose attributes are few isn't looked at.
+    /// The span on the attribute of the row at a place. A row whose attributes are told isn't looked at.
     pub fn span(&self, place: usize, s: &Schema, a: AttrNo) -> Option<(i64, i64)>
         requires place { place < length self.now }
         requires lies { option_map (row_lies s.now) (slice_get self.now place) ≡ Some true }
@@ -109,7 +109,7 @@ impl Leaf {
         self.kept(place).attrs()
     }
 
-    /// Whether the row at a place has a predicate on the attribute. The row is looked at only where its attributes aren't few.
+    /// Whether the row at a place has a predicate on the attribute. The row is looked at only where its attributes aren't told.
     pub fn has_attr(&self, place: usize, a: AttrNo) -> bool
         requires { place < length self.now }
         ensures { option_map (λ row. has a row) (slice_get self.now place) ≡ Some result }
@@ -117,14 +117,14 @@ impl Leaf {
         self.kept(place).has_attr(a)
     }
 
-    /// The attributes that at least 8 rows have, with others perhaps, or `Many` where they aren't known.
+    /// The attributes that at least 8 rows have, with others perhaps, or `Many` where they aren't told.
     pub fn common(&self) -> RowAttrs
         ensures { AreCommon self.now result }
     {
         self.common
     }
 
-    /// Looks which these attributes are. A row that is put or taken leaves them unknown.
+    /// Looks which these attributes are. Where a row was put or taken they aren't told until then.
     pub fn note_common(&mut self)
         ensures { self.new ≡ self.old }
     {
@@ -169,7 +169,7 @@ impl Leaf {
         row
     }
 
-    /// Takes the row at a place out, and puts the last one in its place. It takes no memory.
+    /// Takes the row at a place out. The order of the others may change. It takes no memory.
     #[tactic(auto, using(crate::proofs::LeafRows::rows_length))]
     pub fn pull(&mut self, place: usize) -> Arc<Row>
         requires { place < length self.old }
@@ -186,9 +186,11 @@ impl Leaf {
     #[tactic(auto, using(crate::proofs::LeafRows::rows_length, crate::proofs::LeafRows::rows_put, crate::proofs::LeafRows::are_rows_put))]
     pub fn push(&mut self, row: Arc<Row>) -> Result<(), Arc<Row>>
         ensures put { OnOk result (self.new ≡ self.old ++ arc_value row ∷ []) }
+        ensures small { length self.old < 17 → IsOk result }
         ensures refused { OnErr result (self.new ≡ self.old) }
         ensures back { IfErr result (λ r. arc_value r ≡ arc_value row) }
     {
+        let _ = self.places.capacity();
         match self.places.reserve(1) {
             Ok(()) => {
                 self.places.push_reserved(Kept::of(row));

@@ -3,14 +3,14 @@
 ghost use Rattle.std.specs.Prelude.{◌≡◌};
 ghost use Rattle.be_shape.specs.Listed.{is_many};
 
-/// The attributes of a row, each once, where they are at most three and below 256.
+/// The attributes of a row, or of many rows of a leaf, each once, where they are told: at most three and below 256.
 #[derive(Clone, Copy)]
 pub enum RowAttrs {
     Zero,
     One(u8),
     Two(u8, u8),
     Three(u8, u8, u8),
-    /// The row has to be looked at for them.
+    /// They aren't told.
     Many,
 }
 

@@ -31,8 +31,8 @@ pub(crate) enum Held {
 
 const _: () = prove!(size_of::<Held>() == 40);
 
-/// A place of a leaf: a row, or a blank where the leaf ends. It tells three tests of the row and a part of its id, so that a
-/// row with at most three attributes isn't looked at for these, nor for its spans.
+/// A place of a leaf: a row, or a blank where the leaf ends. It tells at most three tests of the row and a part of its id,
+/// so that a row whose attributes are told isn't looked at for these, nor for its spans.
 #[derive(Drop)]
 pub(crate) struct Kept {
     held: Held,

@@ -27,7 +27,7 @@ const WIDE: Ends = (i32::MIN, i32::MAX);
 pub const NO_HULLS: Hulls = [(i32::MAX, i32::MIN); SEEN];
 
 /// An event, and by attribute ends of its values, so that most rows are passed over, and most halves entered or not,
-/// by a compare with one entry of a table.
+/// by a comparison with one entry of a table.
 #[derive(Drop)]
 pub struct Sight<'a> {
     event: &'a Event,
