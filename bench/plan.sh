@@ -1,7 +1,7 @@
 #!/usr/bin/env bash
 # Prints how long a plan takes where nothing is to be done: trees of rows of random predicates over ten attributes, of one
 # predicate each or of one to four, are reshaped by the steps that are planned until none is, and then the plan is asked for.
-# The time is that of the processor, as the program measures it. It builds, and so proves, a program of its own. No part of
+# The time is that of the processor, as the program measures it, the least of ten tenths of the plans. It builds, and so proves, a program of its own. No part of
 # the gate. The largest tree takes minutes to settle.
 # shellcheck source=common.sh
 . "$(dirname "${BASH_SOURCE[0]}")/common.sh"

@@ -246,7 +246,7 @@ script() {
 }
 
 printf 'LIST\n' >in
-how='justmeadow: for an answer within a minute, with no proof: ./justmeadow --unproved WORD..\n'
+how='justmeadow: for an answer in about a minute, with no proof: ./justmeadow --unproved WORD..\n'
 building="justmeadow: building the program, which proves its 3 crates. The log: TOP/out/build.log\n$how"
 building+='justmeadow: 1 of 3: low\njustmeadow: 2 of 3: high\n'
 script --help; cp out usage
