@@ -1,6 +1,6 @@
 -- Lists that grow, and what is satisfied in a list.
 use Rattle.std.proofs.Common.{◌≡◌, ℕ, ◌+◌, ◌<◌, Bool, true, false, cond, List, [], ◌∷◌, ◌++◌, Ok, Err, Result, OnErr, length, drop, get_or, slice_get, Some, zero, suc, refl, sym, ap, ◌∙◌, arith, length-append}
-use Rattle.std.proofs.lemmas.List.{append_assoc, drop_more}
+use Rattle.std.proofs.lemmas.List.{append_assoc, append-nil, drop_more}
 use Rattle.std.proofs.lemmas.Option.{slice_get_within}
 use Rattle.be_model.specs.declared.changes.Row.{Row}
 use Rattle.be_model.specs.Matching.{Assignments, satisfies, satisfied}
@@ -34,41 +34,52 @@ pub put_on : (r0 r1 r2 a b : List Row) → r1 ≡ r0 ++ a → r2 ≡ r1 ++ b →
 put_on r0 r1 r2 a b h k = k ∙ ap (λ r. r ++ b) h ∙ append_assoc r0 a b
 
 -- the rows of a node are put level by level
-pub put_levels : (e : Assignments) (r0 r1 r2 r3 r4 leaf : List Row) (p l h : List (List Row)) → r1 ≡ r0 ++ satisfied e leaf → r2 ≡ r1 ++ satisfied e (all_of p)
-    → r3 ≡ r2 ++ satisfied e (all_of l) → r4 ≡ r3 ++ satisfied e (all_of h) → r4 ≡ r0 ++ satisfied e (all_of (leaf ∷ p ++ l ++ h))
-put_levels e r0 r1 r2 r3 r4 leaf p l h a b c d =
+pub put_levels : (e : Assignments) (r0 r1 r2 r3 leaf : List Row) (p h : List (List Row)) → r1 ≡ r0 ++ satisfied e leaf → r2 ≡ r1 ++ satisfied e (all_of p)
+    → r3 ≡ r2 ++ satisfied e (all_of h) → r3 ≡ r0 ++ satisfied e (all_of (leaf ∷ p ++ h))
+put_levels e r0 r1 r2 r3 leaf p h a b c =
     let x = satisfied e leaf in
     let y = satisfied e (all_of p) in
-    let z = satisfied e (all_of l) in
-    let w = satisfied e (all_of h) in
-    let all : satisfied e (all_of (leaf ∷ p ++ l ++ h)) ≡ x ++ ((y ++ z) ++ w) =
-    satisfied_append e leaf (all_of (p ++ l ++ h)) ∙ ap (λ q. x ++ q) (satisfied_leaves e (p ++ l) h ∙ ap (λ q. q ++ w) (satisfied_leaves e p l)) in
-    put_on r0 r1 r4 x ((y ++ z) ++ w) a (put_on r1 r3 r4 (y ++ z) w (put_on r1 r2 r3 y z b c) d) ∙ ap (λ q. r0 ++ q) (sym all)
+    let z = satisfied e (all_of h) in
+    let all : satisfied e (all_of (leaf ∷ p ++ h)) ≡ x ++ (y ++ z) =
+    satisfied_append e leaf (all_of (p ++ h)) ∙ ap (λ q. x ++ q) (satisfied_leaves e p h) in
+    put_on r0 r1 r3 x (y ++ z) a (put_on r1 r2 r3 y z b c) ∙ ap (λ q. r0 ++ q) (sym all)
 
--- where something is found in the leaf, in the parts or in a half, it is found in the node
-pub record SomeInNode (e : Assignments) (leaf : List Row) (p l h : List (List Row)) : Type 0 where
-  pub here : FindsSome e leaf → FindsSome e (all_of (leaf ∷ p ++ l ++ h))
-  pub in_parts : FindsSome e (all_of p) → FindsSome e (all_of (leaf ∷ p ++ l ++ h))
-  pub in_low : FindsSome e (all_of l) → FindsSome e (all_of (leaf ∷ p ++ l ++ h))
-  pub in_high : FindsSome e (all_of h) → FindsSome e (all_of (leaf ∷ p ++ l ++ h))
+pub put_both : (e : Assignments) (r0 r1 r2 : List Row) (xs ys : List (List Row)) → r1 ≡ r0 ++ satisfied e (all_of xs) → r2 ≡ r1 ++ satisfied e (all_of ys) → r2 ≡ r0 ++ satisfied e (all_of (xs ++ ys))
+put_both e r0 r1 r2 xs ys h k =
+    put_on r0 r1 r2 (satisfied e (all_of xs)) (satisfied e (all_of ys)) h k ∙ ap (λ q. r0 ++ q) (sym (satisfied_leaves e xs ys))
 
-pub some_in_node : (e : Assignments) (leaf : List Row) (p l h : List (List Row)) → SomeInNode e leaf p l h
-some_in_node e leaf p l h =
+pub put_none : (e : Assignments) (r : List Row) → r ≡ r ++ satisfied e (all_of [])
+put_none e r = sym (append-nil r)
+
+-- where something is found in one of two lists of leaves, it is found in both
+pub some_in_first : (e : Assignments) (xs ys : List (List Row)) → FindsSome e (all_of xs) → FindsSome e (all_of (xs ++ ys))
+some_in_first e xs ys h =
+    omega (arith, h, ap length (satisfied_leaves e xs ys), length-append (satisfied e (all_of xs)) (satisfied e (all_of ys)))
+
+pub some_in_second : (e : Assignments) (xs ys : List (List Row)) → FindsSome e (all_of ys) → FindsSome e (all_of (xs ++ ys))
+some_in_second e xs ys h =
+    omega (arith, h, ap length (satisfied_leaves e xs ys), length-append (satisfied e (all_of xs)) (satisfied e (all_of ys)))
+
+-- where something is found in the leaf, in the parts or in the halves, it is found in the node
+pub record SomeInNode (e : Assignments) (leaf : List Row) (p h : List (List Row)) : Type 0 where
+  pub here : FindsSome e leaf → FindsSome e (all_of (leaf ∷ p ++ h))
+  pub in_parts : FindsSome e (all_of p) → FindsSome e (all_of (leaf ∷ p ++ h))
+  pub in_halves : FindsSome e (all_of h) → FindsSome e (all_of (leaf ∷ p ++ h))
+
+pub some_in_node : (e : Assignments) (leaf : List Row) (p h : List (List Row)) → SomeInNode e leaf p h
+some_in_node e leaf p h =
     let n = length (satisfied e leaf) in
     let a = length (satisfied e (all_of p)) in
-    let b = length (satisfied e (all_of l)) in
-    let c = length (satisfied e (all_of h)) in
-    let all : length (satisfied e (all_of (leaf ∷ p ++ l ++ h))) ≡ n + (a + b + c) =
+    let b = length (satisfied e (all_of h)) in
+    let all : length (satisfied e (all_of (leaf ∷ p ++ h))) ≡ n + (a + b) =
     omega (
       arith,
-      ap length (satisfied_append e leaf (all_of (p ++ l ++ h))),
-      length-append (satisfied e leaf) (satisfied e (all_of (p ++ l ++ h))),
-      ap length (satisfied_leaves e (p ++ l) h),
-      length-append (satisfied e (all_of (p ++ l))) (satisfied e (all_of h)),
-      ap length (satisfied_leaves e p l),
-      length-append (satisfied e (all_of p)) (satisfied e (all_of l)),
+      ap length (satisfied_append e leaf (all_of (p ++ h))),
+      length-append (satisfied e leaf) (satisfied e (all_of (p ++ h))),
+      ap length (satisfied_leaves e p h),
+      length-append (satisfied e (all_of p)) (satisfied e (all_of h)),
     ) in
-    record { here = λ t. omega arith; in_parts = λ t. omega arith; in_low = λ t. omega arith; in_high = λ t. omega arith }
+    record { here = λ t. omega arith; in_parts = λ t. omega arith; in_halves = λ t. omega arith }
 
 -- what holds, holds where something is refused
 pub on_refusal : {A B : Type 0} (r : Result A B) (P : Type 0) → P → OnErr r P

@@ -1,4 +1,5 @@
 pub mod Sizes
+pub mod Halves
 pub mod Counted
 pub mod Fronts
 pub mod Exact

@@ -1,11 +1,11 @@
 //! The search for the rows that an event satisfies.
 
-ghost use Rattle.std.specs.Prelude.{◌≡◌, ◌++◌, ◌∷◌, [], true, slice_get, Some, OnOk, OnErr};
+ghost use Rattle.std.specs.Prelude.{◌≡◌, ◌++◌, ◌∷◌, [], true, slice_get, Some, OnOk, OnErr, if◌then◌else◌};
 ghost use Rattle.std.specs.Arc.{arc_value};
 ghost use Rattle.be_shape.specs.Plain.{plain, parts_as, half_as, part_as, parts_of};
 ghost use Rattle.be_shape.specs.Shape.{lower, upper};
 ghost use Rattle.be_shape.specs.Ranges.{is_bounded, is_rising};
-ghost use Rattle.be_shape.specs.Search.{visited, visited_in_parts, visited_in_half, all_of};
+ghost use Rattle.be_shape.specs.Search.{visited, visited_in_parts, visited_in_half, all_of, holds_value};
 ghost use Rattle.be_model.specs.Matching.{satisfied};
 ghost use Rattle.be_base.specs.Lists.{BeginsWith};
 ghost use Rattle.be_match.specs.Leaves.{AreCountableWith, FindsSome, KeepsRoom, cost_with};
@@ -38,8 +38,18 @@ pub(crate) fn search_node(
     *cost = cost.plus(leaf_cost(&n.leaf));
     search_leaf(&n.leaf, e, found)?;
     search_parts(n.parts.as_slice(), s, e, found, cost)?;
-    search_low(&n.low, s, e, range, found, cost)?;
-    search_high(&n.high, s, e, range, found, cost)?;
+    let lower = lower_range(range);
+    let upper = upper_range(range);
+    let in_low = e.holds_value(lower);
+    let in_high = e.holds_value(upper);
+    if in_low != in_high {
+        let half = chosen(in_low, &n.low, &n.high);
+        return search_half(half, s, e, chosen_range(in_low, range), found, cost);
+    }
+    if in_low {
+        search_half(&n.low, s, e, lower, found, cost)?;
+        search_half(&n.high, s, e, upper, found, cost)?;
+    }
     Ok(())
 }
 
@@ -86,9 +96,9 @@ fn search_part(
     }
 }
 
-// The low half of a node of this range. The half's own range is made again where it is searched, and so stands in memory only then.
+// A half of this range, which holds a value of the event.
 #[cycle(searches)]
-fn search_low(
+fn search_half(
     half: &Option<Box<Node>>,
     s: &Schema,
     e: &Sight,
@@ -98,54 +108,52 @@ fn search_low(
 ) -> Result<(), NoMemory>
     requires bounded { is_bounded range ≡ true }
     requires rising { is_rising range ≡ true }
-    requires countable { AreCountableWith cost.old (visited_in_half s.now e.now (lower range) (half_as half.now)) }
-    ensures put { OnOk result (found.new.rows ≡ found.old.rows ++ satisfied e.now (all_of (visited_in_half s.now e.now (lower range) (half_as half.now)))) }
-    ensures refused { OnErr result (FindsSome e.now (all_of (visited_in_half s.now e.now (lower range) (half_as half.now)))) }
-    ensures cost { OnOk result (cost.new ≡ cost_with cost.old (visited_in_half s.now e.now (lower range) (half_as half.now))) }
+    requires holds { holds_value e.now range ≡ true }
+    requires countable { AreCountableWith cost.old (visited_in_half s.now e.now range (half_as half.now)) }
+    ensures put { OnOk result (found.new.rows ≡ found.old.rows ++ satisfied e.now (all_of (visited_in_half s.now e.now range (half_as half.now)))) }
+    ensures refused { OnErr result (FindsSome e.now (all_of (visited_in_half s.now e.now range (half_as half.now)))) }
+    ensures cost { OnOk result (cost.new ≡ cost_with cost.old (visited_in_half s.now e.now range (half_as half.now))) }
     ensures front { BeginsWith found.new.rows found.old.rows }
     ensures room { KeepsRoom found.old found.new }
 {
     match half {
-        Some(n) => {
-            if e.holds_value(lower_range(range)) {
-                search_node(n, s, e, lower_range(range), found, cost)
-            } else {
-                Ok(())
-            }
-        }
+        Some(n) => search_node(n, s, e, range, found, cost),
         None => Ok(()),
     }
 }
 
-// The high half of a node of this range.
-#[cycle(searches)]
-fn search_high(
-    half: &Option<Box<Node>>,
-    s: &Schema,
-    e: &Sight,
-    range: NodeRange,
-    found: &mut Found,
-    cost: &mut Cost,
-) -> Result<(), NoMemory>
+// The low half, or else the high one. Where an event has one value, which half holds it can't be foreseen; a choice needs no jump.
+fn chosen<'a>(
+    in_low: bool,
+    low: &'a Option<Box<Node>>,
+    high: &'a Option<Box<Node>>,
+) -> &'a Option<Box<Node>>
+    ensures { result.now ≡ (if in_low then low.now else high.now) }
+{
+    if in_low { low } else { high }
+}
+
+fn chosen_end(in_low: bool, low: i64, high: i64) -> i64
+    ensures { result ≡ (if in_low then low else high) }
+{
+    if in_low { low } else { high }
+}
+
+// The range of the low half, or else of the high one.
+fn chosen_range(in_low: bool, range: NodeRange) -> NodeRange
     requires bounded { is_bounded range ≡ true }
     requires rising { is_rising range ≡ true }
-    requires countable { AreCountableWith cost.old (visited_in_half s.now e.now (upper range) (half_as half.now)) }
-    ensures put { OnOk result (found.new.rows ≡ found.old.rows ++ satisfied e.now (all_of (visited_in_half s.now e.now (upper range) (half_as half.now)))) }
-    ensures refused { OnErr result (FindsSome e.now (all_of (visited_in_half s.now e.now (upper range) (half_as half.now)))) }
-    ensures cost { OnOk result (cost.new ≡ cost_with cost.old (visited_in_half s.now e.now (upper range) (half_as half.now))) }
-    ensures front { BeginsWith found.new.rows found.old.rows }
-    ensures room { KeepsRoom found.old found.new }
+    ensures { result ≡ (if in_low then lower range else upper range) }
 {
-    match half {
-        Some(n) => {
-            if e.holds_value(upper_range(range)) {
-                search_node(n, s, e, upper_range(range), found, cost)
-            } else {
-                Ok(())
-            }
-        }
-        None => Ok(()),
-    }
+    let (a, low) = lower_range(range)?;
+    let (_, high) = upper_range(range)?;
+    Some((
+        a,
+        (
+            chosen_end(in_low, low.0, high.0),
+            chosen_end(in_low, low.1, high.1),
+        ),
+    ))
 }
 
 // Appends the rows of a leaf that the event satisfies.

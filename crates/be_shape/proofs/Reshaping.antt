@@ -1,5 +1,5 @@
 -- A tree of which the node at the end of a path is reshaped: what its type keeps holds, and its contents are the same.
-use Rattle.std.proofs.Common.{◌≡◌, Bool, true, List, [], Option, None, Some, Result, Ok, Err, OnOk, OnErr, option_and_then, refl, sym, ap, ◌∙◌, subst}
+use Rattle.std.proofs.Common.{◌≡◌, Bool, true, List, [], Option, None, Some, option_and_then, refl, sym, ap, ◌∙◌, subst}
 use Rattle.std.specs.Arc.{arc_value}
 use Rattle.std.proofs.lemmas.Bool.{and_parts}
 use Rattle.be_model.specs.declared.paths.Hop.{Hop}
@@ -89,12 +89,3 @@ put_back hops n m b o w x h e f = f ∙ ap (replaced hops o) e ∙ (swapped hops
 
 pub put_own : (hops : List Hop) (n m b o w x : Plain) → walk hops n ≡ Some m → w ≡ replaced hops b n → x ≡ replaced hops o w → o ≡ m → x ≡ n
 put_own hops n m b o w x h e f same = put_back hops n m b o w x h e f ∙ ap (λ y. replaced hops y n) same ∙ (swapped hops n m b h).own
-
--- what follows from an answer
-pub on_ok : {T E P Q : Type 0} (r : Result T E) → (P → Q) → OnOk r P → OnOk r Q
-on_ok (Ok x) f h = f h
-on_ok (Err e) f h = tt
-
-pub on_err : {T E P Q : Type 0} (r : Result T E) → (P → Q) → OnErr r P → OnErr r Q
-on_err (Ok x) f h = tt
-on_err (Err e) f h = f h

@@ -1,6 +1,7 @@
 -- The hulls that a sight has.
-use Rattle.std.proofs.Common.{◌≡◌, ◌⊎◌, ⊎_elim, inl, inr, ℕ, ℤ, ◌+◌, ◌<◌, ◌≤◌, ◌≤ℤ◌, ◌<ℤ◌, Bool, true, false, ◌||◌, List, [], ◌∷◌, length, get_or, set, replicate, Option, Some, None, cond, refl, sym, ap, ◌∙◌, subst, arith, get_or-set_other, get_or-set_same}
+use Rattle.std.proofs.Common.{◌≡◌, ◌⊎◌, ⊎_elim, inl, inr, ℕ, ℤ, pos, ◌-ℤ◌, ◌+◌, ◌<◌, ◌≤◌, ◌≤ℤ◌, ◌<ℤ◌, Bool, true, false, ◌&&◌, ◌||◌, List, [], ◌∷◌, length, get_or, set, replicate, Option, Some, None, cond, refl, sym, ap, ◌∙◌, subst, arith, get_or-set_other, get_or-set_same}
 use Rattle.std.specs.Int.Signed.{le_z, lt_z}
+use Rattle.std.specs.Int.{int_min}
 use Rattle.std.specs.Ordering.{int_eq}
 use Rattle.std.proofs.lemmas.Int.{ints}
 use Rattle.std.proofs.lemmas.List.{get_or-replicate, get_or_default}
@@ -16,6 +17,23 @@ use Rattle.be_shape.proofs.ToldTests.{both, le_test, equal_from}
 
 overlap_from : (x y : ℤ × ℤ) → x.0 ≤ℤ y.1 → y.0 ≤ℤ x.1 → overlaps x y ≡ true
 overlap_from x y h k = both (le_z x.0 y.1) (le_z y.0 x.1) (le_test x.0 y.1 h) (le_test y.0 x.1 k)
+
+-- the lesser of two distances tells whether ends overlap
+pub one_distance : (x y : ℤ × ℤ) (m : ℤ) → m ≡ int_min (y.1 -ℤ x.0) (x.1 -ℤ y.0) → le_z (pos 0) m ≡ overlaps x y
+one_distance x y m is = by_lesser (lt_z (x.1 -ℤ y.0) (y.1 -ℤ x.0)) refl is
+  where
+    not_le : (b : Bool) → le_z (pos 0) m ≡ b → m <ℤ pos 0 → b ≡ false
+    not_le true h l = absurd (omega (arith, ints))
+    not_le false h l = refl
+
+    by_tests : (a b : Bool) → le_z x.0 y.1 ≡ a → le_z y.0 x.1 ≡ b → (m ≡ (x.1 -ℤ y.0)) ⊎ (m ≡ (y.1 -ℤ x.0)) → m ≤ℤ (x.1 -ℤ y.0) → m ≤ℤ (y.1 -ℤ x.0) → le_z (pos 0) m ≡ (a && b)
+    by_tests true true h k either l r = le_test (pos 0) m (⊎_elim (λ e. omega (arith, ints)) (λ e. omega (arith, ints)) either)
+    by_tests true false h k either l r = not_le (le_z (pos 0) m) refl (omega (arith, ints))
+    by_tests false b h k either l r = not_le (le_z (pos 0) m) refl (omega (arith, ints))
+
+    by_lesser : (c : Bool) → lt_z (x.1 -ℤ y.0) (y.1 -ℤ x.0) ≡ c → m ≡ cond c (x.1 -ℤ y.0) (y.1 -ℤ x.0) → le_z (pos 0) m ≡ overlaps x y
+    by_lesser true f e = by_tests (le_z x.0 y.1) (le_z y.0 x.1) refl refl (inl e) (omega (arith, ints)) (omega (arith, ints))
+    by_lesser false f e = by_tests (le_z x.0 y.1) (le_z y.0 x.1) refl refl (inr e) (omega (arith, ints)) (omega (arith, ints))
 
 -- all ends overlap the widest
 pub wide_is : (vs : Option (List ℤ)) → IsHull wide vs

@@ -11,12 +11,12 @@ ghost use Rattle.be_shape.specs.FewTests.{has_first, has_second, has_third};
 ghost use Rattle.be_shape.specs.Glances.{may_meet, test_on, glance, glance_of};
 ghost use Rattle.be_shape.specs.Listed.{attrs_told};
 
-use crate::glances::{Ends, Extent, has_in, hull_in};
+use crate::glances::{Ends, Extent, hull_in};
 use crate::listings::RowAttrs;
 use crate::looks::has_attr;
 use crate::sights::Sight;
 use be_base::AttrNo;
-use be_model::{Conj, Event, Row, Schema};
+use be_model::{Conj, Row, Schema};
 use std::marker::Model;
 
 /// How many tests there are.
@@ -137,12 +137,27 @@ impl FewTests {
     }
 
     // Whether the event passes.
-    fn may_meet(&self, e: &Event) -> bool
+    fn may_meet(&self, e: &Sight) -> bool
         ensures { result ≡ may_meet e.now self.now }
     {
-        (!self.count.has_first() || has_in(self.first, numbered(self.first_attr), e))
-            && (!self.count.has_second() || has_in(self.second, numbered(self.second_attr), e))
-            && (!self.count.has_third() || has_in(self.third, numbered(self.third_attr), e))
+        (!self.count.has_first() || e.has_in(self.first, numbered(self.first_attr)))
+            && (!self.count.has_second() || e.has_in(self.second, numbered(self.second_attr)))
+            && (!self.count.has_third() || e.has_in(self.third, numbered(self.third_attr)))
+    }
+
+    // Whether the event satisfies the condition of which this is told, by its own values. It stands apart, so that the loop over
+    // rows of which most are passed over stays short.
+    #[inline(never)]
+    fn is_met_by_values(&self, extent: Extent, conj: &Conj, e: &Sight) -> bool
+        requires told { glance self.now extent ≡ glance_of conj.now }
+        requires form { IsConj conj.now }
+        ensures { result ≡ satisfies e.now conj.now }
+    {
+        if extent.is_whole() {
+            self.may_meet(e)
+        } else {
+            conj.satisfied_by(e.event())
+        }
     }
 
     /// Whether the event satisfies the condition of which this is told.
@@ -151,12 +166,10 @@ impl FewTests {
         requires form { IsConj conj.now }
         ensures { result ≡ satisfies e.now conj.now }
     {
-        if !self.is_worth(e) {
-            false
-        } else if extent.is_whole() {
-            self.may_meet(e.event())
+        if self.is_worth(e) {
+            self.is_met_by_values(extent, conj, e)
         } else {
-            conj.satisfied_by(e.event())
+            false
         }
     }
 

@@ -137,8 +137,8 @@ impl Bounds {
     }
 }
 
-// Whether the number is between the ends.
-fn is_in(ends: Ends, v: i64) -> bool
+/// Whether the number is between the ends.
+pub(crate) fn is_in(ends: Ends, v: i64) -> bool
     ensures { result ≡ is_in ends v }
 {
     (ends.0 == i32::MIN || ends.0 as i64 <= v) && (ends.1 == i32::MAX || v <= ends.1 as i64)

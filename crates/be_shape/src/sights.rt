@@ -8,7 +8,7 @@ ghost use Rattle.be_shape.specs.Ranges.{is_rising};
 ghost use Rattle.be_shape.specs.Search.{holds_value};
 ghost use Rattle.be_shape.specs.Sights.{AreSmall, clamped, overlaps, IsExact, IsHull, IsSight};
 
-use crate::glances::Ends;
+use crate::glances::{Ends, has_in, is_in};
 use crate::ranges::{NodeRange, holds_value};
 use be_base::AttrNo;
 use be_model::{Event, Values};
@@ -60,11 +60,13 @@ fn clamped(v: i64) -> i32
     }
 }
 
+// The lesser of two distances tells of both, so that one jump decides; which of the two would say no can't be foreseen.
 fn overlaps(x: Ends, y: Ends) -> bool
     ensures tested { result ≡ overlaps x y }
     ensures small { AreSmall x }
 {
-    x.0 <= y.1 && y.0 <= x.1
+    let distance = (y.1 as i64 - x.0 as i64).min(x.1 as i64 - y.0 as i64);
+    0 <= distance
 }
 
 // Ends that overlap all that hold some of the values. Several values aren't looked at.
@@ -151,6 +153,17 @@ impl<'a> Sight<'a> {
             only_of(self.hulls[usize::from(a.0)])
         } else {
             None
+        }
+    }
+
+    /// Whether the event has a value of the attribute between the ends.
+    pub(crate) fn has_in(&self, ends: Ends, a: AttrNo) -> bool
+        ensures { result ≡ has_in ends (values_of self.now a) }
+    {
+        match self.only_value(a) {
+            Some(Some(v)) => is_in(ends, v),
+            Some(None) => false,
+            None => has_in(ends, a, self.event),
         }
     }
 

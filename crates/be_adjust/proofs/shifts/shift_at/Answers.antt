@@ -12,7 +12,8 @@ use Rattle.be_shape.specs.NodeList.{known_along}
 use Rattle.be_shape.specs.Right.{IsRight}
 use Rattle.be_shape.specs.Steps.{replaced, IsShifted}
 use Rattle.be_shape.proofs.Replacements.{Reshaped, right_along, open_on, replaced_right}
-use Rattle.be_shape.proofs.Reshaping.{taken_out, put_back, on_ok}
+use Rattle.std.proofs.lemmas.Result.{on_ok_weaker}
+use Rattle.be_shape.proofs.Reshaping.{taken_out, put_back}
 use Rattle.be_adjust.specs.Shifts.{MayShift}
 use Rattle.be_adjust.proofs.Shifted.{shift_there, shift_stands, open_there, differ_along}
 use Rattle.be_adjust.proofs.shifts.shift_at.Goals as goal
@@ -99,4 +100,4 @@ returns-clause-done c =
     let e = found at.Start in
     let o = plain c.shift_row-done.new.n in
     let shifted = subst (λ x. IsShifted c.args.from c.args.to (id_of (arc_value c.args.row)) x o) (taken at.After-swap_at e.0 e.1) in
-    on_ok c.shift_row-done.result (λ h. record { here = e.0; there = e.1; changed = o; shifted = shifted h; is = put at.After-swap_at-2 e.0 e.1 }) c.shift_row-done.ensures.done
+    on_ok_weaker c.shift_row-done.result (λ h. record { here = e.0; there = e.1; changed = o; shifted = shifted h; is = put at.After-swap_at-2 e.0 e.1 }) c.shift_row-done.ensures.done

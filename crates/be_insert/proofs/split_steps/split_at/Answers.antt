@@ -6,7 +6,8 @@ use Rattle.be_shape.specs.Shape.{known, nothing}
 use Rattle.be_shape.specs.NodeList.{known_along}
 use Rattle.be_shape.specs.Steps.{can_split_off, split_off, replaced}
 use Rattle.be_shape.proofs.Replacements.{right_along}
-use Rattle.be_shape.proofs.Reshaping.{stands_in, ended, changed_is, range_there, taken_out, put_back, put_own, on_ok, on_err}
+use Rattle.std.proofs.lemmas.Result.{on_ok_weaker, on_err_weaker}
+use Rattle.be_shape.proofs.Reshaping.{stands_in, ended, changed_is, range_there, taken_out, put_back, put_own}
 use Rattle.be_insert.proofs.Settled.{row_lie, leaf_may}
 use Rattle.be_insert.proofs.SplitOff.{stands}
 use Rattle.be_insert.proofs.split_steps.split_at.Goals as goal
@@ -45,7 +46,7 @@ returns-clause-done c =
     let is = taken_out hops n e.here (plain c.make-here.result) (plain c.swap_at.new.other) e.there c.swap_at.ensures.taken in
     let at = range_there s hops n e.here c.walk_range-range.result e.there c.walk_range-range.ensures.range in
     let o = plain c.split_off-done.new.n in
-    on_ok c.split_off-done.result (λ made. put_back hops n e.here (plain c.make-here.result) o (plain c.swap_at.new.n) (plain c.swap_at-2.new.n) e.there c.swap_at.ensures.put c.swap_at-2.ensures.put
+    on_ok_weaker c.split_off-done.result (λ made. put_back hops n e.here (plain c.make-here.result) o (plain c.swap_at.new.n) (plain c.swap_at-2.new.n) e.there c.swap_at.ensures.put c.swap_at-2.ensures.put
     ∙ ap (λ m. replaced hops m n) (made ∙ ap (split_off s hop (known c.walk_range-range.result [])) is ∙ ap (λ r. split_off s hop (known r []) e.here) at) ∙ sym (changed_is (split_off s hop) s hops n e.here e.there)) c.split_off-done.ensures.done
 
 pub returns-clause-refused : goal.returns-clause-refused
@@ -55,4 +56,4 @@ returns-clause-refused c =
     let hops = c.args.hops.now in
     let e = ended (can_split_off s c.args.hop) s hops n c.requires.stands in
     let is = taken_out hops n e.here (plain c.make-here.result) (plain c.swap_at.new.other) e.there c.swap_at.ensures.taken in
-    on_err c.split_off-done.result (λ same. put_own hops n e.here (plain c.make-here.result) (plain c.split_off-done.new.n) (plain c.swap_at.new.n) (plain c.swap_at-2.new.n) e.there c.swap_at.ensures.put c.swap_at-2.ensures.put (same ∙ is)) c.split_off-done.ensures.refused
+    on_err_weaker c.split_off-done.result (λ same. put_own hops n e.here (plain c.make-here.result) (plain c.split_off-done.new.n) (plain c.swap_at.new.n) (plain c.swap_at-2.new.n) e.there c.swap_at.ensures.put c.swap_at-2.ensures.put (same ∙ is)) c.split_off-done.ensures.refused

@@ -1,4 +1,4 @@
-use Rattle.std.proofs.Common.{◌≡◌, Bool, true, false, ◌&&◌, ◌||◌, refl, sym, ap, ◌∙◌}
+use Rattle.std.proofs.Common.{◌≡◌, Bool, true, false, ◌&&◌, ◌||◌, refl, sym}
 use Rattle.be_model.specs.Matching.{satisfies}
 use Rattle.be_shape.specs.Glances.{may_meet, is_whole}
 use Rattle.be_shape.proofs.ToldTests.{told}
@@ -8,21 +8,9 @@ not_worth : (r m w s : Bool) → (m ≡ true → r ≡ true) → r ≡ false →
 not_worth r true w s f h e = absurd (let k = f refl in cc)
 not_worth r false w s f h e = sym e
 
-wholly : (m w s : Bool) → w ≡ true → s ≡ (m && (w || s)) → m ≡ s
-wholly true w s k e = sym (e ∙ ap (λ b. b || s) k)
-wholly false w s k e = sym e
-
-pub returns-then-not-is_worth : goal.returns-then-not-is_worth
-returns-then-not-is_worth c =
+pub returns-else-is_worth : goal.returns-else-is_worth
+returns-else-is_worth c =
     let e = c.args.e.now in
     let conj = c.args.conj.now in
     let tests = c.args.self.now in
-    not_worth c.is_worth.result (may_meet e tests) (is_whole c.args.extent || satisfies e conj) (satisfies e conj) c.is_worth.ensures c.if-not-is_worth.true (told e conj tests c.args.extent c.requires.told c.requires.form)
-
-pub returns-then-is_whole : goal.returns-then-is_whole
-returns-then-is_whole c =
-    let e = c.args.e.now in
-    let conj = c.args.conj.now in
-    let tests = c.args.self.now in
-    let m : c.may_meet.result ≡ may_meet e tests = c.may_meet.ensures ∙ ap (λ x. may_meet x tests) c.event.ensures in
-    m ∙ wholly (may_meet e tests) (is_whole c.args.extent) (satisfies e conj) (sym c.is_whole.ensures ∙ c.if-is_whole.true) (told e conj tests c.args.extent c.requires.told c.requires.form)
+    not_worth c.is_worth.result (may_meet e tests) (is_whole c.args.extent || satisfies e conj) (satisfies e conj) c.is_worth.ensures c.if-is_worth.false (told e conj tests c.args.extent c.requires.told c.requires.form)
