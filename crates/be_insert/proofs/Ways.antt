@@ -1,5 +1,5 @@
 -- The way of a row at a node.
-use Rattle.std.proofs.Common.{◌≡◌, ◌+◌, ℕ, ℤ, pos, Bool, true, false, cond, ◌||◌, List, [], ◌∷◌, ◌++◌, length, slice_get, None, Some, Option, IfSome, refl, sym, ap, ◌∙◌, subst, length-append}
+use Rattle.std.proofs.Common.{◌≡◌, ◌+◌, ◌<◌, ℕ, ℤ, pos, Bool, true, false, cond, ◌||◌, List, [], ◌∷◌, ◌++◌, length, slice_get, None, Some, Option, IfSome, refl, sym, ap, ◌∙◌, subst, length-append}
 use Rattle.std.specs.Prelude.{int_lt, option_map}
 use Rattle.std.specs.List.{list_any}
 use Rattle.std.proofs.lemmas.Bool.{or_from, or_parts}
@@ -12,9 +12,11 @@ use Rattle.be_model.specs.declared.paths.Hop.TheVariants.{Low, High}
 use Rattle.be_model.specs.Rows.{has}
 use Rattle.be_model.specs.Schemas.{Attributes}
 use Rattle.be_score.specs.Scores.{weight}
-use Rattle.be_shape.specs.Plain.{Plain, node, Parts, no_part, part, Half, no_half, half}
+use Rattle.be_shape.specs.declared.nodes.Part.{Part as PartOf}
+use Rattle.be_shape.specs.Plain.{Plain, node, Parts, no_part, part, Half, no_half, half, parts_as}
 use Rattle.be_shape.specs.Shape.{NodeRange, known, lower, upper, fits_half, attrs_of}
 use Rattle.be_shape.specs.Children.{roots_of, root_of, may_pass}
+use Rattle.be_shape.proofs.PartPlaces.{part_within}
 use Rattle.be_insert.specs.Ways.{heavier, better_part, best_from, IsWay, NoWay}
 
 pub low_way : (s : Attributes) (r : NodeRange) (rows : List Row) (parts : Parts) (low high : Half) (row : Row) → fits_half s (known (lower r) []) low row ≡ true → IsWay s r (node rows parts low high) row (Low, 0)
@@ -92,6 +94,10 @@ part_way s row attrs i h = by_best (best_from s row 0 None attrs) (best_taken s 
     by_best (Some b) k e =
         let same : b.0 ≡ i = cc in
         record { attr = k.attr; at = ap (slice_get attrs) (sym same) ∙ k.at; takes = k.takes }
+
+-- that place is one of the parts
+pub best_within : (s : Attributes) (row : Row) (ps : List PartOf) (i : ℕ) → Some i ≡ option_map (λ (b : ℕ × ℤ). b.0) (best_from s row 0 None (attrs_of (parts_as ps))) → i < length ps
+best_within s row ps i e = let w = part_way s row (attrs_of (parts_as ps)) i (sym e) in part_within ps i w.attr w.at
 
 no_best : (o : Option (ℕ × ℤ)) → option_map (λ (b : ℕ × ℤ). b.0) o ≡ None → o ≡ None
 no_best None h = refl

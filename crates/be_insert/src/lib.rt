@@ -13,5 +13,5 @@ mod places;
 mod split_steps;
 mod splits;
 
-pub use places::{place, place_below};
+pub use places::{best_part, place, place_below};
 pub use split_steps::{split_half, split_part};

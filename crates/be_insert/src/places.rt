@@ -1,6 +1,6 @@
 //! Where a row goes.
 
-ghost use Rattle.std.specs.Prelude.{◌≡◌, ◌++◌, ◌∷◌, [], ◌+◌, ◌<◌, true, false, Some, None, option_map, MatchOption, IsPermutation, OnOk, OnErr, IfErr};
+ghost use Rattle.std.specs.Prelude.{◌≡◌, ◌++◌, ◌∷◌, [], ◌+◌, ◌<◌, true, false, Some, None, option_map, length, MatchOption, IfSome, IsPermutation, OnOk, OnErr, IfErr};
 ghost use Rattle.std.specs.Arc.{arc_value};
 ghost use Rattle.be_model.specs.Lies.{row_lies};
 ghost use Rattle.be_model.specs.Rows.{has, id_of};
@@ -48,10 +48,12 @@ fn better_part(
     }
 }
 
-// The place of the part in which the row weighs most, the first on a tie, among those whose attribute it has.
-fn best_part(parts: &[Part], s: &Schema, row: &Row) -> Option<usize>
+/// The place of the part in which the row weighs most, the first on a tie, among those whose attribute it has: the part into
+/// which it would be put.
+pub fn best_part(parts: &[Part], s: &Schema, row: &Row) -> Option<usize>
     requires { row_lies s.now row.now ≡ true }
-    ensures { result ≡ option_map (λ b. b.0) (best_from s.now row.now 0 None (attrs_of (parts_as parts.now))) }
+    ensures best { result ≡ option_map (λ b. b.0) (best_from s.now row.now 0 None (attrs_of (parts_as parts.now))) }
+    ensures within { IfSome result (λ place. place < length parts.now) }
 {
     let mut best = None;
     let mut place = 0;

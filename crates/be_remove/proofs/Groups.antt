@@ -1,5 +1,5 @@
 -- Halves and parts of which one has a row less.
-use Rattle.std.proofs.Common.{◌≡◌, ◌<◌, ℕ, zero, suc, Bool, true, false, cond, List, [], ◌∷◌, ◌++◌, length, take, get_or, Option, Some, None, OnSome, IfNone, refl, sym, ap, ◌∙◌, subst, arith}
+use Rattle.std.proofs.Common.{◌≡◌, ◌<◌, ℕ, zero, suc, Bool, true, false, cond, List, [], ◌∷◌, ◌++◌, length, get_or, Option, Some, None, OnSome, IfNone, refl, sym, ap, ◌∙◌, subst, arith}
 use Rattle.std.specs.Prelude.{IsPermutation}
 use Rattle.std.specs.List.{slice_set, AllByRecursion}
 use Rattle.std.proofs.lemmas.List.{append-nil}
@@ -64,20 +64,11 @@ part_less s r row (x ∷ ps) (suc i) p q a m o l e u v gone right =
       right = z.right;
     }
 
--- what holds of each root, at a place and up to a place
+-- what holds of each root, at a place
 pub at_part : (P : Hop × Plain → Type 0) (ps : List PartOf) (i : ℕ) (q : PartOf) → i < length ps → q ≡ get_or ps i q → AllByRecursion P (roots_of (parts_as ps)) → P (Part (part_as q).0, (part_as q).1)
 at_part P [] i q l e h = absurd (omega arith)
 at_part P (p ∷ ps) zero q l e h = let Q : PartOf → Type 0 = λ z. P (Part (part_as z).0, (part_as z).1) in subst Q (sym e) h.0
 at_part P (p ∷ ps) (suc i) q l e h = at_part P ps i q (omega arith) e h.1
-
-pub one_more : (P : Hop × Plain → Type 0) (ps : List PartOf) (i : ℕ) (q : PartOf) → i < length ps → q ≡ get_or ps i q → AllByRecursion P (take i (roots_of (parts_as ps))) → P (Part (part_as q).0, (part_as q).1) → AllByRecursion P (take (suc i) (roots_of (parts_as ps)))
-one_more P [] i q l e h k = absurd (omega arith)
-one_more P (p ∷ ps) zero q l e h k = let Q : PartOf → Type 0 = λ z. P (Part (part_as z).0, (part_as z).1) in (subst Q e k, tt)
-one_more P (p ∷ ps) (suc i) q l e h k = (h.0, one_more P ps i q (omega arith) e h.1 k)
-
-pub at_all : (P : Hop × Plain → Type 0) (ps : List PartOf) → AllByRecursion P (take (length ps) (roots_of (parts_as ps))) → AllByRecursion P (roots_of (parts_as ps))
-at_all P [] h = tt
-at_all P (p ∷ ps) h = (h.0, at_all P ps h.1)
 
 pub same_place : (ps : List PartOf) (i : ℕ) (p q : PartOf) → i < length ps → p ≡ get_or ps i p → q ≡ get_or ps i q → p ≡ q
 same_place [] i p q l e f = absurd (omega arith)

@@ -6,3 +6,4 @@ pub mod Nodes
 pub mod Roots
 pub mod FirstParts
 pub mod OneLent
+pub mod Turns

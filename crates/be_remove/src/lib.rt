@@ -2,8 +2,8 @@
 //!
 //! `take` is its call on a tree, and its contract speaks of the contents, since the type of a tree keeps the shape. `take_below`
 //! does the same below a node, `take_below_part` below one part of a node, and `drop_bare` drops a child that has nothing.
-//! It stands on the tree of be_shape. Begin with `src/takes.rt`; that a node stays right where a child has a row less is in
-//! be_shape's `proofs/OneLess`.
+//! It stands on the tree of be_shape, and on be_insert for the part in which a row is looked for first. Begin with
+//! `src/takes.rt`; that a node stays right where a child has a row less is in be_shape's `proofs/OneLess`.
 #![tactic(auto)]
 
 mod leaves;

@@ -1,6 +1,6 @@
 //! Where a row is looked for.
 
-ghost use Rattle.std.specs.Prelude.{◌≡◌, ◌↔◌, ◌∷◌, true, [], List, Some, None, IsPermutation, IsSome, IfSome, OnSome, IfNone};
+ghost use Rattle.std.specs.Prelude.{◌≡◌, ◌↔◌, ◌<◌, ◌∷◌, length, true, [], List, Some, None, IsPermutation, IsSome, IfSome, OnSome, IfNone};
 ghost use Rattle.std.specs.List.{Contains, AllByRecursion, list_any};
 ghost use Rattle.std.specs.Arc.{arc_value};
 ghost use Rattle.be_base.specs.declared.names.AttrNo.{AttrNo};
@@ -15,8 +15,10 @@ ghost use Rattle.be_shape.specs.Spots.{known_of};
 ghost use Rattle.be_shape.specs.Children.{roots_of, root_of, known_below};
 ghost use Rattle.be_shape.specs.Less.{IsRightIn, IsRightBelow, IsLess};
 ghost use Rattle.be_remove.specs.Taken.{has_way, Lacks};
+ghost use Rattle.be_remove.specs.Turns.{place_at};
 
 use crate::leaves::{drop_half, drop_part, take_row};
+use be_insert::best_part;
 use be_model::{Hop, Row, Schema};
 use be_shape::{
     Node, NodeRange, Part, Spot, Tree, child_range, has_attr, is_inside, lower_range, may_pass,
@@ -115,6 +117,27 @@ fn take_from_half(
     Some(taken)
 }
 
+// The place of the part in which the row mostly stands: the one into which it would be put.
+fn likely_part(parts: &[Part], s: &Schema, row: &Row) -> usize
+    requires lies { row_lies s.now row.now ≡ true }
+    ensures { 0 < length parts.now → result < length parts.now }
+{
+    best_part(parts, s, row).unwrap_or(0)
+}
+
+// The place that is looked at in a turn: the likely one first, and then the others as they stand.
+fn place_at(likely: usize, turn: usize) -> usize
+    ensures { result ≡ place_at likely turn }
+{
+    if turn == 0 {
+        likely
+    } else if turn <= likely {
+        turn - 1
+    } else {
+        turn
+    }
+}
+
 // Takes the row out below a part.
 #[cycle(takes)]
 fn take_from_parts(
@@ -132,7 +155,9 @@ fn take_from_parts(
     ensures none { IfNone result (parts_as parts.new.items ≡ parts_as parts.old.items) }
     ensures lacks { IfNone result (AllByRecursion (λ x. Lacks row.now x.1) (roots_of (parts_as parts.old.items))) }
 {
-    for place in 0..parts.len() {
+    let likely = likely_part(parts.as_slice(), s, row);
+    for turn in 0..parts.len() {
+        let place = place_at(likely, turn);
         let hop = Hop::Part(parts[place].attr);
         if let Some(taken) = take_from_child(&mut parts[place].root, s, hop, range, row) {
             drop_part(parts, place);
@@ -187,8 +212,8 @@ pub fn take_below(n: &mut Node, s: &Schema, k: &Spot, row: &Row) -> Option<Arc<R
 }
 
 /// Takes the row out of the tree. A row counts as there only where all its fields are equal. It enters the parts whose attributes
-/// the row has and the halves that enclose its span until it is found, and drops the nodes that are left without a row. It
-/// takes no memory.
+/// the row has, the one into which it would be put first, and the halves that enclose its span until it is found, and drops the
+/// nodes that are left without a row. It takes no memory.
 pub fn take(t: &mut Tree, row: &Row) -> Option<Arc<Row>>
     ensures there { IsSome result ↔ (row_at (id_of row.now) (contents (plain t.old.root)) ≡ Some row.now) }
     ensures same { IfSome result (λ r. arc_value r ≡ row.now) }

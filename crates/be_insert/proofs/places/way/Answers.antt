@@ -32,7 +32,7 @@ index-requires c =
     let n = out-Node c.args.n.now in
     let r = c.args.range in
     let row = c.args.row.now in
-    let w = part_way s row (attrs_of (parts_as n.parts.items)) c.in-Some.place (ap (λ ps. option_map (λ (b : ℕ × ℤ). b.0) (best_from s row 0 None (attrs_of (parts_as ps)))) (sym c.as_slice.ensures.value) ∙ sym c.best_part.ensures ∙ c.in-Some.is) in
+    let w = part_way s row (attrs_of (parts_as n.parts.items)) c.in-Some.place (ap (λ ps. option_map (λ (b : ℕ × ℤ). b.0) (best_from s row 0 None (attrs_of (parts_as ps)))) (sym c.as_slice.ensures.value) ∙ sym c.best_part.ensures.best ∙ c.in-Some.is) in
     omega (arith, part_within n.parts.items c.in-Some.place w.attr w.at, c.as_slice.ensures.len, ap length c.as_slice.ensures.value)
 
 pub returns-in-Some : goal.returns-in-Some
@@ -43,7 +43,7 @@ returns-in-Some c =
     let row = c.args.row.now in
     let i = c.in-Some.place in
     let p = c.index.result.now in
-    let w = part_way s row (attrs_of (parts_as n.parts.items)) i (ap (λ ps. option_map (λ (b : ℕ × ℤ). b.0) (best_from s row 0 None (attrs_of (parts_as ps)))) (sym c.as_slice.ensures.value) ∙ sym c.best_part.ensures ∙ c.in-Some.is) in
+    let w = part_way s row (attrs_of (parts_as n.parts.items)) i (ap (λ ps. option_map (λ (b : ℕ × ℤ). b.0) (best_from s row 0 None (attrs_of (parts_as ps)))) (sym c.as_slice.ensures.value) ∙ sym c.best_part.ensures.best ∙ c.in-Some.is) in
     let at = attr_there n.parts.items i p (part_within n.parts.items i w.attr w.at) c.index.ensures ∙ ap (λ z. Some z.0) (part_out p) in
     let same : w.attr ≡ (out-Part p).attr = let e = sym w.at ∙ at in cc in
     subst (λ m. IsWay s r m row (Part (out-Part p).attr, i)) (sym (plain_out c.args.n.now)) (record { passes = subst (λ a. has a row ≡ true) same w.takes; there = at })
@@ -56,4 +56,4 @@ returns-in-None c =
     let row = c.args.row.now in
     subst (λ m. NoWay s r m row) (sym (plain_out c.args.n.now)) (no_way s r n.leaf (parts_as n.parts.items) (half_as n.low) (half_as n.high) row (ap (λ q. fits_half s (known q []) (half_as n.low) row) (sym c.lower_range.ensures.range) ∙ sym c.takes.ensures ∙ c.if-takes.false)
     (ap (λ q. fits_half s (known q []) (half_as n.high) row) (sym c.upper_range.ensures.range) ∙ sym c.takes-2.ensures ∙ c.if-takes-2.false)
-    (ap (λ ps. option_map (λ (b : ℕ × ℤ). b.0) (best_from s row 0 None (attrs_of (parts_as ps)))) (sym c.as_slice.ensures.value) ∙ sym c.best_part.ensures ∙ c.in-None.is))
+    (ap (λ ps. option_map (λ (b : ℕ × ℤ). b.0) (best_from s row 0 None (attrs_of (parts_as ps)))) (sym c.as_slice.ensures.value) ∙ sym c.best_part.ensures.best ∙ c.in-None.is))

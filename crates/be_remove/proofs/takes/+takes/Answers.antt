@@ -1,4 +1,4 @@
-use Rattle.std.proofs.Common.{◌≡◌, ◌<◌, suc, ◌∷◌, ◌++◌, length, take, refl, sym, ap, ◌∙◌, subst, rules, arith, add-one, length-set}
+use Rattle.std.proofs.Common.{◌≡◌, ◌<◌, ℕ, ◌∷◌, ◌++◌, length, get_or, refl, sym, ap, ◌∙◌, subst, rules, arith, length-set}
 use Rattle.std.specs.Prelude.{IsPermutation}
 use Rattle.std.specs.List.{AllByRecursion}
 use Rattle.std.proofs.lemmas.List.{get_or-set_other}
@@ -8,7 +8,9 @@ use Rattle.be_shape.specs.declared.nodes.Node.{Node}
 use Rattle.be_shape.specs.declared.nodes.Part.{Part as PartOf}
 use Rattle.be_shape.specs.declared.nodes.Node.TheOpen.{Node-F}
 use Rattle.be_shape.specs.declared.nodes.Node.TheViews.{out-Node, the_lemmas}
-use Rattle.be_shape.specs.Plain.{Plain, plain, half, half_as, parts_as, rows_below}
+use mathlib.Core.Logic.{dite}
+use native.Mathlib.Decide.{ℕ_discrete}
+use Rattle.be_shape.specs.Plain.{Plain, plain, half, half_as, part_as, parts_as, rows_below}
 use Rattle.be_shape.specs.Shape.{known}
 use Rattle.be_shape.specs.Children.{root_of, roots_of}
 use Rattle.be_shape.specs.Right.{IsRight}
@@ -17,10 +19,12 @@ use Rattle.be_shape.proofs.Children.{Each-append, Each-parts}
 use Rattle.be_shape.proofs.Plains.{plain_out}
 use Rattle.be_shape.proofs.OneLess.{right_below}
 use Rattle.be_remove.specs.Taken.{has_way, Lacks}
-use Rattle.be_remove.proofs.Groups.{StaysRight, half_less, one_more, at_all, either, on_some, if_none}
+use Rattle.be_remove.proofs.Groups.{StaysRight, half_less, same_place, either, on_some, if_none}
 use Rattle.be_remove.proofs.Lacking.{no_way, a_way}
 use Rattle.be_remove.proofs.Nodes.{level, taken_at, right_at, leaf_taken_at, leaf_right_at, same_at, low_at, high_at, parts_at}
 use Rattle.be_remove.proofs.OneLent.{Lent, with_root, lent_is, lent_right, lent_less, lent_same}
+use Rattle.be_remove.specs.Turns.{place_at}
+use Rattle.be_remove.proofs.Turns.{place_within, places_differ, at_each, each_root}
 use Rattle.be_remove.proofs.takes.+takes.Goals as goal
 
 -- the children at the node's parts, and at its halves, stand right below it
@@ -150,49 +154,69 @@ take_from-returns-clause-lacks t c =
 
 pub take_from_parts-take_from_child-requires : goal.take_from_parts-take_from_child-requires
 take_from_parts-take_from_child-requires t c =
-    let inv = c.loop-place.invariant in
-    let ps = c.loop-place.parts.items in
+    let inv = c.loop-turn.invariant in
+    let was = c.args.parts.now.items in
+    let ps = c.loop-turn.parts.items in
+    let i = c.place_at-place.result in
     let P = IsRightBelow c.args.s.now c.args.range in
-    let l : c.loop-place.place < length ps = omega (arith, c.loop-place-test.true, inv.end, inv.many) in
-    let at : Lent ps c.loop-place.place c.index.result.now c.index_mut.result.now c.deref_mut.result.now = record { within = l; read = c.index.ensures; lent = c.index_mut.ensures.value; root = c.deref_mut.ensures.value } in
-    (search (rules, the_lemmas, inv.left), (c.requires.lies, (c.requires.bounded, (c.requires.rising, lent_right at P (subst (λ z. AllByRecursion P (roots_of z)) (sym inv.same) c.requires.right)))))
+    let u : c.loop-turn.turn < length ps = omega (arith, c.loop-turn-test.true, inv.end, inv.many) in
+    let w : c.likely_part-likely.result < length ps = let some = c.likely_part-likely.ensures (omega (arith, u, inv.many, ap length c.as_slice.ensures.value)) in omega (arith, some, inv.many, ap length c.as_slice.ensures.value) in
+    let l : i < length ps = subst (λ j. j < length ps) (sym c.place_at-place.ensures) (place_within c.likely_part-likely.result (length ps) c.loop-turn.turn w u) in
+    let at : Lent ps i c.index.result.now c.index_mut.result.now c.deref_mut.result.now = record { within = l; read = c.index.ensures; lent = c.index_mut.ensures.value; root = c.deref_mut.ensures.value } in
+    let left : (d : PartOf) → get_or ps i d ≡ get_or was i d = λ d. subst (λ j. get_or ps j d ≡ get_or was j d) (sym c.place_at-place.ensures) (inv.left c.loop-turn.turn d (omega arith)) in
+    (search (rules, the_lemmas, left), (c.requires.lies, (c.requires.bounded, (c.requires.rising, lent_right at P (subst (λ z. AllByRecursion P (roots_of z)) (sym inv.same) c.requires.right)))))
 
 pub take_from_parts-returns-in-Some-clause-less : goal.take_from_parts-returns-in-Some-clause-less
 take_from_parts-returns-in-Some-clause-less t c =
     let s = c.args.s.now in
     let r = c.args.range in
     let row = c.args.row.now in
-    let inv = c.loop-place.invariant in
-    let ps = c.loop-place.parts.items in
-    let l : c.loop-place.place < length ps = omega (arith, c.loop-place-test.true, inv.end, inv.many) in
-    let at : Lent ps c.loop-place.place c.index.result.now c.index_mut.result.now c.deref_mut.result.now = record { within = l; read = c.index.ensures; lent = c.index_mut.ensures.value; root = c.deref_mut.ensures.value } in
+    let inv = c.loop-turn.invariant in
+    let ps = c.loop-turn.parts.items in
+    let i = c.place_at-place.result in
+    let u : c.loop-turn.turn < length ps = omega (arith, c.loop-turn-test.true, inv.end, inv.many) in
+    let w : c.likely_part-likely.result < length ps = let some = c.likely_part-likely.ensures (omega (arith, u, inv.many, ap length c.as_slice.ensures.value)) in omega (arith, some, inv.many, ap length c.as_slice.ensures.value) in
+    let l : i < length ps = subst (λ j. j < length ps) (sym c.place_at-place.ensures) (place_within c.likely_part-likely.result (length ps) c.loop-turn.turn w u) in
+    let at : Lent ps i c.index.result.now c.index_mut.result.now c.deref_mut.result.now = record { within = l; read = c.index.ensures; lent = c.index_mut.ensures.value; root = c.deref_mut.ensures.value } in
     subst (λ z. IsLess s r row (roots_of z) (roots_of (parts_as c.drop_part.new.parts.items))) inv.same
     (subst (λ z. IsLess s r row (roots_of (parts_as ps)) (roots_of z)) (sym c.drop_part.ensures) (lent_less at s r row c.take_from_child.new.n c.in-Some.ensures.taken c.take_from_child.ensures.right))
 
-pub take_from_parts-loop-place-preserved : goal.take_from_parts-loop-place-preserved
-take_from_parts-loop-place-preserved t c =
+pub take_from_parts-loop-turn-preserved : goal.take_from_parts-loop-turn-preserved
+take_from_parts-loop-turn-preserved t c =
     let row = c.args.row.now in
-    let inv = c.loop-place.invariant in
-    let ps = c.loop-place.parts.items in
-    let i = c.loop-place.place in
+    let inv = c.loop-turn.invariant in
+    let was = c.args.parts.now.items in
+    let ps = c.loop-turn.parts.items in
+    let likely = c.likely_part-likely.result in
+    let turn = c.loop-turn.turn in
+    let i = c.place_at-place.result in
     let q = c.index_mut.result.now in
-    let l : i < length ps = omega (arith, c.loop-place-test.true, inv.end, inv.many) in
+    let u : turn < length ps = omega (arith, c.loop-turn-test.true, inv.end, inv.many) in
+    let w : likely < length ps = let some = c.likely_part-likely.ensures (omega (arith, u, inv.many, ap length c.as_slice.ensures.value)) in omega (arith, some, inv.many, ap length c.as_slice.ensures.value) in
+    let l : i < length ps = subst (λ j. j < length ps) (sym c.place_at-place.ensures) (place_within likely (length ps) turn w u) in
     let at : Lent ps i c.index.result.now q c.deref_mut.result.now = record { within = l; read = c.index.ensures; lent = c.index_mut.ensures.value; root = c.deref_mut.ensures.value } in
     let p = with_root q c.take_from_child.new.n in
-    let P : Hop × Plain → Type 0 = λ z. Lacks row z.1 in
-    let lacks = subst (λ z. Lacks row z.1) (sym (lent_is at)) c.in_default.ensures.lacks in
+    let here : Lacks row (part_as q).1 = subst (λ z. Lacks row z.1) (sym (lent_is at)) c.in_default.ensures.lacks in
+    let now : (x : PartOf) → x ≡ get_or was (place_at likely turn) x → Lacks row (part_as x).1 = λ x e.
+    let f : x ≡ get_or ps i x = e ∙ sym (inv.left turn x (omega arith)) ∙ ap (λ j. get_or ps j x) (sym c.place_at-place.ensures) in
+    subst (λ z. Lacks row (part_as z).1) (same_place ps i q x l at.lent f) here in
     record {
       same = lent_same at c.take_from_child.new.n c.in_default.ensures.none ∙ inv.same;
       many = length-set ps i p ∙ inv.many;
       end = inv.end;
-      lacks = subst (λ j. AllByRecursion P (take j (roots_of (parts_as c.args.parts.now.items)))) (sym (add-one i)) (subst (λ z. AllByRecursion P (take (suc i) (roots_of z))) inv.same (one_more P ps i q l at.lent (subst (λ z. AllByRecursion P (take i (roots_of z))) (sym inv.same) inv.lacks) lacks));
-      left = λ k d h. get_or-set_other ps i k p d (λ e. omega arith) ∙ inv.left k d (omega arith);
+      lacks = λ k h x e. dite (ℕ_discrete k turn)
+          (λ same. now x (e ∙ ap (λ j. get_or was (place_at likely j) x) same))
+          (λ ne. inv.lacks k (omega (arith, h, ne)) x e);
+      left = λ k d h. get_or-set_other ps i (place_at likely k) p d (λ e. places_differ likely turn k (omega (arith, h)) (e ∙ c.place_at-place.ensures)) ∙ inv.left k d (omega (arith, h));
     }
 
 pub take_from_parts-returns-clause-lacks : goal.take_from_parts-returns-clause-lacks
 take_from_parts-returns-clause-lacks t c =
+    let row = c.args.row.now in
+    let inv = c.loop-turn.invariant in
     let was = c.args.parts.now.items in
-    let inv = c.loop-place.invariant in
-    let P : Hop × Plain → Type 0 = λ z. Lacks c.args.row.now z.1 in
-    let e : c.loop-place.place ≡ length was = omega (arith, inv.end, c.loop-place-test.false, c.loop-place.auto.place-end) in
-    at_all P was (subst (λ j. AllByRecursion P (take j (roots_of (parts_as was)))) e inv.lacks)
+    let likely = c.likely_part-likely.result in
+    let P : Hop × Plain → Type 0 = λ z. Lacks row z.1 in
+    let Q : ℕ → Type 0 = λ i. (q : PartOf) → q ≡ get_or was i q → Lacks row (part_as q).1 in
+    let e : c.loop-turn.turn ≡ length was = omega (arith, inv.end, c.loop-turn-test.false, c.loop-turn.auto.turn-end) in
+    each_root P was (λ i l. at_each Q likely (length was) (let some = c.likely_part-likely.ensures (omega (arith, l, ap length c.as_slice.ensures.value)) in omega (arith, some, ap length c.as_slice.ensures.value)) (λ k h. inv.lacks k (omega (arith, h, e))) i l)
