@@ -1,10 +1,9 @@
 -- How many rows pass a test, row by row, and whether enough have some attribute.
-use Rattle.std.proofs.Common.{◌≡◌, ⊎_elim, ℕ, zero, suc, ◌+◌, ◌-◌, ◌<◌, ◌≤◌, leb, eqb, Bool, true, false, true≢false, not, cond, ◌||◌, List, [], ◌∷◌, length, take, drop, length-drop, get_or, slice_get, Some, refl, sym, ap, ◌∙◌, subst, arith}
+use Rattle.std.proofs.Common.{◌≡◌, ⊎_elim, ℕ, zero, suc, ◌+◌, ◌-◌, ◌<◌, ◌≤◌, leb, eqb, Bool, true, false, true≢false, not, cond, ◌||◌, List, [], ◌∷◌, length, take, drop, length-drop, slice_get, Some, refl, sym, ap, ◌∙◌, subst, arith}
 use Rattle.std.specs.List.{list_all, list_any, count_by}
 use Rattle.std.proofs.lemmas.Bool.{lt-leb, le-leb, and_parts, and_from, or_cases, or_left, or_right, eqb-true, not_from_false, false_from_ne_true}
-use Rattle.std.proofs.lemmas.List.Sums.{count_by_more_yes, count_by_more_no, count_by-le-length, sum_by-take-drop}
+use Rattle.std.proofs.lemmas.List.Sums.{count_by-le-length, sum_by-take-drop}
 use Rattle.std.proofs.lemmas.List.{take_all}
-use Rattle.std.proofs.lemmas.Option.{slice_get_within, get_or_from_slice_get}
 use mathlib.Core.Logic.{dite}
 use native.Mathlib.Decide.{ℕ_discrete}
 use Rattle.be_base.specs.declared.names.AttrNo.{AttrNo}
@@ -20,19 +19,8 @@ use Rattle.be_shape.specs.Shape.{is_used}
 use Rattle.be_shape.specs.declared.listings.RowAttrs.{RowAttrs}
 use Rattle.be_shape.specs.declared.listings.RowAttrs.TheVariants.{Zero, One, Two, Three, Many}
 use Rattle.be_plan.specs.Splits.{is_had, any_is_had}
+use Rattle.be_shape.proofs.Commons.{one_more}
 use Rattle.be_plan.proofs.Counts.{some_pass}
-
--- a row more
-one_more : (p : Row → Bool) (rows : List Row) (i : ℕ) (x : Row) → slice_get rows i ≡ Some x → count_by p (take (i + 1) rows) ≡ count_by p (take i rows) + cond (p x) 1 0
-one_more p rows i x at = by_test (p x) refl
-  where
-    is : get_or rows i x ≡ x
-    is = get_or_from_slice_get rows i x x at
-
-    by_test : (b : Bool) → p x ≡ b → count_by p (take (i + 1) rows) ≡ count_by p (take i rows) + cond b 1 0
-    by_test true e = count_by_more_yes p rows i x (slice_get_within rows i x at) (ap p is ∙ e)
-    by_test false e =
-        let k = count_by_more_no p rows i x (slice_get_within rows i x at) (ap p is ∙ e) in omega (arith, k)
 
 -- rows of which some pass and the others fail
 abbrev pub Fail : (Row → Bool) → List Row → ℕ → ℕ → Type 0

@@ -1,12 +1,13 @@
 //! Random changes and steps on one tree, beside a plain program that has no nodes.
 
+use crate::as_steps::{move_of, path_of, step_of};
 use crate::by_ways;
 use crate::by_ways::{BOUNDS, HIGH, Kept, LOW, Way};
 use crate::looks::{cost, has_ids};
 use crate::moves::{self, Move};
 use crate::rows::{apply_step, row_of, schema_of_four, take_row};
-use be_base::{AttrNo, Id, NoMemory};
-use be_model::{Conj, Hop, Op, Path, Pred, Row, Step, StepDone};
+use be_base::{AttrNo, NoMemory};
+use be_model::{Conj, Op, Path, Pred, Row, StepDone};
 use be_plan::plan;
 use be_shape::Tree;
 use std::alloc::Global;
@@ -104,80 +105,6 @@ impl Draws {
             4 => Move::Part(row.way, self.attr(5)),
             5 => Move::Half(row.way, [LOW, HIGH][self.place(2) % 2]),
             _ => Move::Shift(way, next, self.attr(5), row.id),
-        }
-    }
-}
-
-fn path_of(alloc: Global, way: Way) -> Result<Path, NoMemory> {
-    let mut path = Path::make(alloc);
-    for hop in way.hops {
-        if hop == 0 {
-            return Ok(path);
-        }
-        path.push(hop_of(hop))?;
-    }
-    Ok(path)
-}
-
-fn hop_of(hop: u8) -> Hop {
-    match hop {
-        LOW => Hop::Low,
-        HIGH => Hop::High,
-        _ => Hop::Part(AttrNo(hop.saturating_sub(1) as u16)),
-    }
-}
-
-fn way_of(path: &Path) -> Way {
-    let mut way = Way::root();
-    for hop in path.hops() {
-        way = way.below(match hop {
-            Hop::Low => LOW,
-            Hop::High => HIGH,
-            Hop::Part(a) => by_ways::part(attr_of(*a)),
-        });
-    }
-    way
-}
-
-fn attr_of(a: AttrNo) -> u8 {
-    if a.0 < 4 { a.0 as u8 } else { 4 }
-}
-
-fn step_of(alloc: Global, step: Move) -> Result<Step, NoMemory> {
-    Ok(match step {
-        Move::Part(way, attr) => Step::SplitPart {
-            path: path_of(alloc, way)?,
-            attr: AttrNo(attr as u16),
-        },
-        Move::Half(way, half) => Step::SplitHalf {
-            path: path_of(alloc, way)?,
-            half: hop_of(half),
-        },
-        Move::Merge(way) => Step::Merge {
-            path: path_of(alloc, way)?,
-        },
-        Move::Shift(way, from, to, id) => Step::Shift {
-            path: path_of(alloc, way)?,
-            from: AttrNo(from as u16),
-            to: AttrNo(to as u16),
-            id: Id(id),
-        },
-    })
-}
-
-fn move_of(step: &Step) -> Move {
-    match step {
-        Step::SplitPart { path, attr } => Move::Part(way_of(path), attr_of(*attr)),
-        Step::SplitHalf { path, half } => Move::Half(
-            way_of(path),
-            match half {
-                Hop::Low => LOW,
-                _ => HIGH,
-            },
-        ),
-        Step::Merge { path } => Move::Merge(way_of(path)),
-        Step::Shift { path, from, to, id } => {
-            Move::Shift(way_of(path), attr_of(*from), attr_of(*to), id.0)
         }
     }
 }

@@ -2,6 +2,8 @@
 #![tactic(auto)]
 
 #[cfg(test)]
+mod as_steps;
+#[cfg(test)]
 mod beside;
 #[cfg(test)]
 mod by_ways;
