@@ -41,14 +41,16 @@ class Box:
         return True
 
     def taking(self, order, way, text):
-        """The ways to take such a letter: of each sender the next one, where none before it must have come first."""
+        """The ways to take such a letter: of each sender one before which none must have come first. Equal letters may stand
+        there more than once, and of those that may have been dropped each is tried."""
         for sender in self.senders.get(text, ()):
             place = order.index(sender)
-            queue, at = self.queues[sender], way[place]
-            while at < len(queue) and queue[at].text != text and not queue[at].is_sure:
-                at += 1
-            if at < len(queue) and queue[at].text == text:
-                yield way[:place] + (at + 1,) + way[place + 1 :]
+            queue = self.queues[sender]
+            for at in range(way[place], len(queue)):
+                if queue[at].text == text:
+                    yield way[:place] + (at + 1,) + way[place + 1 :]
+                if queue[at].is_sure:
+                    break
 
     def is_empty(self, order, way, count):
         if self.session not in self.queues:
