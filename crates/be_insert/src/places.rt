@@ -48,8 +48,8 @@ fn better_part(
     }
 }
 
-/// The place of the part in which the row weighs most, the first on a tie, among those whose attribute it has: the part into
-/// which it would be put.
+/// The place of the part in which the row weighs most, the first on a tie, among those whose attribute it has. A row that no
+/// half takes goes there.
 pub fn best_part(parts: &[Part], s: &Schema, row: &Row) -> Option<usize>
     requires { row_lies s.now row.now ≡ true }
     ensures best { result ≡ option_map (λ b. b.0) (best_from s.now row.now 0 None (attrs_of (parts_as parts.now))) }

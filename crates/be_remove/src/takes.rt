@@ -117,7 +117,7 @@ fn take_from_half(
     Some(taken)
 }
 
-// The place of the part in which the row mostly stands: the one into which it would be put.
+// The place of the part in which the row mostly stands: the one in which it weighs most.
 fn likely_part(parts: &[Part], s: &Schema, row: &Row) -> usize
     requires lies { row_lies s.now row.now ≡ true }
     ensures { 0 < length parts.now → result < length parts.now }
@@ -212,7 +212,7 @@ pub fn take_below(n: &mut Node, s: &Schema, k: &Spot, row: &Row) -> Option<Arc<R
 }
 
 /// Takes the row out of the tree. A row counts as there only where all its fields are equal. It enters the parts whose attributes
-/// the row has, the one into which it would be put first, and the halves that enclose its span until it is found, and drops the
+/// the row has, the one in which it weighs most first, and the halves that enclose its span until it is found, and drops the
 /// nodes that are left without a row. It takes no memory.
 pub fn take(t: &mut Tree, row: &Row) -> Option<Arc<Row>>
     ensures there { IsSome result ↔ (row_at (id_of row.now) (contents (plain t.old.root)) ≡ Some row.now) }

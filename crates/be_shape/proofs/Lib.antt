@@ -28,3 +28,4 @@ pub mod Exchanges
 pub mod Replacements
 pub mod Reshaping
 pub mod SightHulls
+pub mod Depths

@@ -16,5 +16,6 @@ pub mod Steps
 pub mod Right
 pub mod Spots
 pub mod Less
+pub mod Depth
 pub mod Swaps
 pub mod Sights

@@ -22,11 +22,11 @@ pub record AreSmall (ends : ℤ × ℤ) : Type 0 where
   pub high_from : least ≤ℤ ends.1
   pub high_to : ends.1 ≤ℤ greatest
 
--- all ends that hold some of the values overlap these
+-- ends of 32 bits that hold some of the values overlap these
 abbrev pub IsHull : ℤ × ℤ → Option (List ℤ) → Type 0
 IsHull hull vs = (ends : ℤ × ℤ) → AreSmall ends → has_in ends vs ≡ true → overlaps ends hull ≡ true
 
--- by attribute, a hull of the event's values
+-- for each attribute below 64, a hull of the event's values
 abbrev pub TellHulls : List (ℤ × ℤ) → Assignments → Type 0
 TellHulls hulls e = (a : AttrNo) (d : ℤ × ℤ) → a.0 < SEEN → IsHull (get_or hulls a.0 d) (values_of e a)
 
@@ -36,7 +36,7 @@ pub record IsExact (hull : ℤ × ℤ) (vs : Option (List ℤ)) : Type 0 where
   pub none : hull.1 <ℤ hull.0 → vs ≡ None
   pub one : hull.0 ≡ hull.1 → least <ℤ hull.0 → hull.0 <ℤ greatest → vs ≡ Some (hull.0 ∷ [])
 
--- by attribute, such ends are true of the event's values
+-- for each attribute below 64, such ends are true of the event's values
 abbrev pub TellExactly : List (ℤ × ℤ) → Assignments → Type 0
 TellExactly hulls e = (a : AttrNo) (d : ℤ × ℤ) → a.0 < SEEN → IsExact (get_or hulls a.0 d) (values_of e a)
 

@@ -4,10 +4,14 @@ ghost use Rattle.std.specs.Prelude.{IsPermutation};
 ghost use Rattle.be_model.specs.ByIds.{Rising, rows_of};
 ghost use Rattle.be_shape.specs.Plain.{plain, rows_below, contents};
 ghost use Rattle.std.specs.Arc.{arc_value};
+ghost use Rattle.be_shape.specs.Depth.{PathsAreRanges, PathsAreShort};
 ghost use Rattle.be_shape.specs.Contents.{RowsAreFound, NewIdsAreNowhere};
 ghost use Rattle.be_shape.specs.NodeList.{HoldsAtNodes, PathsLead, NodesAreListed};
 
 use crate::trees::Tree;
+
+/// The nodes of the longest path that a tree can have: the root, and for each of 32 attributes its domain and 32 halves.
+pub const TREE_DEPTH: usize = 1057;
 
 /// Ids rise, so that each stands for one row.
 pub fn ids_rise(t: &Tree)
@@ -43,3 +47,12 @@ pub fn paths_lead(t: &Tree)
 pub fn nodes_are_listed(t: &Tree)
     ensures { NodesAreListed (arc_value t.now.schema) (plain t.now.root) }
 {}
+
+/// A path is no longer than the ranges of each row below its end, and so no tree is deeper than `TREE_DEPTH`.
+pub fn paths_are_short(t: &Tree)
+    ensures ranges { PathsAreRanges (arc_value t.now.schema) (plain t.now.root) }
+    ensures depth { PathsAreShort (plain t.now.root) }
+{
+    // The count shows the form of the schema.
+    let _ = t.schema.count();
+}

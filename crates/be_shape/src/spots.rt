@@ -1,6 +1,7 @@
 //! Where a node stands in its tree.
 
-ghost use Rattle.std.specs.Prelude.{◌≡◌, true, OnOk, OnErr, IfOk};
+ghost use Rattle.std.specs.Prelude.{◌≡◌, true, IsOk, OnOk, OnErr, IfOk};
+ghost use Rattle.be_model.specs.declared.paths.Hop.{Hop};
 ghost use Rattle.be_shape.specs.Shape.{nothing, known};
 ghost use Rattle.be_shape.specs.Ranges.{is_bounded, is_rising};
 ghost use Rattle.be_shape.specs.Children.{is_open, known_below};
@@ -33,11 +34,13 @@ impl Spot {
         }
     }
 
-    /// Goes down a step.
+    /// Goes down a step. A part takes memory for its attribute, and a half none.
     pub fn enter(&mut self, s: &Schema, hop: Hop) -> Result<(), NoMemory>
         requires { is_open hop (known_of self.old) ≡ true }
         ensures entered { OnOk result (known_of self.new ≡ known_below s.now hop (known_of self.old)) }
         ensures refused { OnErr result (known_of self.new ≡ known_of self.old) }
+        ensures low { hop ≡ Hop.Low → IsOk result }
+        ensures high { hop ≡ Hop.High → IsOk result }
     {
         match hop {
             Hop::Part(a) => {

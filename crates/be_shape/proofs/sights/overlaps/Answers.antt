@@ -1,6 +1,5 @@
-use Rattle.std.proofs.Common.{◌≡◌, pos, ◌-ℤ◌, ap, ◌∙◌, rules}
+use Rattle.std.proofs.Common.{◌≡◌, ◌-ℤ◌, rules}
 use Rattle.std.specs.Int.{int_min}
-use Rattle.std.specs.Int.Signed.{le_z}
 use Rattle.be_shape.proofs.SightHulls.{one_distance}
 use Rattle.be_shape.proofs.sights.overlaps.Goals as goal
 
