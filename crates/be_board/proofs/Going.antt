@@ -39,7 +39,3 @@ GoesOn-tended b b' t =
 -- a count that rose later has risen from before
 pub HasRisen-later : (before middle after : ℕ) → before ≤ middle → HasRisen middle after → HasRisen before after
 HasRisen-later before middle after more risen = omega (arith, more, risen)
-
--- and one that rose before has risen later
-pub HasRisen-before : (before middle after : ℕ) → HasRisen before middle → middle ≤ after → HasRisen before after
-HasRisen-before before middle after risen more = omega (arith, more, risen)

@@ -18,8 +18,7 @@ use Rattle.be_board.proofs.LocalLists.{none_opened}
 use Rattle.be_board.specs.declared.answers.Answer.{Answer}
 use Rattle.be_board.specs.declared.answers.Answer.TheVariants.{Done, Held, Dup, NoName, Other, Split, NoMemory}
 use Rattle.be_board.specs.Word.{Word, IsDelivered}
-use Rattle.be_board.proofs.Delivered.{delivered_along}
-use Rattle.be_board.specs.Letters.{IsLetterFor, note_of, Fetches}
+use Rattle.be_board.specs.Letters.{note_of, Fetches}
 use Rattle.be_board.specs.Changes.{Asked, AnswersAlone, CountsSplit}
 use Rattle.be_board.specs.LocalCopy.{local_word, IsAnswered}
 use Rattle.be_board.specs.Local.{Local, local_state, opened_state, IsLocalLetter}
@@ -105,14 +104,6 @@ pub fetches_view : {X : Type 0} (schema : X → Attributes) (v b b' : Local X) (
     → Fetches (local_state (schema b.index) b) (local_state (schema b'.index) b') (Some l)
 fetches_view {X} schema v b b' l is same t d =
     subst (λ (x : Local X). Fetches (local_state (schema x.index) x) (local_state (schema b'.index) b') (Some l)) is (fetches_local (schema v.index) (schema b'.index) v b' l same t d)
-
-letter_along : (s s' : Attributes) (h h' : List Entry) (l : PlainLetter) → s' ≡ s → BeginsWith h' h → IsLocalLetter s h l → IsLocalLetter s' h' l
-letter_along s s' h h' l same longer a =
-    record { fit = subst (λ (x : Attributes). IsLetterFor x 1 l) (sym same) a.fit; delivered = delivered_along h h' l longer a.delivered }
-
--- letters stay letters as the list grows
-pub letters_along : (s s' : Attributes) (h h' : List Entry) (ls : List PlainLetter) → s' ≡ s → BeginsWith h' h → All (IsLocalLetter s h) ls → All (IsLocalLetter s' h') ls
-letters_along s s' h h' ls same longer all = λ i l inside. letter_along s s' h h' _ same longer (all i l inside)
 
 note_local : (s : Attributes) (h : List Entry) (l : PlainLetter) → IsLocalLetter s h l → IsNoteFor 1 h (note_of l)
 note_local s h l a = record {

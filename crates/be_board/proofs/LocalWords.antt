@@ -128,15 +128,8 @@ pub answered_other : (h h' : List Entry) (name : Text) (m id : ℕ) → m ≡ le
 answered_other h h' name m id at same there =
     record { answers = (refused_at h h' m at same, subst (λ (l : List Entry). HasNameOfAnotherAt 1 (live l) id name) (sym same) there); alone = same }
 
--- memory was wanting
-pub answered_no_sub : (h h' : List Entry) (name : Text) (conj : List Pred) → h' ≡ h → IsAnswered h h' (subscribe name conj) NoMemory
-answered_no_sub h h' name conj same = record { answers = ap (placed_of 1) same; alone = same }
-
 pub answered_no_unsub : (h h' : List Entry) (name : Text) → h' ≡ h → is_live_name_of 1 name (live h) ≡ true → IsAnswered h h' (unsubscribe name) NoMemory
 answered_no_unsub h h' name same there = record { answers = ap (placed_of 1) same; alone = (same, there) }
-
-pub answered_no_quit : (h h' : List Entry) → h' ≡ h → IsAnswered h h' quit NoMemory
-answered_no_quit h h' same = record { answers = ap (placed_of 1) same; alone = same }
 
 -- the row of a name
 abbrev pub row_named : Text → ByIds → Option Row

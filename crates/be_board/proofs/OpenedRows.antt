@@ -1,8 +1,5 @@
 -- The rows of a table, one after another.
-use Rattle.std.proofs.Common.{◌≡◌, ℕ, ◌+◌, Bool, true, List, [], ◌∷◌, ◌++◌, length, sym, ap, ◌∙◌, subst, arith}
-use Rattle.std.specs.List.{list_all}
-use Rattle.std.proofs.lemmas.Bool.{and_parts}
-use Rattle.std.proofs.lemmas.List.Folds.{list_all-append}
+use Rattle.std.proofs.Common.{◌≡◌, ℕ, ◌+◌, List, [], ◌∷◌, ◌++◌, length, sym, ap, ◌∙◌, subst, arith}
 use Rattle.be_model.specs.declared.changes.Row.{Row}
 use Rattle.be_model.specs.ByIds.{SayIds}
 use Rattle.be_change.specs.History.{Entry, subscribed}
@@ -16,11 +13,6 @@ say_from n (x ∷ xs) rest row say = let later : row.id.0 ≡ (n + 1) + length x
 -- a row's id is the number of rows before it
 pub id_counts : (rows front rest : List Row) (row : Row) → rows ≡ front ++ row ∷ rest → IsTable rows → row.id.0 ≡ length front
 id_counts rows front rest row is t = omega (arith, say_from 0 front rest row (subst (λ (l : List Row). SayIds (by_place 0 l)) is t.ids))
-
-pub each_passes : {A : Type 0} (p : A → Bool) (xs front rest : List A) (x : A) → xs ≡ front ++ x ∷ rest → list_all p xs ≡ true → p x ≡ true
-each_passes {A} p xs front rest x is all =
-    let both = and_parts (list_all p front) (list_all p (x ∷ rest)) (sym (list_all-append p front (x ∷ rest)) ∙ (ap (list_all p) (sym is) ∙ all)) in
-    (and_parts (p x) (list_all p rest) both.1).0
 
 -- one more row
 pub opened_more : (rows : List Row) (row : Row) (h h' : List Entry) → h ≡ opening_of rows → h' ≡ h ++ subscribed 0 (length h) row ∷ [] → h' ≡ opening_of (rows ++ row ∷ [])

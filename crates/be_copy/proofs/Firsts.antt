@@ -139,9 +139,6 @@ looked_up r h m w id filed listed map found =
 pub lent_is : {X : Type 0} (f : X → Row) (o : Option X) (found : Option Row) (x : X) (row : Row) → o ≡ Some x → option_map f o ≡ found → found ≡ Some row → f x ≡ row
 lent_is f o found x row is e k = let both : Some (f x) ≡ Some row = sym (ap (option_map f) is) ∙ e ∙ k in cc
 
-pub not_lent : {X : Type 0} (f : X → Row) (o : Option X) (found : Option Row) (row : Row) → o ≡ None → option_map f o ≡ found → found ≡ Some row → ⊥
-not_lent f o found row is e k = let both : nothing ≡ Some row = sym (ap (option_map f) is) ∙ e ∙ k in absurd cc
-
 -- no wanted row is passed over
 pub none_passed : (r : Register) (m : ByIds) (w : Wanted) (from id : ℕ) → IsRegister r m → NoneBelow (wants w) from m → ((i : ℕ) → from ≤ i → i < id → is_found r w i ≡ false) → NoneBelow (wants w) id m
 none_passed r m w from id filed none skipped i row low at = step (nat_lt i from) refl

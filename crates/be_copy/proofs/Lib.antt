@@ -1,6 +1,7 @@
 pub mod Pairs
 pub mod Filed
 pub mod Firsts
+pub mod SoFar
 pub mod Kept
 mod InOrder
 mod TailChanges

@@ -4,6 +4,7 @@ ghost use Rattle.std.specs.Prelude.{◌≡◌, ◌<◌, ◌++◌, ◌∷◌, [],
 ghost use Rattle.std.specs.Arc.{arc_value};
 ghost use Rattle.std.specs.Option.{IfNone};
 ghost use Rattle.be_model.specs.declared.paths.StepDone.TheVariants.{Done, NotHere};
+ghost use Rattle.be_model.specs.ByIds.{session_rows};
 ghost use Rattle.be_model.specs.Rows.{id_of};
 ghost use Rattle.be_model.specs.Lies.{row_lies};
 ghost use Rattle.be_change.specs.Entries.{entry_of, HasIdAt};
@@ -14,13 +15,13 @@ ghost use Rattle.be_copy.specs.Edits.{fits, with_entry};
 ghost use Rattle.be_copy.specs.Registers.{IsKept, IsRegister};
 
 use crate::edits::Edit;
-use crate::live::{first, put_row, remove_wanted};
+use crate::live::{first, push_wanted, put_row, remove_wanted};
 use crate::register::Register;
 use crate::wanted::Wanted;
-use be_base::{Name, NoMemory};
+use be_base::{Name, NoMemory, SessionNo};
 use be_change::ChangeLog;
 use be_index::Index;
-use be_model::{Change, Row, StepDone};
+use be_model::{Change, Found, Row, StepDone};
 use std::alloc::Global;
 use std::marker::Model;
 use std::sync::Arc;
@@ -84,6 +85,24 @@ impl<I: Index> Copy2<I> {
         // That ids rise comes to light at the length of the list.
         let _ = self.log.len();
         first(&self.log, &self.index, &self.register, Wanted::Named(name))
+    }
+
+    /// Finds the session's live rows, by rising id. It looks at no others.
+    pub fn rows_of(&self, session: SessionNo, found: &mut Found) -> Result<(), NoMemory>
+        ensures found { OnOk result (found.new.rows ≡ session_rows session.0 (live self.now.list)) }
+        ensures none { OnErr result (found.new.rows ≡ []) }
+    {
+        // That ids rise comes to light at the length of the list.
+        let _ = self.log.len();
+        found.clear();
+        let wanted = Wanted::Of(session);
+        match push_wanted(&self.log, &self.index, &self.register, wanted, found) {
+            Ok(()) => Ok(()),
+            Err(NoMemory) => {
+                found.clear();
+                Err(NoMemory)
+            }
+        }
     }
 
     /// Takes in an edit. A subscription whose row doesn't lie in the schema, or whose id isn't the next place, changes nothing.

@@ -1,9 +1,9 @@
 //! The rows of an index, with a register of them: how rows come, are found, and go.
 
-ghost use Rattle.std.specs.Prelude.{◌≡◌, ◌<◌, true, false, not, filter, find, Some, option_map, IfSome, OnOk, OnErr};
+ghost use Rattle.std.specs.Prelude.{◌≡◌, ◌<◌, [], ◌∷◌, ◌++◌, if◌then◌else◌, true, false, not, filter, find, Some, option_map, IfSome, OnOk, OnErr};
 ghost use Rattle.std.specs.Arc.{arc_value};
 ghost use Rattle.be_base.specs.declared.limits.TheConstants.{LOG_CHANGES};
-ghost use Rattle.be_model.specs.ByIds.{put_by_id, without_id, has_id, row_at};
+ghost use Rattle.be_model.specs.ByIds.{put_by_id, without_id, has_id, row_at, rows_of};
 ghost use Rattle.be_model.specs.Lies.{row_lies};
 ghost use Rattle.be_model.specs.Rows.{id_of};
 ghost use Rattle.be_index.specs.Promise.{IsMap};
@@ -15,7 +15,7 @@ use crate::wanted::Wanted;
 use be_base::{Id, NoMemory};
 use be_change::ChangeLog;
 use be_index::Index;
-use be_model::Row;
+use be_model::{Found, Row};
 use std::sync::Arc;
 
 /// The wanted row of the lowest id.
@@ -42,6 +42,42 @@ pub fn first<'a, I: Index>(
         from = id + 1;
     }
     None
+}
+
+/// Appends the wanted rows by rising id, or some of them where memory is wanting. It looks at no rows but those that the register
+/// has under their session or their name.
+pub fn push_wanted<I: Index>(
+    log: &ChangeLog,
+    index: &I,
+    register: &Register,
+    wanted: Wanted<'_>,
+    found: &mut Found,
+) -> Result<(), NoMemory>
+    requires filed { IsRegister register.now (I.rows index.now) }
+    requires listed { AreOfList log.now.list (I.rows index.now) }
+    requires map { IsMap (I.rows index.now) }
+    ensures put { OnOk result (found.new.rows ≡ found.old.rows ++ rows_of (filter (wants wanted.entry) (I.rows index.now))) }
+{
+    let mut from = 0;
+    while let Some(id) = register.next(wanted, from) {
+        let Some(row) = log.row(Id(id)) else {
+            unreachable!();
+        };
+        push_if_wanted(row, wanted, found)?;
+        from = id + 1;
+    }
+    Ok(())
+}
+
+// Appends the row, where it is wanted.
+fn push_if_wanted(row: &Arc<Row>, wanted: Wanted<'_>, found: &mut Found) -> Result<(), NoMemory>
+    ensures { OnOk result (found.new.rows ≡ found.old.rows ++ (if wants wanted.entry (id_of (arc_value row.now), arc_value row.now) then arc_value row.now ∷ [] else [])) }
+{
+    if !wanted.takes(row) {
+        return Ok(());
+    }
+    found.reserve(1)?;
+    found.push_again(row)
 }
 
 /// Adds a row, or leaves all rows as they were.

@@ -2,15 +2,15 @@
 
 ghost use Rattle.std.specs.Prelude.{◌≡◌, ◌++◌, [], true, OnOk, OnErr, IfOk};
 ghost use Rattle.be_model.specs.Bounds.{IsWithinBound};
-ghost use Rattle.be_model.specs.ByIds.{rows_of, session_rows};
+ghost use Rattle.be_model.specs.ByIds.{rows_of};
 ghost use Rattle.be_model.specs.Lies.{event_lies};
 ghost use Rattle.be_change.specs.Entries.{entries_in};
-ghost use Rattle.be_change.specs.History.{live, hit_rows};
+ghost use Rattle.be_change.specs.History.{hit_rows};
 ghost use Rattle.be_change.specs.Walk.{live_rows, tail_from};
 
 use crate::copies::Copy2;
 use crate::tails::put_tail;
-use be_base::{NoMemory, SessionNo};
+use be_base::NoMemory;
 use be_index::Index;
 use be_model::{Change, Cost, Event, Found};
 use std::sync::Arc;
@@ -40,19 +40,6 @@ impl<I: Index> Copy2<I> {
         ensures bound { I.is_bounded self.now.index ≡ true → IsWithinBound (I.schema self.now.index) event.now (live_rows self.now.list) result }
     {
         self.index().cost(event)
-    }
-
-    /// Finds the session's live rows, by rising id.
-    pub fn rows_of(&self, session: SessionNo, found: &mut Found) -> Result<(), NoMemory>
-        ensures found { OnOk result (found.new.rows ≡ session_rows session.0 (live self.now.list)) }
-        ensures none { OnErr result (found.new.rows ≡ []) }
-    {
-        let index = self.index();
-        let _ = self.log().len();
-        found.clear();
-        index.rows_of(session, found)?;
-        found.order();
-        Ok(())
     }
 
     /// Finds all live rows, by rising id.

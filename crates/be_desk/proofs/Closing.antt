@@ -7,12 +7,12 @@ use Rattle.std.proofs.lemmas.List.Elements.{All-cons, All-contains, All-head, Al
 use Rattle.std.proofs.lemmas.Option.{slice_get-get_or, slice_get_within}
 use Rattle.atomic_table.specs.Seated.{TableId}
 use Rattle.be_base.specs.Lists.{BeginsWith}
-use Rattle.be_change.specs.History.{Entry, session_of, placed_from, IsWellFormed}
+use Rattle.be_change.specs.History.{Entry, session_of, placed_from}
 use Rattle.be_change.proofs.Extends.{get-append}
 use Rattle.be_mail.specs.Letters.{seat_of}
 use Rattle.be_mail.specs.Passes.{Passes}
-use Rattle.be_board.specs.Word.{own_of, IsDelivered, Keeps}
-use Rattle.be_desk.specs.Seats.{SeatState, word_of, IsKeptSeat, put_placed, placed_at, IsRecord, IsOfSeat}
+use Rattle.be_board.specs.Word.{own_of}
+use Rattle.be_desk.specs.Seats.{SeatState, put_placed, placed_at, IsRecord, IsOfSeat}
 use Rattle.be_desk.specs.Closing.{AreAllSeats, AreApart, KeepsRecord, AreRecorded, AreKept, IsListed, pairs_at, pair_of, merged, pairs_of, HasPlace, IsFirstPlace, entry_at, StrayState, Differ, IsStray, RisesFrom, IsBeside, IsKeptAt, AreKeptBelow, IsUnkeptAt}
 use Rattle.be_desk.proofs.Places.{In, in_any, any_in}
 
@@ -317,7 +317,3 @@ is_stray boxes h seats s apart besides le kept here end first listed change = re
   own = λ n e made is. made_own boxes h seats s.at n e besides (subst (IsFirstPlace s.at seats) made first) (ap (entry_at h) (sym made) ∙ (sym change ∙ is));
   differ = subst (λ (o : Option Entry). Differ s.at o s.made) (sym listed) (differ boxes h seats s.at s.made (slice_get h s.at) besides le refl here end first);
 }
-
--- a list that keeps the seat's record, and all else that the seat vouches for, keeps its word
-pub keeps_word : (boxes : List TableId) (h : List Entry) (s : SeatState) → IsKeptSeat boxes s → KeepsRecord boxes h s → IsWellFormed h → BeginsWith h s.glass.known → All (IsDelivered h) (word_of s).notes → Keeps h (word_of s)
-keeps_word boxes h s is keeps formed known notes = record { formed = formed; known = known; own = keeps s.session is.somebody is.seat_is; notes = notes }

@@ -1,12 +1,12 @@
 -- What may be drawn, and why nothing is.
-use Rattle.std.proofs.Common.{◌≡◌, ◌≢◌, ℕ, ◌<◌, ◌==◌, Bool, true, false, cond, List, length, Some, None, refl, sym, ap, ◌∙◌, subst, arith}
+use Rattle.std.proofs.Common.{◌≡◌, ◌≢◌, ℕ, ◌<◌, ◌==◌, Bool, true, false, cond, List, length, None, refl, sym, ◌∙◌, subst, arith}
 use Rattle.std.proofs.lemmas.Bool.{eq-eqb, eqb-true}
 use Rattle.be_base.specs.Text.{Text}
 use Rattle.be_base.specs.declared.limits.TheConstants.{COUNT_END}
 use Rattle.be_model.specs.declared.changes.Row.{Row}
 use Rattle.be_model.specs.Lies.{row_lies}
 use Rattle.be_model.specs.Schemas.{Attributes}
-use Rattle.be_change.specs.History.{Entry, subscribed, unsubscribed, left, entries_of, has_left, stand, live, is_of, is_live_name, is_live_name_of, MayFollow}
+use Rattle.be_change.specs.History.{Entry, subscribed, unsubscribed, left, entries_of, has_left, stand, live}
 use Rattle.be_change.specs.Sound.{MayAppend}
 use Rattle.be_change.specs.Walk.{HasNameAt, HasNameOfAnotherAt}
 use Rattle.be_change.proofs.Grows.{rising_live}
@@ -43,11 +43,6 @@ may_unsub s h k n name id owner some stood low there same =
       };
       lies = refl;
     }
-
-pub may_leave : (s : Attributes) (h : List Entry) (k n : ℕ) → 0 < k → stand k h ≡ n → n < COUNT_END → MayAppend s h (left k n)
-may_leave s h k n some stood low =
-    let p = present_at k n h stood low in
-    record { follows = record { opening = λ nobody. absurd (omega (arith, nobody, some)); serial = sym p.1; present = p.0; allowed = tt }; lies = refl }
 
 pub named_there : (h : List Entry) (name : Text) (id owner : ℕ) → IsNamed name (live h) id owner → HasNameAt (live h) id name
 named_there h name id owner there = subst (λ (i : ℕ). HasNameAt (live h) i name) there.2 (named_at name (live h) there.0 (rising_live h) there.1).1

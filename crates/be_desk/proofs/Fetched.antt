@@ -1,16 +1,16 @@
 -- Letters that were taken out of the seat's mailbox.
-use Rattle.std.proofs.Common.{◌≡◌, ◌≢◌, ℕ, ◌≤◌, ◌==◌, true, false, List, [], ◌∷◌, ◌++◌, map, Some, None, refl, sym, ap, ◌∙◌, subst, arith, append_assoc}
+use Rattle.std.proofs.Common.{◌≡◌, ◌≢◌, ℕ, ◌≤◌, ◌==◌, false, List, [], ◌∷◌, ◌++◌, map, Some, None, refl, sym, ap, ◌∙◌, subst, arith, append_assoc}
 use Rattle.std.specs.Prelude.{All}
-use Rattle.std.proofs.lemmas.Bool.{eqb-true, eq-eqb}
+use Rattle.std.proofs.lemmas.Bool.{eq-eqb}
 use Rattle.std.proofs.lemmas.List.{append-nil, map-append}
 use Rattle.std.proofs.lemmas.List.Elements.{All-nil, All-cons, All-head, All-tail, All-push}
 use Rattle.be_base.specs.Counts.{raised, last_count}
 use Rattle.be_base.proofs.Beginnings.{BeginsWith-same}
 use Rattle.be_model.specs.Letters.{PlainLetter}
 use Rattle.be_model.specs.Schemas.{Attributes}
-use Rattle.be_mail.specs.Letters.{Posting, posting, letter_in, IsFit}
+use Rattle.be_mail.specs.Letters.{Posting, posting, letter_in}
 use Rattle.be_mail.specs.Passes.{Passes, after_fetch, after_empty}
-use Rattle.be_board.specs.Letters.{IsLetterFor, Fetches}
+use Rattle.be_board.specs.Letters.{Fetches}
 use Rattle.be_desk.specs.Seats.{SeatState}
 use Rattle.be_desk.specs.Boards.{board_of, OnBoards}
 
@@ -19,13 +19,6 @@ pub record PassesOver (s s' : SeatState) : Type 0 where
   pub passed : List Posting
   pub seat : s' ≡ record s { passes = record s.passes { taken = s.passes.taken ++ passed } }
   pub others : All (λ (x : Posting). x.letter.session ≢ s.session) passed
-
-pub over_none : (s : SeatState) → PassesOver s s
-over_none s = record {
-  passed = [];
-  seat = ap (λ (l : List Posting). record s { passes = record s.passes { taken = l } }) (sym (append-nil s.passes.taken));
-  others = All-nil (λ (x : Posting). x.letter.session ≢ s.session);
-}
 
 pub over_more : (s s1 s2 : SeatState) (from : ℕ) (l : PlainLetter) → PassesOver s s1 → s2 ≡ record s1 { passes = s2.passes } → s2.passes ≡ after_fetch s1.passes (posting from l) → (l.session == s1.session) ≡ false → PassesOver s s2
 over_more s s1 s2 from l o seat passes other =
@@ -95,8 +88,3 @@ fetches_none schema s s1 s2 few o seat passes tends =
       fulls = refl;
       from = (refl, record { passed = map letter_in o.passed; taken = notes; others = others_of s.session o.passed o.others });
     })
-
-pub letter_for_session : (schema : Attributes) (s s1 : SeatState) (l : PlainLetter) → PassesOver s s1 → IsFit schema l → (l.session == s1.session) ≡ true → IsLetterFor schema s.session l
-letter_for_session schema s s1 l o fit mine =
-    let is : l.session ≡ s.session = eqb-true l.session s1.session mine ∙ ap (λ (x : SeatState). x.session) o.seat in
-    record { session = is; owner = fit.session ∙ is; satisfied = fit.satisfies; lies = fit.lies }

@@ -6,12 +6,12 @@ use Rattle.std.specs.Ordering.{nat_cmp}
 use Rattle.std.specs.List.Sorted.{IsBinarySearchResult}
 use Rattle.std.proofs.lemmas.Bool.{cases_order}
 use Rattle.std.proofs.lemmas.List.{get_or_default}
-use Rattle.std.proofs.lemmas.List.Elements.{All-cons, All-head, All-nil, All-tail, All-weaker, AllWithin-more, All-from_all_within}
+use Rattle.std.proofs.lemmas.List.Elements.{All-cons, All-head, All-nil, All-tail, All-weaker, AllWithin-more}
 use Rattle.std.proofs.lemmas.List.Sorted.{searched}
 use Rattle.std.proofs.lemmas.Option.{slice_get-get_or}
 use Rattle.be_change.specs.History.{Entry}
 use Rattle.be_desk.specs.Seats.{SeatState, put_placed, placed_at, IsRecord}
-use Rattle.be_desk.specs.Closing.{HasPlace, IsNextPlace, IsFirstPlace, least_of}
+use Rattle.be_desk.specs.Closing.{HasPlace, IsNextPlace, least_of}
 
 abbrev pub In : ℕ → List (ℕ × Entry) → Type 0
 In p [] = ⊥
@@ -150,7 +150,3 @@ first_more from seats i d (Some m) (Some n) lt so next = step (cases_order n m)
     step (inr (inl more)) = second (omega (arith, more))
     step (inl same) = first (omega (arith, same))
     step (inr (inr less)) = first (omega (arith, less))
-
-pub first_all : (from : ℕ) (seats : List SeatState) (i : ℕ) (a : Option ℕ) → i ≡ length seats → IsFirstSo from seats i a → IsFirstPlace from seats a
-first_all from seats i None end so = All-from_all_within (EachBelow from) seats (subst (λ (n : ℕ). AllWithin (EachBelow from) seats 0 n) end so)
-first_all from seats i (Some n) end so = (so.0, so.1, All-from_all_within (EachBehind from n) seats (subst (λ (m : ℕ). AllWithin (EachBehind from n) seats 0 m) end so.2))

@@ -1,5 +1,5 @@
 -- Records of accepted changes: places in a list, each with its entry.
-use Rattle.std.proofs.Common.{◌≡◌, ℕ, zero, suc, ◌+◌, ◌<◌, ◌≤◌, ◌==◌, Bool, true, false, ◌||◌, cond, List, [], ◌∷◌, ◌++◌, length, Option, Some, None, slice_get, get_or, max, refl, sym, ap, ◌∙◌, subst, arith, length-append}
+use Rattle.std.proofs.Common.{◌≡◌, ℕ, zero, suc, ◌+◌, ◌<◌, ◌≤◌, ◌==◌, Bool, true, false, ◌||◌, cond, List, [], ◌∷◌, ◌++◌, length, Option, Some, None, slice_get, get_or, refl, sym, ap, ◌∙◌, subst, arith, length-append}
 use Rattle.std.specs.List.{All, AllPairs, list_any}
 use Rattle.std.proofs.lemmas.Bool.{eq-eqb}
 use Rattle.std.proofs.lemmas.List.Folds.{list_any-append}
@@ -60,9 +60,6 @@ at_below : (m : ℕ) (ps : List ℕ) (k d : ℕ) → All (below m) ps → k < le
 at_below m [] k d low lt = absurd (omega (arith, lt))
 at_below m (p ∷ ps) zero d low lt = All-head (below m) p ps low
 at_below m (p ∷ ps) (suc k) d low lt = at_below m ps k d (All-tail (below m) p ps low) (omega (arith, lt))
-
-pub record_empty : IsRecord [] []
-record_empty = record { within = All-nil (below 0); rising = λ i j d lt within. absurd (omega (arith, within)); last = refl }
 
 pub record_grown : (made more : List Entry) (e : Entry) (ps : List ℕ) → IsRecord made ps → IsRecord ((made ++ more) ++ e ∷ []) (ps ++ length (made ++ more) ∷ [])
 record_grown made more e ps r =

@@ -72,18 +72,8 @@ stand_own h (unsubscribed k n name) m =
     counts k h (unsubscribed k n name) m.present refl (only (unsubscribed k n name) k true (own k)) ∙ ap (λ (i : ℕ). i + 1) (sym m.serial)
 stand_own h (left k n) m = ends k h (left k n) m.present (own k)
 
--- and where it stood before
-pub stand_before : (h : List Entry) (e : Entry) → MayFollow h e → stand (session_of e) h ≡ serial_of e
-stand_before h e m = ap (λ (b : Bool). stand_by b (entries_of (session_of e) h)) m.present ∙ sym m.serial
-
 pub serial_few : (h : List Entry) (e : Entry) → MayFollow h e → length h ≤ LOG_CHANGES → serial_of e < COUNT_END
 serial_few h e m few = omega (arith, m.serial, few_entries (session_of e) h)
-
--- an entry's session doesn't stand at 0
-pub after_some : (e : Entry) → 0 < stand_after e
-after_some (subscribed k n row) = omega arith
-after_some (unsubscribed k n name) = omega arith
-after_some (left k n) = omega arith
 
 at_number : (k q : ℕ) → is_at (nat_cmp k) q ≡ (k == q)
 at_number k q = grind (arith, nat_tests)

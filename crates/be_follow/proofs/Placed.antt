@@ -70,7 +70,3 @@ followed_on h h' e opening opening' stands room stands' f may put opens same own
       opens = opens ∙ ap (λ (b : Bool). b && is_opening e) f.opens ∙ sym (list_all-append is_opening h (e ∷ []) ∙ ap (λ (b : Bool). list_all is_opening h && b) (and_true (is_opening e)));
       stand = stands_on room stands' h e (λ k. same k ∙ f.stand k) may.present may.serial own others;
     })
-
--- nothing changed but the room for a number
-pub followed_still : (h h' : List Entry) (opening : Bool) (stands room : Stands) → IsFollowed h opening stands → h' ≡ h → ((k : ℕ) → stand_in room k ≡ stand_in stands k) → IsFollowed h' opening room
-followed_still h h' opening stands room f is same = subst (λ (l : List Entry). IsFollowed l opening room) (sym is) (record { formed = f.formed; opens = f.opens; stand = λ k. same k ∙ f.stand k })

@@ -27,7 +27,7 @@ use Rattle.be_session.specs.Steps.{Refused, RefusedOnce}
 use Rattle.be_session.specs.Turns.{TurnState, IsReading, TakesAlike, IsFirstLine, TookLine, TookBreak, new_reader, LinesGoOn}
 use Rattle.be_session.proofs.Serving.{texts-push, rises-along, lines_on_told, read_to_end, read_in_part, first_lines, within, spent}
 use Rattle.be_follow.specs.Asked.{asked, IsDue}
-use Rattle.be_follow.specs.Reads.{AreDue, Replied, ReachedQuit, BrokeOff, CutShort, ReadsEnd, Whole, InPart, Answers, quits_by, end_by, reading_over, AnswersLine, Turned, IsServing}
+use Rattle.be_follow.specs.Reads.{AreDue, Replied, ReachedQuit, BrokeOff, CutShort, ReadsEnd, Whole, InPart, Answers, end_by, reading_over, AnswersLine, Turned, IsServing}
 
 -- a line was read over a link, and answered over it
 pub line_turned : (s : Attributes) (h : List Entry) (before : TurnState) (reader : ReaderState) (read written : LinkState) (line : TextLine) (answer : Result Bool SinkFault) (end : Option SessionEnd)
@@ -142,10 +142,6 @@ went_on s h link before after g line took w t =
       reads = took.reads;
       lines_read = one.lines_read;
     }
-
-none_of_quit : (quits : Bool) → None ≡ quits_by quits → quits ≡ false
-none_of_quit true e = absurd cc
-none_of_quit false e = refl
 
 pub serves_on : (s : Attributes) (h : List Entry) (link : LinkState) (before after : TurnState) → IsServing s h link before → Turned s h before after None
     → TakesAlike before.reader.taken after.reader.taken before.link.source.taken after.link.source.taken → IsServing s h link after

@@ -1,5 +1,5 @@
 -- What a follower is after one more piece.
-use Rattle.std.proofs.Common.{◌≡◌, ℕ, ◌+◌, ◌-◌, ◌<◌, ◌≤◌, Bool, true, false, cond, List, [], ◌∷◌, ◌++◌, length, take, drop, min, nat_lt, Option, Some, None, is_some, IfSome, Ok, Err, refl, sym, ap, ◌∙◌, subst, arith, append_assoc}
+use Rattle.std.proofs.Common.{◌≡◌, ℕ, ◌+◌, ◌-◌, ◌<◌, ◌≤◌, Bool, true, false, cond, List, [], ◌∷◌, ◌++◌, length, take, drop, min, nat_lt, Option, Some, None, is_some, IfSome, refl, sym, ap, ◌∙◌, subst, arith, append_assoc}
 use Rattle.std.proofs.Math.Seq.{take-append-add, take-add}
 use Rattle.std.proofs.lemmas.Bool.Decides.{nat_tests}
 use Rattle.std.proofs.lemmas.List.{append-nil, take-append-le, take_min, take_all, take_rest, length-take-le}
@@ -8,11 +8,9 @@ use Rattle.be_base.specs.Tokens.{tokens}
 use Rattle.be_io.specs.Lines.{has_lf, closed_lines, open_line}
 use Rattle.be_io.specs.Reading.{IsFirstLf}
 use Rattle.be_model.specs.Schemas.{Attributes}
-use Rattle.be_change.specs.History.{Entry}
 use Rattle.be_follow.specs.declared.faults.FeedKind.{FeedKind}
-use Rattle.be_follow.specs.Feeds.{PlainSaid, faulty, said, said_of, Fed, none_fed, TakesLineAt, TakesLine, TakesLines, Means, after_line, Judges}
+use Rattle.be_follow.specs.Feeds.{PlainSaid, faulty, said, said_of, Fed, none_fed, TakesLineAt, TakesLine, TakesLines, Means, Judges}
 use Rattle.be_follow.specs.Followers.{FollowerState, kept_bytes, Follows}
-use Rattle.be_follow.specs.Placing.{judged, Accepts}
 use Rattle.be_follow.proofs.LinesOn.{closed_lines-on, part_closes, part_opens, lf_closes, lf_opens}
 
 -- lines, and then more of them
@@ -98,16 +96,6 @@ follows_lf bytes f g sound same took empty follows = record {
     line =
         subst (λ (o : Option FeedKind). TakesLineAt o f.schema f.fed (open_line bytes) g.fed) (sym sound)
         (judged_whole (subst (λ (o : Option FeedKind). TakesLineAt o f.schema f.fed f.rest g.fed) sound took))
-
--- a line that was accepted or refused was read
-pub ended_by : (s : Attributes) (f : Fed) (line : List ℕ) (after : List Entry) (fault : Option FeedKind) (lines : ℕ) → f.fault ≡ None → Accepts s f.list line after fault → lines ≡ (after_line f (judged after fault)).lines
-    → TakesLine s f line (record { list = after; lines = lines; fault = fault })
-ended_by s f line after None lines sound a count =
-    subst (λ (o : Option FeedKind). TakesLineAt o s f line (record { list = after; lines = lines; fault = None })) (sym sound)
-    (Ok after, a.0, ap (λ (n : ℕ). record { list = after; lines = n; fault = None }) count)
-ended_by s f line after (Some kind) lines sound a count =
-    subst (λ (o : Option FeedKind). TakesLineAt o s f line (record { list = after; lines = lines; fault = Some kind })) (sym sound)
-    (Err kind, a.0, ap (λ (n : ℕ). record { list = after; lines = n; fault = Some kind }) count ∙ ap (λ (l : List Entry). record { list = l; lines = (after_line f (Err kind)).lines; fault = Some kind }) a.1)
 
 -- the bytes before the first LF of a piece, and the LF
 pub to_first_lf : (piece : List ℕ) (place : ℕ) → IsFirstLf piece place → take (place + 1) piece ≡ take place piece ++ 10 ∷ []

@@ -1,7 +1,6 @@
 -- What was made of a door, from its listen on.
-use Rattle.std.proofs.Common.{◌≡◌, ℕ, ◌+◌, inl, inr, List, sum_by, Result, Err, sym, ap, ◌∙◌, subst, arith}
-use Rattle.be_base.specs.Counts.{raised, HasRisen, HasRisenBy}
-use Rattle.be_io.specs.declared.faults.ListenFault.{ListenFault}
+use Rattle.std.proofs.Common.{◌≡◌, ℕ, ◌+◌, inl, inr, List, sum_by, sym, ap, ◌∙◌, subst, arith}
+use Rattle.be_base.specs.Counts.{raised, HasRisenBy}
 use Rattle.be_io.specs.declared.faults.ListenFault.TheVariants as listen
 use Rattle.be_door.specs.Counts.{CountState, with_counts, all_kept}
 use Rattle.be_door.specs.Door.{DoorState, after_try, after_listen, after_settle}
@@ -9,7 +8,7 @@ use Rattle.be_door.specs.Sums.{no_sums}
 use Rattle.be_door.specs.declared.sums.Sums.{Sums}
 use Rattle.be_hub.specs.declared.close.CloseFault.{CloseFault}
 use Rattle.be_hub.specs.declared.close.CloseFault.TheVariants as close
-use Rattle.be_hub.specs.Serving.{served_door, IsTried, LeavesDoor, fault_of_listen, fault_of_close}
+use Rattle.be_hub.specs.Serving.{served_door, IsTried, LeavesDoor, fault_of_close}
 use Rattle.be_hub.specs.Settling.{MaySettle}
 use Rattle.be_hub.proofs.WereRead.{served_tried}
 
@@ -29,12 +28,6 @@ module _ {L : Type 0} (d d₁ d₂ : DoorState L) (port links workers : ℕ) whe
     read_faults = same_count d.read_faults d₁.read_faults (ap (λ (x : DoorState L). x.read_faults) is);
     write_faults = same_count d.write_faults d₁.write_faults (ap (λ (x : DoorState L). x.write_faults) is);
   }
-
-  pub leaves_listen : {X : Type 0} (r : Result X ListenFault) (f : ListenFault) → r ≡ Err f
-      → (r ≡ Err listen.Failed → HasRisen d.read_faults d₁.read_faults × (d₁ ≡ record (after_try d port) { read_faults = d₁.read_faults }))
-      → (r ≡ Err listen.NoMemory → d₁ ≡ after_try d port) → LeavesDoor d d₁ port links workers (fault_of_listen f)
-  leaves_listen r listen.Failed is failed none = failed is
-  leaves_listen r listen.NoMemory is failed none = tried (none is)
 
   module _ (is : d₁ ≡ after_listen d d₁.«open» port links workers) where
     pub listened : IsTried d d₁ port

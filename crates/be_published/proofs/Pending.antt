@@ -1,6 +1,5 @@
 -- What notes make of a copy's list, and of what is pending.
-use Rattle.std.proofs.Common.{◌≡◌, ℕ, ◌+◌, ◌<◌, ◌≤◌, Bool, true, false, cond, List, [], ◌∷◌, ◌++◌, length, refl, ap, sym, ◌∙◌, subst, arith, eq-eqb, length-append, fold, append_assoc, Result, Ok, Err}
-use Rattle.std.specs.Prelude.{MatchResult, OnOk}
+use Rattle.std.proofs.Common.{◌≡◌, ◌+◌, Bool, true, cond, List, [], ◌∷◌, ◌++◌, length, refl, ap, sym, ◌∙◌, subst, arith, eq-eqb, length-append, fold, append_assoc}
 use Rattle.std.proofs.lemmas.Bool.{and_from}
 use Rattle.std.proofs.lemmas.List.{append-nil}
 use Rattle.std.specs.Arc.{arc_value}
@@ -15,7 +14,7 @@ use Rattle.be_copy.specs.declared.edits.Edit.{Edit}
 use Rattle.be_copy.specs.declared.edits.Edit.TheVariants.{Change, Reshape}
 use Rattle.be_copy.specs.Edits.{fits, absorbed}
 use Rattle.be_model.specs.declared.paths.Step.{Step}
-use Rattle.be_published.specs.Notes.{Noted, Leads, Reshapes, edited, stepped, leads_to, EndsWith, noted, steps_in, ArePending, IsLoose}
+use Rattle.be_published.specs.Notes.{Noted, Leads, Reshapes, edited, stepped, leads_to, EndsWith, noted, steps_in, ArePending}
 
 -- the edit is a change
 abbrev pub IsChange : Edit → Type 0
@@ -99,47 +98,4 @@ append_kept here there front f f2 made steps steps' all mid late now n edit was 
       more
           ∙ (sym (stepped_in steps edit f)
           ∙ (ap (λ (l : List Step). l ++ steps_in (leads_to edit f ∷ [])) was.2 ∙ (append_assoc made (steps_in all) (steps_in (leads_to edit f ∷ [])) ∙ ap (λ (l : List Step). made ++ l) (sym ins)))),
-    )
-
--- one more step is loose
-pub more_loose : (b : Bool) (made steps : List Step) (step : Step) → IsLoose b made steps → IsLoose true made (steps ++ step ∷ [])
-more_loose b made steps step is = ((λ f. absurd cc), (λ t. omega (arith, few b is, length-append steps (step ∷ []))))
-  where
-    few : (c : Bool) → IsLoose c made steps → length made ≤ length steps
-    few true l = omega (arith, l.1 refl)
-    few false l = omega (arith, ap (λ (x : List Step). length x) (l.0 refl))
-
--- what was published is the whole then, or nothing changed
-pub published_whole : {A E : Type 0} (r : Result A E) (here at there front : List Entry) (made steps : List Step) (all mid late now : List Noted)
-    → ArePending here made all front steps → mid ++ late ≡ all → late ≡ [] → at ≡ here
-    → MatchResult r (λ _. (there ≡ fold noted at mid) × (now ≡ [])) (λ _. (there ≡ at) × (now ≡ mid))
-    → OnOk r (there ≡ front)
-published_whole (Ok x) here at there front made steps all mid late now was settled none same d =
-    let mids : mid ≡ all = sym (append-nil mid) ∙ (ap (λ (l : List Noted). mid ++ l) (sym none) ∙ settled) in
-    d.0 ∙ (ap (λ (a : List Entry). fold noted a mid) same ∙ (ap (fold noted here) mids ∙ was.0))
-published_whole (Err x) here at there front made steps all mid late now was settled none same d = tt
-
--- the steps that were published then
-abbrev pub made_then : {A E : Type 0} → Result A E → List Step → List Step → List Step
-made_then (Ok x) made steps = steps
-made_then (Err x) made steps = made
-
-pub publish_kept : {A E : Type 0} (r : Result A E) (here at there front : List Entry) (made steps : List Step) (all mid late now : List Noted)
-    → ArePending here made all front steps → mid ++ late ≡ all → late ≡ [] → at ≡ here
-    → MatchResult r (λ _. (there ≡ fold noted at mid) × (now ≡ [])) (λ _. (there ≡ at) × (now ≡ mid))
-    → ArePending there (made_then r made steps) (now ++ late) front steps
-publish_kept {A} {E} (Ok x) here at there front made steps all mid late now was settled none same d =
-    let r : Result A E = Ok x in
-    let whole : there ≡ front = published_whole r here at there front made steps all mid late now was settled none same d in
-    let gone : now ++ late ≡ [] = ap (λ (l : List Noted). l ++ late) d.1 ∙ none in (
-      ap (λ (l : List Noted). fold noted there l) gone ∙ whole,
-      subst (λ (l : List Entry). BeginsWith front l) (sym whole) (BeginsWith-same front),
-      sym (append-nil steps) ∙ ap (λ (l : List Noted). steps ++ steps_in l) (sym gone),
-    )
-publish_kept (Err x) here at there front made steps all mid late now was settled none same d =
-    let stays : there ≡ here = d.0 ∙ same in
-    let notes : now ++ late ≡ all = ap (λ (l : List Noted). l ++ late) d.1 ∙ settled in (
-      ap (λ (l : List Noted). fold noted there l) notes ∙ (ap (λ (l : List Entry). fold noted l all) stays ∙ was.0),
-      subst (λ (p : List Entry). BeginsWith front p) (sym stays) was.1,
-      was.2 ∙ ap (λ (l : List Noted). made ++ steps_in l) (sym notes),
     )

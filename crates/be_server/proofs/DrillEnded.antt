@@ -17,7 +17,6 @@ use Rattle.be_expr.specs.Changes.{change_text}
 use Rattle.be_io.specs.Shelf.{CountsFault, HoldsFile}
 use Rattle.be_io.specs.declared.faults.ShelfFault.{ShelfFault}
 use Rattle.be_io.specs.declared.faults.ShelfFault.TheVariants as shelf
-use Rattle.be_server.specs.Generated.{status_written}
 use Rattle.be_server.specs.Status.{status_of_shelf}
 use Rattle.be_change.specs.Opening.{opening_of}
 use Rattle.be_change.specs.History.{Entry}
@@ -33,7 +32,7 @@ use Rattle.be_server.specs.declared.status.Status.{Status}
 use Rattle.be_server.specs.declared.status.Status.TheVariants.{Done, NoMemory, ReadFault, LongFile, WriteFault, Shut}
 use Rattle.be_server.specs.Asked.{MayAsk, AsksInOrder}
 use Rattle.be_server.specs.Files.{ToldFile, FileReads, FileIsLong, IsSchemaOf, AreRowsOf}
-use Rattle.be_server.specs.Drills.{ToldFiles, AreScripts, Holds, FirstIsLong, LoadsScripts, LoadsDrill, under, headed, log_lines, drill_text, Printed, EndsAfter, SessionsEnd, RunsDrill}
+use Rattle.be_server.specs.Drills.{ToldFiles, AreScripts, FirstIsLong, LoadsScripts, LoadsDrill, under, headed, log_lines, drill_text, Printed, EndsAfter, SessionsEnd, RunsDrill}
 
 -- the sessions' files were refused, behind good ones
 pub scripts_refused : (files : ToldFiles) (f f' f'' : ℕ) (s : Attributes) (rows : List Row) (status : Status) → f' ≡ f → IsSchemaOf files.run.schema s → AreRowsOf s files.run.load rows → LoadsScripts files.scripts f' f'' (Err status)
@@ -116,14 +115,6 @@ script_read content front name script scripts are holds short =
     told_of None h = tt
     told_of (Some None) h = absurd h
     told_of (Some (Some bytes)) h = (subst (λ (x : List ℕ). length x ≤ FILE_BYTES) h short, sym h)
-
--- a fault of the output
-pub output_failed : (P : Result (Unit {0}) SinkFault → Type 0) (shuts : Bool) (fault : SinkFault) (status : Status) → P (Err fault) → status ≡ status_written (Err fault) → EndsAfter P shuts status
-output_failed P shuts fault status failed is = subst (EndsAfter P shuts) (sym is) (go fault failed)
-  where
-    go : (f : SinkFault) → P (Err f) → EndsAfter P shuts (status_written (Err f))
-    go sink.Failed p = p
-    go sink.NoMemory p = p
 
 -- how the sessions ended, by how the output ended
 pub sessions_ended : (Kept : Type 0) (P : Bool → Result (Unit {0}) SinkFault → Type 0) (Q : Result (Unit {0}) SinkFault → Type 0) (shuts : Bool) (status : Status)

@@ -1,6 +1,6 @@
 -- How `heat` ends: as `drill` does, with what the exchanges count behind its output.
-use Rattle.std.proofs.Common.{◌≡◌, inl, inr, ℕ, zero, suc, ◌+◌, Bool, true, false, List, [], ◌∷◌, ◌++◌, length, map, Some, slice_get, Result, Ok, Err, is_err, refl, sym, ap, ◌∙◌, subst, append_assoc, arith, codes}
-use Rattle.std.specs.Prelude.{All, OnOk, decimal}
+use Rattle.std.proofs.Common.{◌≡◌, inl, inr, ℕ, zero, suc, ◌+◌, Bool, true, false, List, [], ◌∷◌, ◌++◌, length, map, Some, slice_get, Result, Ok, Err, is_err, refl, sym, ap, ◌∙◌, subst, append_assoc, arith}
+use Rattle.std.specs.Prelude.{All, OnOk}
 use Rattle.std.specs.List.{flat_map, range_with_len}
 use Rattle.std.proofs.lemmas.Grind.{flat_map-append}
 use Rattle.std.proofs.lemmas.List.{append-nil, length-map}
@@ -25,7 +25,7 @@ use Rattle.be_transcript.specs.Readings.{reading}
 use Rattle.be_transcript.specs.Transcript.{AnswersEach, requests}
 use Rattle.be_server.specs.declared.status.Status.{Status}
 use Rattle.be_server.specs.Drills.{EndsAfter, headed, log_text}
-use Rattle.be_server.specs.Heats.{IsTranscriptOf, AreServedBy, asked_line, asked_lines, demand_text, heat_text, PrintedHeat, RunsHeat}
+use Rattle.be_server.specs.Heats.{IsTranscriptOf, AreServedBy, asked_line, demand_text, heat_text, PrintedHeat, RunsHeat}
 use Rattle.be_server.proofs.DrillEnded.{sessions_ended}
 
 -- the requests that were answered are those of the first lines
@@ -63,10 +63,6 @@ module _ (s : Attributes) (z : ℕ) (h : List Entry) (shuts : Bool) (names : nam
     pub each : (i : ℕ) (file transcript : List ℕ) (ps : List Exchange) → slice_get files i ≡ Some file → slice_get transcripts i ≡ Some transcript → slice_get sessions i ≡ Some ps
         → IsTranscriptOf s (number i) z h shuts file transcript ps
     pub over : AreOver s files transcripts sessions
-
-  EachServed : (ℕ → ℕ) → List Text → List Text → Type 0
-  EachServed number files transcripts =
-      (i : ℕ) (file transcript : List ℕ) → slice_get files i ≡ Some file → slice_get transcripts i ≡ Some transcript → IsTranscript s (number i) z h shuts file transcript
 
   pub opened : (number : ℕ → ℕ) (files transcripts : List Text) → length transcripts ≡ length files
       → ((i : ℕ) (file transcript : List ℕ) → slice_get files i ≡ Some file → slice_get transcripts i ≡ Some transcript → IsTranscript s (number i) z h shuts file transcript)
@@ -124,15 +120,6 @@ asked_more s d first text text' place was is =
     is ∙ (ap (λ (x : Text). x ++ asked_line s d place) was ∙ (append_assoc first (flat_map (asked_line s d) (range_with_len 0 place)) (asked_line s d place)
     ∙ ap (λ (x : Text). first ++ x) (ap (λ (x : Text). flat_map (asked_line s d) (range_with_len 0 place) ++ x) (sym (append-nil (asked_line s d place)) ∙ ap (λ (n : ℕ). flat_map (asked_line s d) (n ∷ [])) here)
     ∙ (sym (flat_map-append (asked_line s d) (range_with_len 0 place) ((0 + place) ∷ [])) ∙ ap (flat_map (asked_line s d)) (sym (range_more 0 place))))))
-
--- all lines, under the number of HITs
-pub demand_written : (s : Attributes) (d : DemandState) (old a b first text : Text) (place : ℕ) → a ≡ old ++ codes "== HEAT " → b ≡ a ++ decimal d.hits → first ≡ b ++ 10 ∷ [] → place ≡ length s
-    → text ≡ first ++ flat_map (asked_line s d) (range_with_len 0 place) → text ≡ old ++ demand_text s d
-demand_written s d old a b first text place is_a is_b is_first whole is =
-    is ∙ (ap (λ (n : ℕ). first ++ flat_map (asked_line s d) (range_with_len 0 n)) whole
-    ∙ (ap (λ (x : Text). x ++ asked_lines s d) (is_first ∙ ap (λ (x : Text). x ++ 10 ∷ []) (is_b ∙ ap (λ (x : Text). x ++ decimal d.hits) is_a))
-    ∙ (append_assoc ((old ++ codes "== HEAT ") ++ decimal d.hits) (10 ∷ []) (asked_lines s d)
-    ∙ (append_assoc (old ++ codes "== HEAT ") (decimal d.hits) (10 ∷ asked_lines s d) ∙ append_assoc old (codes "== HEAT ") (decimal d.hits ++ 10 ∷ asked_lines s d)))))
 
 -- what holds of each of some files holds of each of their copies
 module _ {X Y : Type 0} (f : X → Y) where

@@ -7,7 +7,6 @@ use Rattle.be_door.specs.Door.{DoorState, after_try}
 use Rattle.be_door.specs.declared.sums.Sums.{Sums}
 use Rattle.be_hub.specs.Serving.{LinksAreServed, WereRead, served_door}
 use Rattle.be_hub.proofs.WereRead.{were_read, served_tried}
-use Rattle.be_hub.specs.declared.serving.ServeFault.{ServeFault}
 use Rattle.be_hub.specs.declared.serving.ServeFault.TheVariants as fault
 use Rattle.be_io.specs.Counts.{HasRisen}
 use Rattle.be_io.specs.Outside.{LinkState}
@@ -17,60 +16,9 @@ use Rattle.be_model.specs.declared.changes.Row.{Row}
 use Rattle.be_model.specs.Schemas.{Attributes}
 use Rattle.be_server.specs.declared.status.Status.{Status}
 use Rattle.be_server.specs.declared.status.Status.TheVariants.{Done, Words, SchemaBad, LoadBad, FeedBad, NoMemory, ReadFault, LongFile, WriteFault, Spent, Split, Stray, Shut}
-use Rattle.be_server.specs.Files.{RunFiles, IsSchemaOf, AreRowsOf, LoadsRun}
-use Rattle.be_server.specs.Serves.{Logs, Served, RunsServe, RanServe, ServeEnds, FailsAt, serve_text, AreQuiet, EndsServe}
-use Rattle.be_server.specs.Status.{status_of_serve}
+use Rattle.be_server.specs.Serves.{Logs, Served, RunsServe, serve_text, AreQuiet, EndsServe}
 
 module _ {L : Type 0} (told : L → LinkState) (Kept : Type 0) (port seats links : ℕ) (door door' : DoorState L) (before after : SinkState) where
-  -- the files were refused
-  pub serve_refused : (files : RunFiles) (shelf shelf' : ℕ) (status : Status) → Kept → door' ≡ door → LoadsRun files shelf shelf' (Err status) → ServeEnds told Kept files port seats links shelf shelf' door door' before after status
-  serve_refused files shelf shelf' ReadFault k same l = inl (l, k, same)
-  serve_refused files shelf shelf' LongFile k same l = (l.0, k, same, l.1)
-  serve_refused files shelf shelf' NoMemory k same l = (l, inl (k, same))
-  serve_refused files shelf shelf' (SchemaBad line kind) k same l = (l.0, k, same, l.1)
-  serve_refused files shelf shelf' (LoadBad line kind) k same l = (l.0, k, same, l.1)
-  serve_refused files shelf shelf' (FeedBad line kind) k same l = absurd l
-  serve_refused files shelf shelf' Done k same l = absurd l
-  serve_refused files shelf shelf' Words k same l = absurd l
-  serve_refused files shelf shelf' WriteFault k same l = absurd l
-  serve_refused files shelf shelf' Spent k same l = absurd l
-  serve_refused files shelf shelf' (Split rift) k same l = absurd l
-  serve_refused files shelf shelf' (Stray stray) k same l = absurd l
-  serve_refused files shelf shelf' (Shut shade) k same l = absurd l
-
-  -- the files are good, and the sessions ended so
-  pub serve_ran : (files : RunFiles) (shelf shelf' : ℕ) (s : Attributes) (rows : List Row) (status : Status) → shelf' ≡ shelf → IsSchemaOf files.schema s → AreRowsOf s files.load rows
-      → RunsServe told Kept s rows port seats links door door' before after status → ServeEnds told Kept files port seats links shelf shelf' door door' before after status
-  serve_ran files shelf shelf' s rows status quiet is are runs = go status runs
-    where
-      ran : (x : Status) → RunsServe told Kept s rows port seats links door door' before after x → RanServe told Kept files port seats links door door' before after x
-      ran x r = record { schema = s; rows = rows; is_schema = is; are_rows = are; runs = r }
-
-      go : (x : Status) → RunsServe told Kept s rows port seats links door door' before after x → ServeEnds told Kept files port seats links shelf shelf' door door' before after x
-      go Done r = (quiet, ran Done r)
-      go (Shut shade) r = (quiet, ran (Shut shade) r)
-      go Spent r = (quiet, ran Spent r)
-      go WriteFault r = (quiet, ran WriteFault r)
-      go ReadFault r = inr (quiet, ran ReadFault r)
-      go NoMemory r = (quiet, inr (ran NoMemory r))
-      go (Split rift) r = (quiet, ran (Split rift) r)
-      go (Stray stray) r = (quiet, ran (Stray stray) r)
-      go Words r = absurd r
-      go (SchemaBad line kind) r = absurd r
-      go (LoadBad line kind) r = absurd r
-      go (FeedBad line kind) r = absurd r
-      go LongFile r = absurd r
-
-  -- no list was given
-  pub serve_failed : (s : Attributes) (rows : List Row) (f : ServeFault) (status : Status) → Kept → status ≡ status_of_serve f → FailsAt door door' port links seats f → RunsServe told Kept s rows port seats links door door' before after status
-  serve_failed s rows f status k is fails = subst (RunsServe told Kept s rows port seats links door door' before after) (sym is) (go f fails)
-    where
-      go : (x : ServeFault) → FailsAt door door' port links seats x → RunsServe told Kept s rows port seats links door door' before after (status_of_serve x)
-      go fault.Failed x = inl (k, x.0, x.1)
-      go fault.NoMemory x = inl (k, x)
-      go (fault.Split rift) x = (k, x.0, x.1)
-      go (fault.Stray stray) x = (k, x.0, x.1)
-
   -- the list was given, and printed so
   pub serve_printed : (s : Attributes) (rows : List Row) (list : List Entry) (sums : Sums) (shuts : Bool) (status : Status) → LinksAreServed told s (opening_of rows) list shuts links sums door'.keeps door'.kept
       → door' ≡ served_door door port links seats sums door'.kept → (Kept × (status ≡ NoMemory)) ⊎ Logs s list sums shuts before after status

@@ -1,5 +1,5 @@
 -- A board that is asked to leave again, and what a silent leave makes of a session.
-use Rattle.std.proofs.Common.{◌≡◌, ℕ, ◌-◌, ◌≤◌, false, List, [], ◌∷◌, ◌++◌, length, Some, refl, sym, ap, ◌∙◌, subst, arith}
+use Rattle.std.proofs.Common.{◌≡◌, ℕ, ◌-◌, ◌≤◌, List, [], ◌∷◌, ◌++◌, length, Some, refl, sym, ap, ◌∙◌, subst, arith}
 use Rattle.be_base.proofs.Beginnings.{BeginsWith-length}
 use Rattle.be_change.specs.History.{Entry}
 use Rattle.be_change.specs.Made.{change_named}
@@ -8,11 +8,10 @@ use Rattle.be_change.specs.Walk.{IsChangeOf}
 use Rattle.be_board.specs.declared.answers.Answer.{Answer}
 use Rattle.be_board.specs.declared.answers.Answer.TheVariants.{Done, Held, Dup, NoName, Other, Split, NoMemory}
 use Rattle.be_board.specs.Changes.{Accepts, Answers, AnswersAlone, Asked, CountsSplit}
-use Rattle.be_board.specs.State.{BoardState, GoesOn, is_gone}
+use Rattle.be_board.specs.State.{BoardState, GoesOn}
 use Rattle.be_board.specs.Word.{Word, own_in, top}
-use Rattle.be_board.proofs.Going.{GoesOn-along, HasRisen-later}
+use Rattle.be_board.proofs.Going.{GoesOn-along}
 use Rattle.be_session.proofs.BearsOut.{own_same}
-use Rattle.be_session.proofs.Quiet.{gone_same}
 
 -- an answer from an earlier word on, from which nothing was accepted
 accepts_from : (b c : BoardState) (w : Word) (n : ℕ) → GoesOn b c → c.word.own ≡ b.word.own → (a : Accepts c.word w quit n) → (x : Accepts b.word w quit n) × (x.entry ≡ a.entry)
@@ -62,6 +61,3 @@ asked_again b c d answer p q = record {
   split = subst (λ k. CountsSplit answer k d.counts.splits) p.split q.split;
   alone = λ alone. alone_from b c d.word answer p.goes p.answers (p.alone alone) q.answers (q.alone (p.goes.alone ∙ alone));
 }
-
-pub present_after : (b c : BoardState) → Asked b c quit NoMemory → is_gone b ≡ false → is_gone c ≡ false
-present_after b c p gone = gone_same b.word c.word p.goes.session p.answers ∙ gone

@@ -1,5 +1,5 @@
 -- What a call of the reader of lines means for a turn, and what a reply that was written does.
-use Rattle.std.proofs.Common.{◌≡◌, inl, inr, ℕ, ◌+◌, ◌<◌, ◌≤◌, Bool, true, false, cond, List, [], ◌∷◌, ◌++◌, length, take, drop, Option, Some, None, Result, Ok, Err, OnOk, IfErr, refl, sym, ap, ◌∙◌, subst, arith, nat_lt, length-drop}
+use Rattle.std.proofs.Common.{◌≡◌, inl, inr, ℕ, ◌+◌, ◌<◌, ◌≤◌, Bool, true, false, List, [], ◌∷◌, ◌++◌, length, take, drop, Option, Some, None, Result, Ok, Err, OnOk, IfErr, refl, sym, ap, ◌∙◌, subst, arith, nat_lt, length-drop}
 use Rattle.std.proofs.lemmas.Bool.Decides.{nat_tests}
 use Rattle.std.proofs.lemmas.List.{take-append-drop}
 use Rattle.be_base.specs.declared.limits.TheConstants.{LINE_BYTES}
@@ -223,13 +223,6 @@ turned_line s before after line (After e) took t = (line, took, t)
 pub was_going : (ended : Bool) (line : Line) → (line ≡ End → ⊥) → (ended ≡ true → line ≡ End) → ended ≡ false
 was_going false line other at_end = refl
 was_going true line other at_end = absurd (other (at_end refl))
-
--- a reply that tells no two numbers ends the session only at a QUIT
-pub short_end_other : (quits : Bool) (short : Short) → ((i j : ℕ) → short ≡ Split i j → ⊥) → short_end quits short ≡ cond quits (Some ends.Quit) None
-short_end_other true (Split i j) other = absurd (other i j refl)
-short_end_other false (Split i j) other = absurd (other i j refl)
-short_end_other true _ other = refl
-short_end_other false _ other = refl
 
 -- a short reply gives no letters, and ends the session so
 no_letters : (short : Short) → letters_of (plain_reply short) ≡ []

@@ -1,8 +1,8 @@
 -- Where all changes lie in a schema, so do the live rows, and each part of the list.
-use Rattle.std.proofs.Common.{◌≡◌, ℕ, ◌+◌, ◌<◌, Bool, true, false, not, ◌&&◌, List, [], ◌∷◌, length, take, drop, refl, sym, ap, ◌∙◌, arith}
+use Rattle.std.proofs.Common.{◌≡◌, ℕ, ◌+◌, Bool, true, false, not, ◌&&◌, List, [], ◌∷◌, take, drop, refl, sym, ap, ◌∙◌}
 use Rattle.std.specs.Prelude.{All}
 use Rattle.std.specs.List.{list_all}
-use Rattle.std.proofs.lemmas.List.{take-append-drop, length-take, length-drop}
+use Rattle.std.proofs.lemmas.List.{take-append-drop}
 use Rattle.std.proofs.lemmas.List.Folds.{list_all-append, list_all-map}
 use Rattle.std.proofs.lemmas.List.Sums.{AllPass-from_list_all}
 use Rattle.be_model.specs.declared.changes.Row.{Row}
@@ -41,8 +41,3 @@ front_lies s n h lies =
 -- the changes from a place on
 pub tail_lies : (s : Attributes) (place max : ℕ) (h : List Entry) → all_lie s h ≡ true → all_lie s (tail_from place max h) ≡ true
 tail_lies s place max h lies = (front_lies s max (drop place h) (front_lies s place h lies).1).0
-
--- where there are some, the last one's place is within the list
-pub tail_within : (place max n limit : ℕ) (h : List Entry) → n ≡ length h → n < limit → place < limit → place + length (tail_from place max h) < limit
-tail_within place max n limit h whole fits inside =
-    omega (arith, length-take max (drop place h), length-drop place h, whole, fits, inside)
