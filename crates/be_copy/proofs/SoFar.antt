@@ -1,5 +1,5 @@
 -- The wanted rows so far: those whose ids are below one.
-use Rattle.std.proofs.Common.{◌≡◌, ℕ, ◌+◌, ◌≤◌, ◌<◌, ◌==◌, Bool, true, false, cond, ◌&&◌, List, [], ◌∷◌, ◌++◌, append_assoc, filter, Some, nat_lt, ◌^◌, refl, sym, ap, ◌∙◌, arith}
+use Rattle.std.proofs.Common.{◌≡◌, ℕ, ◌+◌, ◌≤◌, ◌<◌, ◌==◌, Bool, true, false, cond, ◌&&◌, List, [], ◌∷◌, ◌++◌, append_assoc, filter, length, Some, nat_lt, ◌^◌, refl, sym, ap, ◌∙◌, arith}
 use Rattle.std.proofs.lemmas.List.{map-append}
 use Rattle.std.proofs.lemmas.Bool.{eqb-true, ltb-true, ltb-false, lt-ltb, le-ltb}
 use Rattle.be_base.specs.declared.limits.TheConstants.{LOG_CHANGES}
@@ -108,3 +108,21 @@ lent_joins r h m w from id lent before so_far after filed map low skipped at is 
     let one : cond (p (id_of lent, lent)) (lent ∷ []) [] ≡ rows_of c = ap (λ b. cond b (lent ∷ []) []) here ∙ ap (λ (x : Row). cond (p (id, at.row)) (x ∷ []) []) is ∙ of_one (p (id, at.row)) id at.row in
     let all : rows_of (those_below p (id + 1) m) ≡ rows_of (those_below p from m) ++ rows_of c = ap rows_of (next_joins p m from id at.row map.rising low at.there (none_skipped r m w from id filed skipped)) ∙ map-append (λ (x : ℕ × Row). x.1) (those_below p from m) c in
     e ∙ ap (λ l. l ++ cond (p (id_of lent, lent)) (lent ∷ []) []) so ∙ ap (λ l. before ++ rows_of (those_below p from m) ++ l) one ∙ append_assoc before (rows_of (those_below p from m)) (rows_of c) ∙ ap (λ l. before ++ l) (sym all)
+
+-- a row that passes is one of those that pass
+pub some_passes : (p : ℕ × Row → Bool) (m : ByIds) (id : ℕ) (row : Row) → row_at id m ≡ Some row → p (id, row) ≡ true → 0 < length (filter p m)
+some_passes p [] id row there ok = absurd cc
+some_passes p (x ∷ xs) id row there ok = by_id (x.0 == id) refl there (λ e. some_passes p xs id row e ok)
+  where
+    longer : (b : Bool) → 0 < length (filter p xs) → 0 < length (cond b (x ∷ filter p xs) (filter p xs))
+    longer true h = omega arith
+    longer false h = h
+
+    by_id : (b : Bool) → (x.0 == id) ≡ b → cond b (Some x.1) (row_at id xs) ≡ Some row → (row_at id xs ≡ Some row → 0 < length (filter p xs)) → 0 < length (cond (p x) (x ∷ filter p xs) (filter p xs))
+    by_id true is e more =
+        let same : x.1 ≡ row = cc in
+        let pair : x ≡ (id, row) = ap (λ (i : ℕ). (i, x.1)) (eqb-true x.0 id is) ∙ ap (λ (r : Row). (id, r)) same in
+        let here : p x ≡ true = ap p pair ∙ ok in
+        let one : 0 < length (x ∷ filter p xs) = omega arith in
+        omega (arith, one, ap (λ b. length (cond b (x ∷ filter p xs) (filter p xs))) here)
+    by_id false is e more = longer (p x) (more e)

@@ -23,6 +23,11 @@ abbrev pub is_taken : Attributes → List Entry → Edit → Bool
 is_taken s h (Change c) = fits s h (entry_of (arc_value c))
 is_taken s h (Reshape step) = false
 
+-- the edit is a change that isn't to be appended
+abbrev pub IsMisfit : Attributes → List Entry → Edit → Type 0
+IsMisfit s h (Change c) = fits s h (entry_of (arc_value c)) ≡ false
+IsMisfit s h (Reshape step) = ⊥
+
 -- the list after an entry, which is appended where it fits
 abbrev pub with_entry : Attributes → List Entry → Entry → List Entry
 with_entry s h e = if fits s h e then h ++ e ∷ [] else h

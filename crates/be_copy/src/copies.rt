@@ -5,7 +5,7 @@ ghost use Rattle.std.specs.Arc.{arc_value};
 ghost use Rattle.std.specs.Option.{IfNone};
 ghost use Rattle.be_model.specs.declared.paths.StepDone.TheVariants.{Done, NotHere};
 ghost use Rattle.be_model.specs.ByIds.{session_rows};
-ghost use Rattle.be_model.specs.Rows.{id_of};
+ghost use Rattle.be_model.specs.Rows.{id_of, KeepsRoom};
 ghost use Rattle.be_model.specs.Lies.{row_lies};
 ghost use Rattle.be_change.specs.Entries.{entry_of, HasIdAt};
 ghost use Rattle.be_change.specs.History.{live, after_entry, has_name, is_live_name};
@@ -15,7 +15,7 @@ ghost use Rattle.be_copy.specs.Edits.{fits, with_entry};
 ghost use Rattle.be_copy.specs.Registers.{IsKept, IsRegister};
 
 use crate::edits::Edit;
-use crate::live::{first, push_wanted, put_row, remove_wanted};
+use crate::live::{append_wanted, first, put_row, remove_wanted};
 use crate::register::Register;
 use crate::wanted::Wanted;
 use be_base::{Name, NoMemory, SessionNo};
@@ -47,7 +47,7 @@ impl<I: Index> Model for Copy2<I> {
 }
 
 impl<I: Index> Copy2<I> {
-    ghost use Rattle.be_copy.specs.Edits.{AnswersEdit, is_taken, absorbed};
+    ghost use Rattle.be_copy.specs.Edits.{AnswersEdit, IsMisfit, is_taken, absorbed};
 
     /// A copy of no changes. It takes no memory.
     pub fn make(alloc: Global, index: I) -> Copy2<I>
@@ -87,16 +87,20 @@ impl<I: Index> Copy2<I> {
         first(&self.log, &self.index, &self.register, Wanted::Named(name))
     }
 
-    /// Finds the session's live rows, by rising id. It looks at no others.
+    /// Finds the session's live rows, by rising id, and drops what was found before. The register knows where they stand, so that no
+    /// others are looked at.
     pub fn rows_of(&self, session: SessionNo, found: &mut Found) -> Result<(), NoMemory>
         ensures found { OnOk result (found.new.rows ≡ session_rows session.0 (live self.now.list)) }
         ensures none { OnErr result (found.new.rows ≡ []) }
+        // It is refused only where there is something to find.
+        ensures some { OnErr result (0 < length (session_rows session.0 (live self.now.list))) }
+        ensures room { KeepsRoom found.old found.new }
     {
         // That ids rise comes to light at the length of the list.
         let _ = self.log.len();
         found.clear();
         let wanted = Wanted::Of(session);
-        match push_wanted(&self.log, &self.index, &self.register, wanted, found) {
+        match append_wanted(&self.log, &self.index, &self.register, wanted, found) {
             Ok(()) => Ok(()),
             Err(NoMemory) => {
                 found.clear();
@@ -110,8 +114,9 @@ impl<I: Index> Copy2<I> {
         ensures answer { IfOk result (λ done. AnswersEdit (I.schema self.old.index) self.old.list (I.can_step self.old.index) (λ step. I.is_made step self.old.index self.new.index) (I.is_unchanged self.old.index self.new.index) edit.now done) }
         ensures list { OnOk result (self.new.list ≡ absorbed (I.schema self.old.index) self.old.list edit.now) }
         ensures refused { OnErr result (self.new.list ≡ self.old.list) }
-        // Only what is appended takes memory.
+        // Only what is to be appended may be refused.
         ensures some { OnErr result (is_taken (I.schema self.old.index) self.old.list edit.now ≡ true) }
+        ensures misfit { IsMisfit (I.schema self.old.index) self.old.list edit.now → self.new ≡ self.old }
         ensures rows { I.rows self.new.index ≡ live self.new.list }
         ensures schema { I.schema self.new.index ≡ I.schema self.old.index }
         ensures bounded { I.is_bounded self.new.index ≡ I.is_bounded self.old.index }
@@ -138,6 +143,7 @@ fn take_in<I: Index>(
     ensures list { OnOk result (log.new.list ≡ with_entry (I.schema index.old) log.old.list (entry_of (arc_value change.now))) }
     ensures refused { OnErr result (log.new.list ≡ log.old.list) }
     ensures some { OnErr result (fits (I.schema index.old) log.old.list (entry_of (arc_value change.now)) ≡ true) }
+    ensures misfit { fits (I.schema index.old) log.old.list (entry_of (arc_value change.now)) ≡ false → index.new ≡ index.old }
     ensures schema { I.schema index.new ≡ I.schema index.old }
     ensures bounded { I.is_bounded index.new ≡ I.is_bounded index.old }
 {

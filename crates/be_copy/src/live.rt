@@ -1,11 +1,12 @@
 //! The rows of an index, with a register of them: how rows come, are found, and go.
 
-ghost use Rattle.std.specs.Prelude.{◌≡◌, ◌<◌, [], ◌∷◌, ◌++◌, if◌then◌else◌, true, false, not, filter, find, Some, option_map, IfSome, OnOk, OnErr};
+ghost use Rattle.std.specs.Prelude.{◌≡◌, ◌<◌, [], ◌∷◌, ◌++◌, if◌then◌else◌, true, false, not, filter, find, length, Some, option_map, IfSome, OnOk, OnErr};
 ghost use Rattle.std.specs.Arc.{arc_value};
+ghost use Rattle.be_base.specs.Lists.{BeginsWith};
 ghost use Rattle.be_base.specs.declared.limits.TheConstants.{LOG_CHANGES};
 ghost use Rattle.be_model.specs.ByIds.{put_by_id, without_id, has_id, row_at, rows_of};
 ghost use Rattle.be_model.specs.Lies.{row_lies};
-ghost use Rattle.be_model.specs.Rows.{id_of};
+ghost use Rattle.be_model.specs.Rows.{id_of, KeepsRoom};
 ghost use Rattle.be_index.specs.Promise.{IsMap};
 ghost use Rattle.be_copy.specs.Registers.{IsRegister, AreOfList, IsWantedRow};
 ghost use Rattle.be_copy.specs.Wanted.{wants};
@@ -44,9 +45,9 @@ pub fn first<'a, I: Index>(
     None
 }
 
-/// Appends the wanted rows by rising id, or some of them where memory is wanting. It looks at no rows but those that the register
-/// has under their session or their name.
-pub fn push_wanted<I: Index>(
+/// Appends the wanted rows by rising id. It looks at no rows but those that the register has under the number of their session or
+/// of their name.
+pub fn append_wanted<I: Index>(
     log: &ChangeLog,
     index: &I,
     register: &Register,
@@ -57,21 +58,28 @@ pub fn push_wanted<I: Index>(
     requires listed { AreOfList log.now.list (I.rows index.now) }
     requires map { IsMap (I.rows index.now) }
     ensures put { OnOk result (found.new.rows ≡ found.old.rows ++ rows_of (filter (wants wanted.entry) (I.rows index.now))) }
+    // It is refused only where there is something to append, and then it may have appended some.
+    ensures some { OnErr result (0 < length (filter (wants wanted.entry) (I.rows index.now))) }
+    ensures front { BeginsWith found.new.rows found.old.rows }
+    ensures room { KeepsRoom found.old found.new }
 {
     let mut from = 0;
     while let Some(id) = register.next(wanted, from) {
         let Some(row) = log.row(Id(id)) else {
             unreachable!();
         };
-        push_if_wanted(row, wanted, found)?;
+        push_wanted(row, wanted, found)?;
         from = id + 1;
     }
     Ok(())
 }
 
 // Appends the row, where it is wanted.
-fn push_if_wanted(row: &Arc<Row>, wanted: Wanted<'_>, found: &mut Found) -> Result<(), NoMemory>
-    ensures { OnOk result (found.new.rows ≡ found.old.rows ++ (if wants wanted.entry (id_of (arc_value row.now), arc_value row.now) then arc_value row.now ∷ [] else [])) }
+fn push_wanted(row: &Arc<Row>, wanted: Wanted<'_>, found: &mut Found) -> Result<(), NoMemory>
+    ensures put { OnOk result (found.new.rows ≡ found.old.rows ++ (if wants wanted.entry (id_of (arc_value row.now), arc_value row.now) then arc_value row.now ∷ [] else [])) }
+    ensures some { OnErr result (wants wanted.entry (id_of (arc_value row.now), arc_value row.now) ≡ true) }
+    ensures front { BeginsWith found.new.rows found.old.rows }
+    ensures room { KeepsRoom found.old found.new }
 {
     if !wanted.takes(row) {
         return Ok(());

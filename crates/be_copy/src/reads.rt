@@ -1,11 +1,13 @@
 //! What is read of a copy: live rows by rising id, what a search costs, and the changes from a place on.
 
-ghost use Rattle.std.specs.Prelude.{◌≡◌, ◌++◌, [], true, OnOk, OnErr, IfOk};
+ghost use Rattle.std.specs.Prelude.{◌≡◌, ◌<◌, ◌++◌, [], true, length, OnOk, OnErr, IfOk};
 ghost use Rattle.be_model.specs.Bounds.{IsWithinBound};
 ghost use Rattle.be_model.specs.ByIds.{rows_of};
 ghost use Rattle.be_model.specs.Lies.{event_lies};
 ghost use Rattle.be_change.specs.Entries.{entries_in};
-ghost use Rattle.be_change.specs.History.{hit_rows};
+ghost use Rattle.be_model.specs.Matching.{FindsSome};
+ghost use Rattle.be_model.specs.Rows.{KeepsRoom};
+ghost use Rattle.be_change.specs.History.{live, hit_rows};
 ghost use Rattle.be_change.specs.Walk.{live_rows, tail_from};
 
 use crate::copies::Copy2;
@@ -16,11 +18,14 @@ use be_model::{Change, Cost, Event, Found};
 use std::sync::Arc;
 
 impl<I: Index> Copy2<I> {
-    /// Finds the live rows that the event satisfies, by rising id, by one search.
+    /// Finds the live rows that the event satisfies, by rising id, by one search, and drops what was found before.
     pub fn find(&self, event: &Event, found: &mut Found) -> Result<Cost, NoMemory>
         requires { event_lies (I.schema self.now.index) event.now ≡ true }
         ensures found { OnOk result (found.new.rows ≡ rows_of (hit_rows self.now.list event.now)) }
         ensures none { OnErr result (found.new.rows ≡ []) }
+        // It is refused only where there is something to find.
+        ensures some { OnErr result (FindsSome event.now (live_rows self.now.list)) }
+        ensures room { KeepsRoom found.old found.new }
         ensures cost { IfOk result (λ cost. cost ≡ I.cost_of self.now.index event.now) }
         ensures bound { IfOk result (λ cost. I.is_bounded self.now.index ≡ true → IsWithinBound (I.schema self.now.index) event.now (live_rows self.now.list) cost) }
     {
@@ -42,10 +47,13 @@ impl<I: Index> Copy2<I> {
         self.index().cost(event)
     }
 
-    /// Finds all live rows, by rising id.
+    /// Finds all live rows, by rising id, and drops what was found before.
     pub fn all(&self, found: &mut Found) -> Result<(), NoMemory>
         ensures found { OnOk result (found.new.rows ≡ live_rows self.now.list) }
         ensures none { OnErr result (found.new.rows ≡ []) }
+        // It is refused only where there is something to find.
+        ensures some { OnErr result (0 < length (live self.now.list)) }
+        ensures room { KeepsRoom found.old found.new }
     {
         let index = self.index();
         let _ = self.log().len();

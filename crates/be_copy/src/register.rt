@@ -13,7 +13,8 @@ use be_base::NoMemory;
 use be_model::Row;
 use std::alloc::Global;
 
-/// Where the rows of a session and those of a name are found without a look at the others.
+/// Where the rows of a session are found without a look at others, and those of a name with a look at those alone whose names
+/// have the same number.
 #[derive(Drop)]
 pub struct Register {
     pub sessions: Places,
@@ -56,7 +57,7 @@ impl Register {
         self.names.drop_pair(name_key(&row.name), row.id.0);
     }
 
-    /// The next id, not below `from`, that stands under the session, or the name, of the wanted rows.
+    /// The next id, not below `from`, that stands under the session of the wanted rows, or under the number of their name.
     pub fn next(&self, wanted: Wanted<'_>, from: u64) -> Option<u64>
         ensures { IsLeast (is_found self.now wanted.entry) from result }
     {

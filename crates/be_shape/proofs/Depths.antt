@@ -1,11 +1,11 @@
--- A path is no longer than the ranges of a row below its end: each step takes one that is left of the row's.
-use Rattle.std.proofs.Common.{◌≡◌, ℕ, ◌+◌, ◌≤◌, leb, ltb, eqb, Bool, true, false, true≢false, cond, ◌&&◌, ◌||◌, List, [], ◌∷◌, length, Option, Some, None, refl, sym, ap, ◌∙◌, arith}
+-- A path has no more steps than a row below its end allows: each step takes one of those that are left.
+use Rattle.std.proofs.Common.{◌≡◌, ℕ, ◌+◌, ◌*◌, ◌≤◌, leb, ltb, eqb, Bool, true, false, true≢false, cond, ◌&&◌, ◌||◌, List, [], ◌∷◌, length, Option, Some, None, refl, sym, ap, ◌∙◌, arith}
 use Rattle.std.specs.Prelude.{option_and_then, slice_index_or}
 use Rattle.std.specs.List.{list_all, list_any, flat_map, sum_by, AllByRecursion}
 use Rattle.std.proofs.lemmas.Bool.{eqb-true, leb-true, le-leb, and_parts, and_from, not-true}
 use Rattle.std.proofs.lemmas.Bool.Decides.{nat_tests}
 use Rattle.std.proofs.lemmas.List.Sums.{sum_by-cons, sum_by-le, sum_by-le-sum_by}
-use Rattle.be_base.specs.declared.limits.TheConstants.{LOG_CHANGES}
+use Rattle.be_base.specs.declared.limits.TheConstants.{LOG_CHANGES, PREDICATES}
 use Rattle.be_base.specs.declared.names.AttrNo.{AttrNo}
 use Rattle.be_model.specs.declared.changes.Row.{Row}
 use Rattle.be_model.specs.declared.paths.Hop.{Hop}
@@ -19,9 +19,8 @@ use Rattle.be_model.specs.Rows.{id_of}
 use Rattle.be_model.specs.Schemas.{Attributes, IsSchema, numbered}
 use Rattle.be_model.proofs.FormTests.{IsConj-from_is_conj}
 use Rattle.be_model.proofs.RangeBits.{bits_few}
-use Rattle.be_shape.specs.declared.laws.TheConstants.{TREE_DEPTH}
 use Rattle.be_shape.specs.Children.{children, known_below, is_open, may_pass}
-use Rattle.be_shape.specs.Depth.{ranges_of}
+use Rattle.be_shape.specs.Depth.{most_steps}
 use Rattle.be_shape.specs.Paths.{child, walk}
 use Rattle.be_shape.specs.Plain.{Plain, rows_below, leaf_of}
 use Rattle.be_shape.specs.Shape.{Known, nothing, everywhere, is_placed_at, is_pruned_at, is_some, is_used, may_stand}
@@ -127,14 +126,14 @@ module _ (s : Attributes) where
           (rows_below m) pass rest
 
   -- at the root all of them are left
-  at_root : (row : Row) → sum_by (unused s []) row.conj ≡ ranges_of s row
+  at_root : (row : Row) → sum_by (unused s []) row.conj ≡ most_steps s row
   at_root row = refl
 
-  pub paths_are_ranges : (n : Plain) → everywhere (is_placed_at s) s nothing n ≡ true → (path : List Hop) (m : Plain) → walk path n ≡ Some m → list_all (λ row. leb (length path) (ranges_of s row)) (rows_below m) ≡ true
-  paths_are_ranges n h path m e =
-      let ranges : Row → Bool = λ row. leb (length path) (ranges_of s row) in
+  pub steps_are_bounded : (n : Plain) → everywhere (is_placed_at s) s nothing n ≡ true → (path : List Hop) (m : Plain) → walk path n ≡ Some m → list_all (λ row. leb (length path) (most_steps s row)) (rows_below m) ≡ true
+  steps_are_bounded n h path m e =
+      let bounded : Row → Bool = λ row. leb (length path) (most_steps s row) in
       let all = path_takes path nothing n m h e in
-      all_both (fits (length path) nothing) (fits (length path) nothing) ranges (λ row a b. le-leb (length path) (ranges_of s row) (omega (arith, at_root row, leb-true (length path) (left s nothing row) a))) (rows_below m) all all
+      all_both (fits (length path) nothing) (fits (length path) nothing) bounded (λ row a b. le-leb (length path) (most_steps s row) (omega (arith, at_root row, leb-true (length path) (left s nothing row) a))) (rows_below m) all all
 
 -- a row is below each node but the root
 child_holds : (s : Attributes) (hop : Hop) (k : Known) (n c : Plain) → everywhere is_pruned_at s k n ≡ true → child hop n ≡ Some c → is_some (rows_below c) ≡ true
@@ -159,23 +158,23 @@ some_below s hop (next ∷ path) k n m h e = by_child (child hop n) refl e (λ c
     by_child (Some c) f w on = on c (child_pruned s hop k n c h f) w
 
 -- a row has at most 32 attributes of 33 ranges
-few_ranges : (s : Attributes) (row : Row) → IsSchema s → may_stand s row ≡ true → ranges_of s row ≤ 1056
+few_ranges : (s : Attributes) (row : Row) → IsSchema s → may_stand s row ≡ true → most_steps s row ≤ 1056
 few_ranges s row f h =
     let conj = IsConj-from_is_conj row.conj (and_parts (is_conj row.conj) (row_lies s row && ltb (id_of row) LOG_CHANGES) h).0 in
     let sum = sum_by-le (λ (p : Pred). 1 + bits_at s p.attr) 33 row.conj (λ i d l. let b = bits_few s (slice_index_or row.conj i d).attr f in omega (arith, b)) in
     omega (arith, sum, conj.few)
 
-pub paths_are_short : (s : Attributes) (n : Plain) → IsSchema s → everywhere (is_placed_at s) s nothing n ≡ true → everywhere is_pruned_at s nothing n ≡ true → list_all (may_stand s) (rows_below n) ≡ true
-    → (path : List Hop) (m : Plain) → walk path n ≡ Some m → 1 + length path ≤ TREE_DEPTH
-paths_are_short s n f placed_all pruned may [] m e = omega arith
-paths_are_short s n f placed_all pruned may (hop ∷ path) m e =
-    by_rows (rows_below m) (some_below s hop path nothing n m pruned e) (paths_are_ranges s n placed_all (hop ∷ path) m e) (all_down (may_stand s) (hop ∷ path) n m e may)
+pub depth_is_bounded : (s : Attributes) (n : Plain) → IsSchema s → everywhere (is_placed_at s) s nothing n ≡ true → everywhere is_pruned_at s nothing n ≡ true → list_all (may_stand s) (rows_below n) ≡ true
+    → (path : List Hop) (m : Plain) → walk path n ≡ Some m → 1 + length path ≤ 1 + PREDICATES * 33
+depth_is_bounded s n f placed_all pruned may [] m e = omega arith
+depth_is_bounded s n f placed_all pruned may (hop ∷ path) m e =
+    by_rows (rows_below m) (some_below s hop path nothing n m pruned e) (steps_are_bounded s n placed_all (hop ∷ path) m e) (all_down (may_stand s) (hop ∷ path) n m e may)
   where
     steps : ℕ
     steps = length (hop ∷ path)
 
-    by_rows : (rows : List Row) → is_some rows ≡ true → list_all (λ row. leb steps (ranges_of s row)) rows ≡ true → list_all (may_stand s) rows ≡ true → 1 + steps ≤ TREE_DEPTH
+    by_rows : (rows : List Row) → is_some rows ≡ true → list_all (λ row. leb steps (most_steps s row)) rows ≡ true → list_all (may_stand s) rows ≡ true → 1 + steps ≤ 1 + PREDICATES * 33
     by_rows [] some short stand = absurd (true≢false (sym some))
     by_rows (row ∷ rows) some short stand =
-        let a = leb-true steps (ranges_of s row) (and_parts (leb steps (ranges_of s row)) (list_all (λ r. leb steps (ranges_of s r)) rows) short).0 in
+        let a = leb-true steps (most_steps s row) (and_parts (leb steps (most_steps s row)) (list_all (λ r. leb steps (most_steps s r)) rows) short).0 in
         let b = few_ranges s row f (and_parts (may_stand s row) (list_all (may_stand s) rows) stand).0 in omega (arith, a, b)

@@ -1,17 +1,20 @@
-//! Laws of what a tree contains. Each function's contract is a law, which its proof shows; to call one does nothing.
+//! Laws of what a tree contains, and of its paths. Each function's contract is a law, which its proof shows; to call one does nothing.
 
 ghost use Rattle.std.specs.Prelude.{IsPermutation};
 ghost use Rattle.be_model.specs.ByIds.{Rising, rows_of};
 ghost use Rattle.be_shape.specs.Plain.{plain, rows_below, contents};
 ghost use Rattle.std.specs.Arc.{arc_value};
-ghost use Rattle.be_shape.specs.Depth.{PathsAreRanges, PathsAreShort};
+ghost use Rattle.be_shape.specs.Depth.{StepsAreBounded, DepthIsBounded};
 ghost use Rattle.be_shape.specs.Contents.{RowsAreFound, NewIdsAreNowhere};
 ghost use Rattle.be_shape.specs.NodeList.{HoldsAtNodes, PathsLead, NodesAreListed};
 
 use crate::trees::Tree;
+use be_base::PREDICATES;
 
-/// The nodes of the longest path that a tree can have: the root, and for each of 32 attributes its domain and 32 halves.
-pub const TREE_DEPTH: usize = 1057;
+/// No path of a tree has more nodes: the root, and for each of 32 predicates the root of a part and a node for each of 32 halvings.
+pub const MAX_TREE_DEPTH: usize = 1057;
+
+const _: () = prove!(MAX_TREE_DEPTH == 1 + PREDICATES * 33);
 
 /// Ids rise, so that each stands for one row.
 pub fn ids_rise(t: &Tree)
@@ -48,10 +51,11 @@ pub fn nodes_are_listed(t: &Tree)
     ensures { NodesAreListed (arc_value t.now.schema) (plain t.now.root) }
 {}
 
-/// A path is no longer than the ranges of each row below its end, and so no tree is deeper than `TREE_DEPTH`.
-pub fn paths_are_short(t: &Tree)
-    ensures ranges { PathsAreRanges (arc_value t.now.schema) (plain t.now.root) }
-    ensures depth { PathsAreShort (plain t.now.root) }
+/// A path has no more steps than each row below its end allows. No path has more than `MAX_TREE_DEPTH` nodes, since a row has at
+/// most 32 predicates, and a domain is halved at most 32 times.
+pub fn depth_is_bounded(t: &Tree)
+    ensures steps { StepsAreBounded (arc_value t.now.schema) (plain t.now.root) }
+    ensures depth { DepthIsBounded (plain t.now.root) }
 {
     // The count shows the form of the schema.
     let _ = t.schema.count();

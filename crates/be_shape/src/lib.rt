@@ -24,8 +24,8 @@ mod trees;
 mod walks;
 
 pub use laws::{
-    TREE_DEPTH, ids_rise, new_ids_are_nowhere, nodes_are_everywhere, nodes_are_listed,
-    paths_are_short, paths_lead, rows_are_found, rows_are_of_leaves,
+    MAX_TREE_DEPTH, depth_is_bounded, ids_rise, new_ids_are_nowhere, nodes_are_everywhere,
+    nodes_are_listed, paths_lead, rows_are_found, rows_are_of_leaves,
 };
 pub use leaves::Leaf;
 pub use listings::RowAttrs;

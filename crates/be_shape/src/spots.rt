@@ -34,7 +34,7 @@ impl Spot {
         }
     }
 
-    /// Goes down a step. A part takes memory for its attribute, and a half none.
+    /// Goes down a step. A part may take memory for its attribute, and a half takes none.
     pub fn enter(&mut self, s: &Schema, hop: Hop) -> Result<(), NoMemory>
         requires { is_open hop (known_of self.old) ≡ true }
         ensures entered { OnOk result (known_of self.new ≡ known_below s.now hop (known_of self.old)) }

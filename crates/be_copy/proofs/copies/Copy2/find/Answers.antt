@@ -8,7 +8,7 @@ use Rattle.be_model.proofs.RisingIds.{Rising-filter, SayIds-filter}
 use Rattle.be_change.specs.Entries.{IdsArePlaces}
 use Rattle.be_change.specs.History.{live, hit_rows}
 use Rattle.be_index.specs.Promise.{IsMap}
-use Rattle.be_copy.proofs.InOrder.{in_order}
+use Rattle.be_copy.proofs.InOrder.{in_order, room_kept}
 use Rattle.be_copy.proofs.Kept.{kept_map}
 use Rattle.be_copy.proofs.copies.Copy2.find.Goals as goal
 
@@ -24,3 +24,7 @@ returns-clause-found g c =
     in_order (hit_rows h e) c.clear.new.self.rows c.find.new.found.rows c.order.new.self.rows (Rising-filter p (live h) map.rising) (SayIds-filter p (live h) map.say) none
     (subst (λ rows. PutsEach rows c.clear.new.self.rows c.find.new.found.rows) (ap (λ m. satisfied e (rows_of m)) same ∙ sym (rows_of-filter (λ row. satisfies e row.conj) (live h))) c.in_ok-cost.ensures.found)
     c.order.ensures.same c.order.ensures.rising
+
+pub returns-clause-room : goal.returns-clause-room
+returns-clause-room g c =
+    room_kept c.args.found.now c.clear.new.self c.find.new.found c.order.new.self c.clear.ensures c.in_ok-cost.ensures.kept c.order.ensures.same c.order.ensures.spare

@@ -4,9 +4,9 @@ use Rattle.be_model.specs.ByIds.{session_rows}
 use Rattle.be_copy.proofs.Kept.{kept_listed, kept_map}
 use Rattle.be_copy.proofs.copies.Copy2.rows_of.Goals as goal
 
-pub push_wanted-requires-clause-listed : goal.push_wanted-requires-clause-listed
-push_wanted-requires-clause-listed g c = kept_listed c.self.inside.log.list (g.I.Index.rows c.self.inside.index) c.self.invariant.live
+pub append_wanted-requires-clause-listed : goal.append_wanted-requires-clause-listed
+append_wanted-requires-clause-listed g c = kept_listed c.self.inside.log.list (g.I.Index.rows c.self.inside.index) c.self.invariant.live
 
-pub push_wanted-requires-clause-map : goal.push_wanted-requires-clause-map
-push_wanted-requires-clause-map g c =
+pub append_wanted-requires-clause-map : goal.append_wanted-requires-clause-map
+append_wanted-requires-clause-map g c =
     kept_map c.self.inside.log.list (g.I.Index.rows c.self.inside.index) c.len.result c.self.inside.log.spare c.self.invariant.live c.len.ensures.len c.len.ensures.most c.len.ensures.ids

@@ -5,14 +5,14 @@ use Rattle.be_model.specs.ByIds.{ids_differ}
 use Rattle.be_model.specs.Schemas.{IsSchema}
 use Rattle.be_shape.specs.Plain.{plain, rows_below}
 use Rattle.be_shape.specs.Shape.{nothing, everywhere, is_placed_at}
-use Rattle.be_shape.proofs.Depths.{paths_are_ranges, paths_are_short as short}
-use Rattle.be_shape.proofs.laws.paths_are_short.Goals as goal
+use Rattle.be_shape.proofs.Depths.{steps_are_bounded, depth_is_bounded as bounded}
+use Rattle.be_shape.proofs.laws.depth_is_bounded.Goals as goal
 
-pub returns-clause-ranges : goal.returns-clause-ranges
-returns-clause-ranges c =
+pub returns-clause-steps : goal.returns-clause-steps
+returns-clause-steps c =
     let t = c.args.t.now in
     let s = arc_value t.schema in
-    let n = plain t.root in paths_are_ranges s n (and_parts (everywhere (is_placed_at s) s nothing n) (ids_differ (rows_below n)) t.placed).0
+    let n = plain t.root in steps_are_bounded s n (and_parts (everywhere (is_placed_at s) s nothing n) (ids_differ (rows_below n)) t.placed).0
 
 pub returns-clause-depth : goal.returns-clause-depth
 returns-clause-depth c =
@@ -20,4 +20,4 @@ returns-clause-depth c =
     let s = arc_value t.schema in
     let n = plain t.root in
     let form = subst IsSchema c.deref.ensures c.count.ensures.form in
-    short s n form (and_parts (everywhere (is_placed_at s) s nothing n) (ids_differ (rows_below n)) t.placed).0 t.pruned t.lie
+    bounded s n form (and_parts (everywhere (is_placed_at s) s nothing n) (ids_differ (rows_below n)) t.placed).0 t.pruned t.lie
