@@ -1,6 +1,7 @@
 #!/usr/bin/env bash
 # Prints the time of SUBs, of as many UNSUBs in a mixed order, and of LISTs of all names, how each grows at twice as
-# many, and the memory that changes take for as long as a run lasts. No part of the gate.
+# many, the time of a LIST of one name beside many rows of others, and the memory that changes take for as long as a run
+# lasts. No part of the gate.
 # shellcheck source=common.sh
 . "$(dirname "${BASH_SOURCE[0]}")/common.sh"
 use_program
@@ -30,6 +31,16 @@ measure() {
 sub="$(measure 100000 0 0)" && subs="$(measure 200000 0 0)" || exit 1
 unsub="$(measure 100000 100000 0)" && unsubs="$(measure 200000 200000 0)" || exit 1
 list="$(measure 100000 0 20)" && lists="$(measure 200000 0 20)" || exit 1
+
+# alone LISTS: the least seconds of processor time of five runs of so many LISTs of one name, beside 100,000 rows of others
+awk 'BEGIN { print "# others"; for (i = 0; i < 100000; i++) print "ROW r" i " price < " i % 1000 " and side = buy" }' >"$room/others.txt"
+alone() {
+    awk -v lists="$1" 'BEGIN { print "SUB mine price < 5"; for (i = 0; i < lists; i++) print "LIST" }' >"$room/script.txt"
+    least 5 "$room/script.txt" "$program" run "$room/schema.txt" --load "$room/others.txt"
+    [ "$(grep -c '^LIST 100001 1 mine$' "$room/out.txt")" -eq "$1" ] || { echo "a LIST was another" >&2; exit 1; }
+}
+without="$(alone 0)" && with="$(alone 200000)" || exit 1
+
 awk 'BEGIN { for (i = 0; i < 500000; i++) print "SUB s price < 5\nUNSUB s" }' >"$room/script.txt"
 none="$(peak /dev/null "$program" run "$room/schema.txt")"
 kept="$(peak "$room/script.txt" "$program" run "$room/schema.txt")"
@@ -41,4 +52,7 @@ awk -v a="$sub" -v b="$subs" -v c="$unsub" -v d="$unsubs" -v e="$list" -v f="$li
     printf "100,000 SUBs: %.2f s, and of twice as many: %.2f s\n", a, b
     printf "100,000 UNSUBs in a mixed order: %.2f s, and of twice as many: %.2f s\n", c - a, d - b
     printf "a LIST of 100,000 names: %.1f ms, and of twice as many: %.1f ms\n", 50 * (e - a), 50 * (f - b)
+}'
+awk -v a="$without" -v b="$with" 'BEGIN {
+    printf "a LIST of one name beside 100,000 rows of others: %.2f µs\n", 5 * (b - a)
 }'

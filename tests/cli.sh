@@ -233,7 +233,7 @@ cat >"$own/bin/rt" <<'RT'
 #!/bin/sh
 echo "$* in $(basename "$(pwd)")"
 [ "$*" != lib ] || [ ! -e broken ] || exit 1
-[ "$1" != run ] || { mkdir -p out; printf '#!/bin/sh\necho ran "$@"\nexit 6\n' >out/justmeadow; chmod +x out/justmeadow; }
+[ "$1" != run ] || { mkdir -p out; printf '#!/bin/sh\n[ "$1" != memory ] || echo "$GLIBC_TUNABLES"\necho ran "$@"\nexit 6\n' >out/justmeadow; chmod +x out/justmeadow; }
 [ "$1" != try ] || { cat; exit 4; }
 RT
 chmod +x "$own/bin/rt"
@@ -265,6 +265,8 @@ rm "$own/top/crates/high/broken"
 script --build
 same 'a build' 0 'TOP/crates/justmeadow/out/justmeadow\n' "${building}justmeadow: 3 of 3: justmeadow\njustmeadow: built in TIME\n"
 script run 'a b' ''; same 'a built program, with its words and its code' 6 'ran run a b \n' ''
+script memory; same 'a program that asks for large pages' 6 'glibc.malloc.hugetlb=1\nran memory\n' ''
+GLIBC_TUNABLES= script memory; same 'or what its user says' 6 '\nran memory\n' ''
 script ''; same 'an empty word is the program'"'"'s' 6 'ran \n' ''
 script run --help; same 'a later --help is the program'"'"'s' 6 'ran run --help\n' ''
 sleep 0.01; touch "$own/top/crates/low/src/lib.rt"
