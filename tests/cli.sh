@@ -265,6 +265,7 @@ rm "$own/top/crates/high/broken"
 script --build
 same 'a build' 0 'TOP/crates/justmeadow/out/justmeadow\n' "${building}justmeadow: 3 of 3: justmeadow\njustmeadow: built in TIME\n"
 script run 'a b' ''; same 'a built program, with its words and its code' 6 'ran run a b \n' ''
+unset GLIBC_TUNABLES
 script memory; same 'a program that asks for large pages' 6 'glibc.malloc.hugetlb=1\nran memory\n' ''
 GLIBC_TUNABLES= script memory; same 'or what its user says' 6 '\nran memory\n' ''
 script ''; same 'an empty word is the program'"'"'s' 6 'ran \n' ''
