@@ -17,5 +17,5 @@ signed() {
 }
 
 openssl req -x509 -newkey rsa:2048 -nodes -subj "/CN=Trial authority" -days 30 -keyout authority.key -out clients.pem 2>/dev/null
-signed server "/CN=localhost" "subjectAltName=DNS:localhost,IP:127.0.0.1"
+signed server "/CN=localhost" $'subjectAltName=DNS:localhost,IP:127.0.0.1\nextendedKeyUsage=serverAuth'
 signed client "/CN=trial" "extendedKeyUsage=clientAuth"
