@@ -1,5 +1,5 @@
 #!/usr/bin/env bash
-# Drives `serve` through each client of examples/, by tests/client.py. A language that isn't here is passed over, with a notice.
+# Drives `serve` through each client of examples/, by tests/clients.py. A language that isn't here is passed over, with a notice.
 # The last line is `N passed, N failed`; the status is 1 where a case failed.
 # shellcheck source=program.sh
 . "$(dirname "${BASH_SOURCE[0]}")/program.sh"
@@ -16,7 +16,7 @@ has() {
 
 # start NAME COMMAND..: drives this client's demo, beside the others
 start() {
-    python3 "$top/tests/client.py" "$program" "${@:2}" >"$room/$1.out" 2>&1 &
+    python3 "$top/tests/clients.py" "$program" "${@:2}" >"$room/$1.out" 2>&1 &
     started+=("$1")
 }
 

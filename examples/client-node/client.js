@@ -112,7 +112,7 @@ class Connection {
     this.socket.on('error', (error) => this.#fail(error.message));
     this.socket.on('close', () => this.#fail('the connection was closed'));
     this.socket.on('timeout', () => {
-      if (this.socket.connecting || this.#awaited.length > 0) this.socket.destroy(new Error('the server is silent'));
+      if (this.socket.connecting || this.socket.writableEnded || this.#awaited.length > 0) this.socket.destroy(new Error('the server is silent'));
     });
     this.opened = once(this.socket, 'connect');
   }
