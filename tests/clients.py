@@ -21,6 +21,7 @@ from justmeadow import Connection  # noqa: E402
 PROGRAM, COMMAND = sys.argv[1], sys.argv[2:]
 WAIT = 15  # seconds for what is expected to come
 counts, lock = {True: 0, False: 0}, threading.Lock()
+ports = iter(range(20000 + os.getpid() * 32 % 12000, 32768))
 
 
 def case(what, given, wanted):
@@ -46,12 +47,20 @@ def listening(port=0):
     return listener
 
 
+def free_port():
+    """A port below those that the system gives out, so that no connection of another test takes it before the server does."""
+    with lock:
+        for port in ports:
+            with contextlib.suppress(OSError), listening(port):
+                return port
+    raise OSError("no port is free")
+
+
 class Server:
     """The program, serving a free port. `watcher` is a session of its own, which makes no change while it lasts."""
 
     def __init__(self, schema, seats, links, *load):
-        with listening() as probe:
-            self.port = probe.getsockname()[1]
+        self.port = free_port()
         words = [PROGRAM, "serve", schema, str(self.port), str(seats), str(links), *load]
         self.process = subprocess.Popen(words, stdin=subprocess.DEVNULL, stdout=subprocess.DEVNULL)
 
@@ -159,7 +168,8 @@ class Relay:
     def release(self):
         for pair in self.pairs:
             with contextlib.suppress(OSError):
-                pair["far"].shutdown(socket.SHUT_RDWR)
+                if pair["is_kept"]:
+                    pair["far"].shutdown(socket.SHUT_RDWR)
 
 
 def later(seconds, call, *words):
@@ -215,7 +225,7 @@ def by_the_page(schema, load):
             ("fetch 10", []),
             ("tail 1 2", [4, ["SUB 1 0 a price >= 10", "SUB 1 1 b side in {buy}"]]),
             ("tail 0 1000001", "refused BAD"),
-            ("dump", "ROW z price < 5\nROW b side in {buy}\n"),
+            ("dump", "ROW z price < 5\nROW b side in {buy}\n# DUMP 4 2\n"),
             ("lines SUB p all;PUB -;x;FETCH 1;TAIL 4 5;DUMP;LIST;UNSUB p", [
                 "OK 5", "HIT 5 1 p", "BAD", "END 0", "AT 4 SUB 1 3 p all\nTAILED 5 1",
                 "ROW z price < 5\nROW b side in {buy}\nROW p all\n# DUMP 5 3", "LIST 5 2 b p", "OK 6"]),

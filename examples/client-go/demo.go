@@ -77,7 +77,7 @@ func said(reply Reply, err error) (any, error) {
 	case "TAILED":
 		return []any{reply.Numbers[0], rows}, err
 	case "# DUMP":
-		return reply.Text[:strings.LastIndex(reply.Text, "# DUMP")], err
+		return reply.Text + "\n", err
 	}
 	return reply.Numbers, err
 }

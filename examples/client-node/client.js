@@ -210,7 +210,7 @@ class Client {
 
   /** All live subscriptions, as the text of a load file. */
   async dump() {
-    return (await this.#told('DUMP', ['# DUMP'])).rows.map(([name, condition]) => `ROW ${name} ${condition}\n`).join('');
+    return (await this.#told('DUMP', ['# DUMP'])).text + '\n';
   }
 
   /** The changes from a place on, at most so many, as their texts; the list has n. */

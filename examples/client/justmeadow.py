@@ -146,7 +146,8 @@ class Calls(contextlib.AbstractContextManager):
 
     def dump(self):
         """All live subscriptions, as the text of a load file."""
-        return "".join(f"ROW {name} {condition}\n" for name, condition in self._told("DUMP", "# DUMP").rows)
+        told = self._told("DUMP", "# DUMP")
+        return "".join(f"ROW {name} {condition}\n" for name, condition in told.rows) + "# DUMP {} {}\n".format(*told.numbers)
 
     def tail(self, place, most):
         """The changes from a place on, at most so many, as their texts."""
@@ -386,9 +387,12 @@ def answer(client, line):
 
 
 def main(port, patience="30", host="127.0.0.1"):
-    with Client(int(port), host, float(patience)) as client:
-        for line in sys.stdin:
-            print(json.dumps(answer(client, line.rstrip("\n"))), flush=True)
+    try:
+        with Client(int(port), host, float(patience)) as client:
+            for line in sys.stdin:
+                print(json.dumps(answer(client, line.rstrip("\n"))), flush=True)
+    except Lost as error:
+        sys.exit(f"justmeadow: {error}")
 
 
 if __name__ == "__main__":
