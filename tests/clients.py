@@ -294,6 +294,8 @@ def given_up(schema):
             demo.calls([("list", [6, ["b"]])])
             relay.drop("far")
             demo.calls([("publish -", [8, ["b"]])])
+            time.sleep(1.2)  # to be silent while nothing is asked is no loss
+            demo.calls([("list", [8, ["b"]])])
 
 
 def rare():
