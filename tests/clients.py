@@ -276,6 +276,18 @@ def broken_off(schema):
         is_soon("the last leave", lambda: watcher.tail(0, 0).n == 21)
 
 
+def one_seat(schema):
+    """Where the old connection keeps the only seat, the new one has no reply until the server sees that it has ended."""
+    with Server(schema, 1, 1000) as server:
+        server.watcher().close()
+        relay = Relay(server)
+        with Demo(relay.port) as demo:
+            demo.calls([("subscribe a all", 2)])
+            relay.cut(is_kept=True)
+            later(0.4, relay.release)
+            demo.calls([("list", [4, ["a"]])])
+
+
 def given_up(schema):
     """What doesn't come within the limit is an error, and the next call tries again."""
     with Server(schema, 8, 1000) as server, server.watcher() as watcher:
@@ -333,7 +345,8 @@ def drive(schema):
         file.write("int price 0 1000\nsym side buy sell\n")
     with open(load, "w", encoding="ascii") as file:
         file.write("ROW z price < 5\n")
-    parts = [(by_the_page, schema, load), (at_once, schema), (broken_off, schema), (given_up, schema), (rare,), (restored_elsewhere,)]
+    parts = [(by_the_page, schema, load), (at_once, schema), (broken_off, schema), (one_seat, schema), (given_up, schema)]
+    parts += [(rare,), (restored_elsewhere,)]
 
     def run(part, *words):
         try:

@@ -7,10 +7,10 @@ began=$SECONDS
 failed=0
 started=()
 
-# has COMMAND LANGUAGE: whether it is here
+# has COMMAND: whether it is here
 has() {
     command -v "$1" >/dev/null && return
-    echo "skipped: the client for $2: there is no $1 here"
+    echo "skipped: what needs $1, which isn't here"
     return 1
 }
 
@@ -26,13 +26,13 @@ built() {
         go build -o "$room/client-go" client.go demo.go) >"$room/go.out" 2>&1
 }
 
-if ! has python3 'tests of clients'; then
+if ! has python3; then
     echo "0 passed, 0 failed"
     exit
 fi
 start python python3 "$top/examples/client/justmeadow.py"
-if has node node; then start node node "$top/examples/client-node/client.js"; fi
-if has go Go; then
+if has node; then start node node "$top/examples/client-node/client.js"; fi
+if has go; then
     if built; then
         start go "$room/client-go"
     else
