@@ -1,8 +1,9 @@
 #!/usr/bin/env python3
-"""Checks what the documents say against what is there: see tests/docs.sh."""
+"""Checks what the documents say against what is there (see tests/docs.sh), and then the checks themselves."""
 import sys
 from pathlib import Path
 
+import faults
 import links
 import names
 import numbers_told
@@ -51,7 +52,11 @@ def checked(book, sources):
 
 def main():
     top = Path(__file__).resolve().parents[2]
-    report = checked(Book(top), Sources(top))
+    book, sources = Book(top), Sources(top)
+    report = checked(book, sources)
+    # over pages with faults a planted one tells nothing
+    if not report.faults:
+        faults.check_faults(book, sources, report, checked)
     for fault in report.faults:
         print(f"FAILED: {fault}")
     print(f"{report.passed} passed, {len(report.faults)} failed")

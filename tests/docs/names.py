@@ -117,5 +117,4 @@ def check_edits(book, sources, report):
             report.see(folder == "planted" or len(edits) <= EDITS_A_CRATE, f"{crate} has {len(edits)} must-fail edits, more than {EDITS_A_CRATE}")
             report.see(folder == "crates" or crate not in listed, f"{crate} has planted edits and must-fail edits")
             for edit in edits:
-                missed = edit.misses(sources.crates_folder / crate) if edit.steps else "it has no step"
-                report.see(missed is None, f"the edit {edit.name} of {crate} doesn't fit: {missed}")
+                report.see(edit.misfit is None, f"the edit {edit.name} of {crate} doesn't fit: {edit.misfit}")

@@ -9,6 +9,7 @@ CLAUSE = re.compile(r"^ *(?:pub(?:\([a-z]+\))? )?(?:(fn|struct|enum|trait|impl)\
 # a public definition with the lines that are indented below it, and the name of a field or constructor there
 DEFINITION = re.compile(r"^( *)(?:abbrev )?pub (?:record |data )?(\w+)(.*\n(?:(?:\1 +.*)?\n)*)", re.M)
 FIELD = re.compile(r"^ +(?:pub )?(\w+) :", re.M)
+PAGE = re.compile(r"(?<![\w./-])docs/[\w./-]*\.md")
 OTHER_SOURCES = ["justmeadow", "crates.txt", "HANDLES", ".ci", "bench", "examples", "planted", "tests", "tools"]
 
 
@@ -25,8 +26,8 @@ def files_below(place, *endings):
 class Edit:
     """A wrong body: lines `file: F`, `old: TEXT`, `new: TEXT`, of which pairs may follow one another."""
 
-    def __init__(self, file):
-        self.name = file.stem
+    def __init__(self, file, crate):
+        self.name, self.crate = file.stem, crate
         self.steps, place = [], ""
         for line in text_of(file).splitlines():
             key, _, text = line.partition(": ")
@@ -37,11 +38,14 @@ class Edit:
             elif key == "new":
                 self.steps[-1][2] = text
 
-    def misses(self, crate):
+    @cached_property
+    def misfit(self):
         """The first of its old texts that doesn't stand exactly once in its file, or none."""
+        if not self.steps:
+            return "it has no step"
         texts = {}
         for place, old, new in self.steps:
-            file = crate / place
+            file = self.crate / place
             text = texts.get(place, text_of(file) if file.is_file() else "")
             if text.count(old) != 1:
                 return f"'{old.strip()}' stands {text.count(old)} times in {place}"
@@ -68,6 +72,7 @@ class Sources:
         files = files_below(self.crates_folder, ".rt", ".antt", ".txt", ".edit")
         for place in OTHER_SOURCES:
             files += files_below(self.top / place)
+        files = [it for it in files if it.parent != self.top / "tests/docs"]
         found = {it.stem for it in files}
         for it in files:
             if it.suffix not in (".svg", ".png"):
@@ -75,13 +80,13 @@ class Sources:
         return found
 
     @cached_property
-    def texts(self):
-        """Each file of the repository's code, scripts and examples with its text, by its path from the top."""
+    def pages_named(self):
+        """Each page that a file of the code, a script or an example names, with that file."""
         files = [self.top / "justmeadow"]
         for place in ("crates", "bench", "examples", "planted", "tests", "tools"):
             files += files_below(self.top / place)
-        found = [(str(it.relative_to(self.top)), text_of(it)) for it in files if it.suffix not in (".svg", ".png", ".pyc")]
-        return [(path, text) for path, text in found if not path.startswith("tests/docs/") and path != "bench/RESULTS.md"]
+        files = [it for it in files if it.suffix not in (".svg", ".png", ".pyc") and it.name != "RESULTS.md" and it.parent != self.top / "tests/docs"]
+        return [(str(it.relative_to(self.top)), page) for it in files for page in PAGE.findall(text_of(it))]
 
     @cached_property
     def definitions(self):
@@ -95,10 +100,12 @@ class Sources:
                     cited.update(IDENTIFIER.findall(body))
         return found
 
+    @lru_cache(maxsize=None)
     def defines(self, file, name):
         """Whether a module of definitions has a public one of this name, or a public constructor or field."""
         return re.search(rf"^ *([a-z]+ )*pub .*(?<!\w){name}(?!\w)", text_of(file), re.M) is not None
 
+    @lru_cache(maxsize=None)
     def has_item(self, place, name):
         """Whether a source file, or one of a folder, has the function, or the type, of this name."""
         item = "(struct|trait|enum)" if name[0].isupper() else "fn"
@@ -124,6 +131,7 @@ class Sources:
                     cited.setdefault(it, set()).update(said)
         return clauses, cited
 
+    @lru_cache(maxsize=None)
     def parts(self, name):
         """What a page may name of a function, a type or a definition: its clauses, and the fields of definitions that these cite, one
         by way of another at most."""
@@ -165,10 +173,12 @@ class Sources:
         """The words of the script itself, each with two dashes."""
         return set(re.findall(r"^ *(--[a-z]+)\)", self.script, re.M)) | set(re.findall(r"\./justmeadow (--[a-z]+)", self.script))
 
+    @lru_cache(maxsize=None)
     def edits(self, folder):
         """The edits of a folder that has one folder a crate, by crate; must-fail edits stand in the crates themselves."""
         inner = "must-fail" if folder == "crates" else ""
         found = {}
         for it in sorted((self.top / folder).glob(f"*/{inner}/*.edit" if inner else "*/*.edit")):
-            found.setdefault(it.relative_to(self.top / folder).parts[0], []).append(Edit(it))
+            crate = it.relative_to(self.top / folder).parts[0]
+            found.setdefault(crate, []).append(Edit(it, self.crates_folder / crate))
         return found
