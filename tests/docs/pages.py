@@ -5,13 +5,14 @@ from pathlib import Path
 
 # placeholders in commands and paths, as NAME in crates/NAME
 PLACEHOLDER = re.compile(r"\b(?!README|DECISIONS|RESULTS|HANDLES)[A-Z]{3,}\b")
+PAGES = ["*.md", "docs/**/*.md", "docs/*.1", "bench/*.md", "planted/*.md", "examples/**/*.md"]
 LINK = re.compile(r"\]\(([^)\s]+)\)")
 SPAN = re.compile(r"`([^`]+)`")
 
 
 def page_paths(top):
-    """README, all pages below docs/, and the page of what was measured."""
-    found = [top / "README.md", *sorted((top / "docs").rglob("*.md")), top / "docs/justmeadow.1", top / "bench/RESULTS.md"]
+    """README, all pages below docs/, and those that stand beside what they speak of."""
+    found = [it for pattern in PAGES for it in sorted(top.glob(pattern))]
     return [str(it.relative_to(top)) for it in found if it.is_file()]
 
 
