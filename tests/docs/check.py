@@ -22,6 +22,7 @@ CHECKS = [
     names.check_words,
     names.check_clauses,
     names.check_bodies,
+    names.check_refusals,
     names.check_edits,
     numbers_told.check_limits,
     numbers_told.check_codes,

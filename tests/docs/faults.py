@@ -15,7 +15,7 @@ FAULTS = [
     ("docs/use/commands.md", "\n| 7 |", "\n| 11 |", "tells of the exit codes"),
     ("docs/use/protocol.md", "65,536", "65,535", "isn't LINE_BYTES"),
     ("docs/use/protocol.md", "2^48", "2^47", "isn't LOG_CHANGES"),
-    ("README.md", "| 256", "| 255", "isn't ATTRIBUTES"),
+    ("README.md", "256", "255", "isn't ATTRIBUTES"),
     ("README.md", None, "x" * 8192, "more than 8192"),
     ("README.md", "<!-- end of figures", "987,654,321 events\n<!-- end of figures", "prints the figure 987,654,321"),
     ("docs/develop/architecture.md", "`be_model/Hulls` |", "`be_model/Lies` |", "names hull in be_model/Lies"),
@@ -23,9 +23,10 @@ FAULTS = [
     ("docs/develop/architecture.md", "be_io/src/lines.rt", "be_io/src/nowhere.rt", "names be_io/src/nowhere.rt"),
     ("docs/develop/architecture.md", "| `be_cover` |", "| `be_copy` |", "has no row of the crate be_cover"),
     ("docs/develop/gate.md", "`be_adjust`, ", "", "lists must-fail edits of other crates"),
-    ("docs/proof/promises.md", "`write_all` (`wrote`", "`write_all` (`wrought`", "names the clause wrought"),
-    ("docs/proof/wrong-bodies.md", "push_in_front", "push_behind", "names the edit push_behind"),
-    ("docs/proof/wrong-bodies.md", "refusal_is_not_counted", "letter_is_dropped", "names the edit letter_is_dropped of be_io"),
+    ("docs/proof/promises.md", None, "| - | - |\n|---|---|\n| a line | `write_all` (`is_sound`) |", "names the clause is_sound of `write_all`"),
+    ("docs/proof/wrong-bodies.md", None, "gate: `push_behind` of `be_change`", "names the edit push_behind of be_change (gate)"),
+    ("docs/proof/wrong-bodies.md", None, "planted: `letter_is_dropped` of `be_io`", "names the edit letter_is_dropped of be_io (planted)"),
+    ("docs/proof/wrong-bodies.md", None, "refused by `wrote` of `Room::hits`", "names wrote of Room::hits"),
     ("bench/RESULTS.md", "commit", "state", "doesn't tell the commit"),
 ]
 

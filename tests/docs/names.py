@@ -16,7 +16,8 @@ BESIDE = re.compile(r"((?:`[\w:]+`(?:, | and )?)+) \((`\w+/[\w/.]+`)\)")
 CARRIED = re.compile(r"((?:`[\w:]+`(?:, )?)+)(?: of (?:trait )?`\w+`)? \(([^()]*)\)")
 FIELD = re.compile(r"`([a-z]\w*)` of `([A-Z]\w*)`")
 REFUSED = re.compile(r"(gate|planted): ([^|;]*)")
-OF_CRATE = re.compile(r"((?:`\w+`(?:,? and |, )?)+) of `(\w+)`")
+OF_OWNER = re.compile(r"`([a-z]\w*)`(?= of `([\w:]+)`)")
+OF_CRATE = re.compile(r"((?:`\w+`(?:,? and |, )?)+) of `(be_\w+)`")
 
 
 def stands_in(sources, name, place):
@@ -81,6 +82,8 @@ def check_clauses(book, sources, report):
     rows = [row for row in rows_of(book.page(PROMISES).prose) if len(row) >= 2]
     report.see(len(rows) > 50, f"{PROMISES} has no tables")
     for cell in (row[1] for row in rows):
+        for word in re.findall(r"[A-Za-z_]\w*", " ".join(it for it in SPAN.findall(cell) if "/" not in it)):
+            report.see(word in sources.words, f"{PROMISES} names {word}, which no source has")
         for names, inner in CARRIED.findall(cell):
             owners = [it.rpartition("::")[2] for it in SPAN.findall(names) + re.findall(r"`([A-Z]\w*)`", inner)]
             has = set().union(*(sources.parts(it) for it in owners))
@@ -102,9 +105,17 @@ def check_bodies(book, sources, report):
         report.see(named[place] or not there, f"{BODIES} names no edit of '{place}'")
         for crate, name in sorted(named[place]):
             report.see((crate, name) in there, f"{BODIES} names the edit {name} of {crate} ({place}), which isn't there")
-        if "by their names alone" not in text:
+        if "by their names" not in text:
             for crate, name in sorted(there):
                 report.see((crate, name) in named[place], f"{BODIES} doesn't name the edit {name} of {crate} ({place})")
+
+
+def check_refusals(book, sources, report):
+    """The clauses that the page of wrong bodies names are those of the functions or definitions behind them."""
+    for clause, owner in OF_OWNER.findall(book.page(BODIES).prose):
+        if not owner.startswith("be_") or owner in sources.contracts[0]:
+            name = owner.rpartition("::")[2]
+            report.see(clause in sources.parts(name), f"{BODIES} names {clause} of {owner}, which doesn't have it")
 
 
 def check_edits(book, sources, report):

@@ -1,4 +1,5 @@
 """What the sources have that pages name: definitions, functions, clauses, edits, limits, commands."""
+import os
 import re
 from functools import cached_property, lru_cache
 from pathlib import Path
@@ -10,6 +11,7 @@ CLAUSE = re.compile(r"^ *(?:pub(?:\([a-z]+\))? )?(?:(fn|struct|enum|trait|impl)\
 DEFINITION = re.compile(r"^( *)(?:abbrev )?pub (?:record |data )?(\w+)(.*\n(?:(?:\1 +.*)?\n)*)", re.M)
 FIELD = re.compile(r"^ +(?:pub )?(\w+) :", re.M)
 PAGE = re.compile(r"(?<![\w./-])docs/[\w./-]*\.md")
+PICTURES = (".svg", ".png")
 OTHER_SOURCES = ["justmeadow", "crates.txt", "HANDLES", ".ci", "bench", "examples", "planted", "tests", "tools"]
 
 
@@ -18,9 +20,20 @@ def text_of(file):
     return Path(file).read_text(encoding="utf-8", errors="replace")
 
 
+@lru_cache(maxsize=None)
+def all_below(place):
+    """A file, or each file of a folder, but for what a build left in a folder `out`."""
+    if place.is_file():
+        return [place]
+    found = []
+    for folder, folders, files in os.walk(place):
+        folders[:] = sorted(it for it in folders if it not in ("out", "__pycache__"))
+        found += [Path(folder) / it for it in sorted(files)]
+    return found
+
+
 def files_below(place, *endings):
-    found = [place] if place.is_file() else sorted(place.rglob("*"))
-    return [it for it in found if it.is_file() and "out" not in it.parts and (not endings or it.suffix in endings)]
+    return [it for it in all_below(place) if not endings or it.suffix in endings]
 
 
 class Edit:
@@ -75,7 +88,7 @@ class Sources:
         files = [it for it in files if it.parent != self.top / "tests/docs"]
         found = {it.stem for it in files}
         for it in files:
-            if it.suffix not in (".svg", ".png"):
+            if it.suffix not in PICTURES:
                 found.update(IDENTIFIER.findall(text_of(it)))
         return found
 
@@ -85,7 +98,7 @@ class Sources:
         files = [self.top / "justmeadow"]
         for place in ("crates", "bench", "examples", "planted", "tests", "tools"):
             files += files_below(self.top / place)
-        files = [it for it in files if it.suffix not in (".svg", ".png", ".pyc") and it.name != "RESULTS.md" and it.parent != self.top / "tests/docs"]
+        files = [it for it in files if it.suffix not in PICTURES and it.name != "RESULTS.md" and it.parent != self.top / "tests/docs"]
         return [(str(it.relative_to(self.top)), page) for it in files for page in PAGE.findall(text_of(it))]
 
     @cached_property
