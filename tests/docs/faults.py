@@ -15,6 +15,7 @@ FAULTS = [
     ("docs/use/commands.md", "\n| 7 |", "\n| 11 |", "tells of the exit codes"),
     ("docs/use/protocol.md", "65,536", "65,535", "isn't LINE_BYTES"),
     ("docs/use/protocol.md", "2^48", "2^47", "isn't LOG_CHANGES"),
+    ("docs/develop/terms.md", None, "a box holds 1,023 letters", "isn't BOX_LETTERS"),
     ("README.md", "256", "255", "isn't ATTRIBUTES"),
     ("README.md", None, "x" * 8192, "more than 8192"),
     ("README.md", "<!-- end of figures", "987,654,321 events\n<!-- end of figures", "prints the figure 987,654,321"),

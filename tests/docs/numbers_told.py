@@ -25,8 +25,26 @@ LIMITS = [
     (r"subscriptions of .?gen", "GENERATED_SUBSCRIPTIONS"),
     (r"events of .?gen", "GENERATED_EVENTS"),
 ]
-# what the program prints itself, and the constant in it
-PRINTED = [(r"file over ([\d,]+) bytes", "FILE_BYTES"), (r"input over ([\d,]+) bytes", "SOURCE_BYTES")]
+# other sentences that print a limit, and its constant
+SENTENCES = [
+    (r"file (?:is )?over ([\d,]+) bytes", "FILE_BYTES"),
+    (r"input over ([\d,]+) bytes", "SOURCE_BYTES"),
+    (r"(2\^\d+) bytes", "SOURCE_BYTES"),
+    (r"at most (2\^\d+) entries", "LOG_CHANGES"),
+    (r"connections \(1 to ([\d,]+)\)", "LINKS"),
+    (r"at once \(1 to ([\d,]+)\)", "SEATS"),
+    (r"times \(0 to ([\d,]+)\)", "ROUNDS"),
+    (r"subscriptions \(at most ([\d,]+)\)", "GENERATED_SUBSCRIPTIONS"),
+    (r"events \(at most ([\d,]+)\)", "GENERATED_EVENTS"),
+    (r"from 0 to ([\d,]+); `place`", "ASKED"),
+    (r"name of 1 to (\d+) bytes", "NAME_BYTES"),
+    (r"1 to (\d+) bytes under which", "NAME_BYTES"),
+    (r"1 to (\d+) rising", "SET_VALUES"),
+    (r"box(?:es)? (?:holds|of) ([\d,]+)", "BOX_LETTERS"),
+    (r"lea(?:f has|ves have) at most (\d+) rows", "LEAF_ROWS"),
+    (r"with more than (\d+) rows", "LEAF_ROWS"),
+    (r"at least (\d+) more", "SHIFT_GAIN"),
+]
 
 
 def value_of(text):
@@ -38,7 +56,7 @@ def value_of(text):
 
 
 def check_limits(book, sources, report):
-    """Each row of the tables of limits prints the constant of its limit."""
+    """Each row of the tables of limits prints the constant of its limit, and so do other sentences."""
     for path in ("README.md", "docs/use/protocol.md"):
         rows = rows_of(book.page(path).section("Limits"))
         report.see(len(rows) >= 5, f"{path} has no table of limits")
@@ -48,10 +66,11 @@ def check_limits(book, sources, report):
                 if values:
                     names = next((names for pattern, names in LIMITS if re.search(pattern, said)), "")
                     report.see(values == [sources.limits.get(it) for it in names.split()], f"{path} prints '{said}: {numbers}', which isn't {names or 'a limit that is known'}")
-    for page in book.pages.values():
-        for pattern, name in PRINTED:
-            for number in re.findall(pattern, page.text):
-                report.see(value_of(number) == sources.limits[name], f"{page.path} prints {number}, which isn't {name}")
+    told = {path: page.text for path, page in book.pages.items()} | {"the script justmeadow": sources.script}
+    for path, text in told.items():
+        for pattern, name in SENTENCES:
+            for number in re.findall(pattern, re.sub(r"\s+", " ", text)):
+                report.see(value_of(number) == sources.limits[name], f"{path} prints {number}, which isn't {name}")
 
 
 def check_codes(book, sources, report):
