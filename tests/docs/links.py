@@ -4,8 +4,9 @@ from os.path import normpath
 from pathlib import PurePosixPath
 
 from pages import PLACEHOLDER
+from sources import text_of
 
-PATH = re.compile(r"(?<![\w./-])(?:crates|docs|bench|tests|tools|examples|dist|planted|\.ci)/[\w.*/-]*")
+PATH = re.compile(r"(?<![\w./-])(?:crates|docs|bench|tests|tools|examples|completion|dist|planted|\.ci)/[\w.*/-]*")
 COMMAND = re.compile(r"\./justmeadow +(\S+)")
 # of the machine on which something was written
 MACHINE = re.compile(r"(?<![\w.])/(?:work|tmp|root|home)\b[\w./-]*")
@@ -75,6 +76,11 @@ def check_commands(book, sources, report):
     for path in ("README.md", "docs/use/commands.md", "docs/justmeadow.1"):
         for command in sources.commands:
             report.see(re.search(rf"\b{command} ?\n?[A-Z.]", book.page(path).text), f"{path} has no command {command}")
+    for path in ("docs/use/commands.md", "completion/justmeadow.bash"):
+        for word in sources.script_words:
+            report.see(re.search(rf"(?<![\w-]){word}\b", text_of(book.top / path)), f"{path} doesn't have the script's {word}")
+    for command in sources.commands:
+        report.see(re.search(rf"\b{command}\b", text_of(book.top / "completion/justmeadow.bash")), f"completion/justmeadow.bash has no command {command}")
     protocol = " ".join(book.page("docs/use/protocol.md").code)
     for word in sources.requests:
         report.see(re.search(rf"\b{word}\b", protocol), f"docs/use/protocol.md doesn't have the line {word}")

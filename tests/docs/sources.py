@@ -12,12 +12,13 @@ DEFINITION = re.compile(r"^( *)(?:abbrev )?pub (?:record |data )?(\w+)(.*\n(?:(?
 FIELD = re.compile(r"^ +(?:pub )?(\w+) :", re.M)
 PAGE = re.compile(r"(?<![\w./-])docs/[\w./-]*\.md")
 PICTURES = (".svg", ".png")
-OTHER_SOURCES = ["justmeadow", "crates.txt", "HANDLES", ".ci", "bench", "examples", "planted", "tests", "tools"]
+OTHER_SOURCES = ["justmeadow", "crates.txt", "HANDLES", ".ci", "bench", "completion", "examples", "planted", "tests", "tools"]
 
 
 @lru_cache(maxsize=None)
 def text_of(file):
-    return Path(file).read_text(encoding="utf-8", errors="replace")
+    """What a file holds, or nothing where there is none."""
+    return Path(file).read_text(encoding="utf-8", errors="replace") if Path(file).is_file() else ""
 
 
 @lru_cache(maxsize=None)
@@ -59,7 +60,7 @@ class Edit:
         texts = {}
         for place, old, new in self.steps:
             file = self.crate / place
-            text = texts.get(place, text_of(file) if file.is_file() else "")
+            text = texts.get(place, text_of(file))
             if text.count(old) != 1:
                 return f"'{old.strip()}' stands {text.count(old)} times in {place}"
             texts[place] = text.replace(old, new)
@@ -96,7 +97,7 @@ class Sources:
     def pages_named(self):
         """Each page that a file of the code, a script or an example names, with that file."""
         files = [self.top / "justmeadow"]
-        for place in ("crates", "bench", "examples", "planted", "tests", "tools"):
+        for place in ("crates", "bench", "completion", "examples", "planted", "tests", "tools"):
             files += files_below(self.top / place)
         files = [it for it in files if it.suffix not in PICTURES and it.name != "RESULTS.md" and it.parent != self.top / "tests/docs"]
         return [(str(it.relative_to(self.top)), page) for it in files for page in PAGE.findall(text_of(it))]
