@@ -44,20 +44,15 @@ class Report:
             self.faults.append(fault)
 
 
-def checked(book, sources):
-    report = Report()
-    for check in CHECKS:
-        check(book, sources, report)
-    return report
-
-
 def main():
     top = Path(__file__).resolve().parents[2]
     book, sources = Book(top), Sources(top)
-    report = checked(book, sources)
+    report = Report()
+    for check in CHECKS:
+        check(book, sources, report)
     # over pages with faults a planted one tells nothing
     if not report.faults:
-        faults.check_faults(book, sources, report, checked)
+        faults.check_faults(book, sources, report, Report)
     for fault in report.faults:
         print(f"FAILED: {fault}")
     print(f"{report.passed} passed, {len(report.faults)} failed")
