@@ -1,13 +1,14 @@
 # shellcheck shell=bash disable=SC2034
-# What the scripts that run the program share; they source it. It builds the program where the gate has left none, and says so
-# on standard error. Each works in a room of its own, which goes at its end.
+# What the scripts that run the program share; they source it. They run $JUSTMEADOW_PROGRAM, or what `./justmeadow` runs. Each
+# works in a room of its own, which goes at its end.
 set -u
 top="$(cd "$(dirname "${BASH_SOURCE[0]}")/.." && pwd)"
 room="$(mktemp -d)"
 trap 'chmod -R u+rwx "$room" 2>/dev/null; rm -rf "$room"' EXIT
 passed=0
 
-built="$("$top/justmeadow" --build)" || { echo "FAILED: the program can't be built"; exit 1; }
+built="${JUSTMEADOW_PROGRAM-$("$top/justmeadow" --where)}"
+[ -x "$built" ] || { echo "FAILED: there is no program to test"; exit 1; }
 program="$room/program"
 cp "$built" "$program"
 # another user may be the one that runs it
