@@ -11,8 +11,8 @@ passed=0 failed=0
 for script in script cli drill serve clients build docs; do
     bash "$top/tests/$script.sh" 2>&1 | tee "$said" | sed "s/^/$script: /"
     status=${PIPESTATUS[0]}
-    # a script may tell what its parts came to, each in a line that ends so
-    read -r good bad < <(awk 'match($0, /[0-9]+ passed, [0-9]+ failed$/) { split(substr($0, RSTART), it, " "); good += it[1]; bad += it[3] } END { print good + 0, bad + 0 }' "$said")
+    # its last line of this form counts
+    read -r good bad < <(awk 'match($0, /^[0-9]+ passed, [0-9]+ failed/) { good = $1; bad = $3 } END { print good + 0, bad + 0 }' "$said")
     [ "$status" -eq 0 ] || [ "$bad" -gt 0 ] || bad=1
     passed=$((passed + good)) failed=$((failed + bad))
 done

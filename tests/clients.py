@@ -195,7 +195,7 @@ class Script:
 
 
 def by_the_page(schema, load):
-    """The replies that docs/protocol.md has, in one session behind a load file of one row, z."""
+    """The replies that docs/use/protocol.md has, in one session behind a load file of one row, z."""
     long = "x" * 65536
     with Server(schema, 1, 1, "--load", load) as server, Demo(server.port) as demo:
         demo.calls([

@@ -43,3 +43,14 @@ call() {
     "$program" "$@" <"$room/in" >"$room/out" 2>"$room/err"
     code=$?
 }
+
+# part COMMAND..: runs a part of the test that counts for itself, whose last line is `N passed, N failed`
+failed=0
+part() {
+    local good=0 bad=0 status
+    "$@" 2>&1 | tee "$room/part"
+    status=${PIPESTATUS[0]}
+    read -r good bad < <(awk '/^[0-9]+ passed, [0-9]+ failed$/ { good = $1; bad = $3 } END { print good + 0, bad + 0 }' "$room/part")
+    [ "$status" -eq 0 ] || [ "$bad" -gt 0 ] || bad=1
+    passed=$((passed + good)) failed=$((failed + bad))
+}
