@@ -1,4 +1,5 @@
 mod Named
+mod Counting
 mod Filing
 mod Leaving
 mod StandSteps
