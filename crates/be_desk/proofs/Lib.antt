@@ -14,5 +14,6 @@ mod Answering
 mod CoreSteps
 mod CoreRuns
 mod Openings
+mod Tending
 pub mod Places
 pub mod Closing

@@ -12,6 +12,7 @@ mod broom;
 mod changing;
 mod checking;
 mod desk;
+pub mod laws;
 mod ledger;
 mod letters;
 mod maintained;
