@@ -1,4 +1,5 @@
 mod Named
+mod Counting
 mod Filing
 mod Leaving
 mod StandSteps
@@ -13,5 +14,6 @@ mod Answering
 mod CoreSteps
 mod CoreRuns
 mod Openings
+mod Tending
 pub mod Places
 pub mod Closing

@@ -7,6 +7,7 @@ pub mod Desks
 pub mod Asks
 pub mod Changes
 pub mod Maintained
+pub mod Tends
 pub mod Registers
 pub mod Stands
 pub mod Ledgers

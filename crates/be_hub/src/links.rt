@@ -28,7 +28,7 @@ use std::sync::{MutexGuard, Wait};
 /// The session of a worker's seat is below this at the beginning: 2^61.
 pub const FIRST_END: u64 = 2305843009213693952;
 
-/// After a session the rows are maintained at most so many times, until there is memory for it.
+/// After a session the desk is tended at most so many times, until there is memory for it.
 const TRIES: u64 = 8;
 
 /// What a worker leaves of the links that it served: its seat and its count, how each session ended, in the order in which the
@@ -193,7 +193,8 @@ fn serve_session<T: Sheet<J>, J: Naming + BoxNames, S: Post, R: Wait, L: Link, G
     }
 }
 
-// Maintains the rows until there is memory for it, so that a change that is held is published.
+// Tends the desk until there is memory for it, so that a change that is held is published. It looks for a step only where a look
+// was earned.
 fn publish_held<T: Sheet<J>, J: Naming + BoxNames, S: Post, R: Wait>(
     rt: &R,
     hub: &Hub<T, J, S>,
@@ -203,9 +204,9 @@ fn publish_held<T: Sheet<J>, J: Naming + BoxNames, S: Post, R: Wait>(
 {
     for _ in 0..TRIES {
         let mut guard = hub.desk.lock(rt);
-        let done = guard.maintain(rt, broom);
+        let done = guard.tend(rt, broom);
         MutexGuard::unlock(guard);
-        if !matches!(done, Maintained::NoMemory) {
+        if !matches!(done, Some(Maintained::NoMemory)) {
             return;
         }
     }
