@@ -2,6 +2,7 @@ pub mod Numbers
 pub mod Rifts
 pub mod Seats
 pub mod Boards
+pub mod Emptied
 pub mod Closing
 pub mod Desks
 pub mod Asks
