@@ -20,7 +20,7 @@ _justmeadow() {
     case "${COMP_WORDS[1]-}" in --dist | --unproved) first=2 ;; esac
 
     if [ "$COMP_CWORD" -lt "$first" ] || [ "$COMP_CWORD" -eq 1 ]; then
-        _justmeadow_words "$current" "$commands --help --version --test --dist --where --build --unproved"
+        _justmeadow_words "$current" "$commands --help --version --test --where --dist --build --unproved"
         return
     fi
     if [ "$COMP_CWORD" -eq "$first" ]; then
