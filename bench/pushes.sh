@@ -1,6 +1,6 @@
 #!/usr/bin/env bash
 # Prints the time and the memory of pushing removals onto the list of changes, whose entries are the longest,
-# at 1,000,000 and at 2,000,000 pushes. It builds, and so proves, a program of its own. No part of the gate.
+# at 1,000,000 and at 2,000,000 pushes. It builds, and so proves, a program of its own.
 # shellcheck source=common.sh
 . "$(dirname "${BASH_SOURCE[0]}")/common.sh"
 own_crate pushes be_base be_model be_change
@@ -15,7 +15,7 @@ measure() {
 none="$(measure 0)" && once="$(measure 1000000)" && twice="$(measure 2000000)" || exit 1
 awk -v none="$none" -v once="$once" -v twice="$twice" 'BEGIN {
     split(none, n); split(once, a); split(twice, b)
-    printf "memory of an entry of the list of changes, beside its row: %.0f bytes\n", (a[2] - n[2]) * 1024 / 1000000
-    printf "appending 1,000,000 entries: %.2f s\n", a[1]
-    printf "appending 2,000,000 entries: %.2f s\n", b[1]
+    printf "memory of an entry of the list of changes, beside its row | %.0f bytes\n", (a[2] - n[2]) * 1024 / 1000000
+    printf "appending 1,000,000 entries | %.2f s\n", a[1]
+    printf "appending 2,000,000 entries | %.2f s\n", b[1]
 }'

@@ -1,6 +1,6 @@
 #!/usr/bin/env bash
 # Prints the time of reading a load file of 100,000 rows, of one of twice as many, and of one whose last row has the name
-# of the first. It builds, and so proves, a program of its own. No part of the gate.
+# of the first. It builds, and so proves, a program of its own.
 # shellcheck source=common.sh
 . "$(dirname "${BASH_SOURCE[0]}")/common.sh"
 own_crate tables be_base be_io be_model be_change be_expr be_event be_transcript be_table
@@ -26,7 +26,7 @@ measure() {
 
 some="$(measure 100001 100000 last)" && twice="$(measure 200001 200000 last)" && fault="$(measure 0 100000 n0)" || exit 1
 awk -v some="$some" -v twice="$twice" -v fault="$fault" 'BEGIN {
-    printf "reading a load file of 100,000 rows of two predicates: %.3f s\n", some
-    printf "reading one of twice as many: %.3f s\n", twice
-    printf "refusing the same name at the end of 100,000 rows: %.3f s\n", fault
+    printf "reading a load file of 100,000 rows of two predicates | %.3f s\n", some
+    printf "reading one of twice as many | %.3f s\n", twice
+    printf "refusing the same name at the end of 100,000 rows | %.3f s\n", fault
 }'
