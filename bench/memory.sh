@@ -2,7 +2,8 @@
 # Prints what memory a session takes that is empty, a live subscription of the generated kind (bench/generated.awk), all told, in
 # `run` and in `serve`, and a change that leaves nothing live. It is the most that the process had at once.
 #   bench/memory.sh                   prints the figures
-#   bench/memory.sh --table SUBS..    prints a line `SUBS RUN SERVE` for each of these numbers of subscriptions, in MiB
+#   bench/memory.sh --table SUBS..    prints a line `SUBS RUN SERVE` for each of these numbers of subscriptions, in MiB, with a - for
+#                                     a server that isn't filled within a minute
 # shellcheck source=common.sh
 . "$(dirname "${BASH_SOURCE[0]}")/common.sh"
 use_program
@@ -25,8 +26,9 @@ in_serve() {
 
 if [ "${1-}" = --table ]; then
     for subs in "${@:2}"; do
-        run="$(in_run "$subs")" && serve="$(in_serve "$subs")" || exit 1
-        figure "$subs %.1f %.1f\n" "$run / 1024, $serve / 1024"
+        run="$(in_run "$subs")" || exit 1
+        if serve="$(in_serve "$subs")"; then serve="$(figure %.1f "$serve / 1024")"; else serve=-; fi
+        figure "$subs %.1f $serve\n" "$run / 1024"
     done
     exit
 fi

@@ -5,8 +5,9 @@
 #   SQLite by python3's module, in memory: a condition is a row of ranges with an index, an event a prepared query;
 #   PostgreSQL, a server of its own on a Unix socket: likewise, by psql, an event a prepared query, or one query for all events;
 #   the selectors of ActiveMQ, evaluated in a loop as its broker does (bench/peers/Selectors.java).
-# Each answers the same events in their order, for about a second, and its hits are compared with Justmeadow's. Times are elapsed
-# ones, without the time to take the conditions. Of what isn't here it says so on standard error, and leaves it out.
+# Each answers the same events in their order, for about a second, with one process or thread that works on them, and its hits are
+# compared with Justmeadow's. Times are elapsed ones, without the time to take the conditions. What isn't here is left out, and
+# standard error says so.
 #   bench/peers.sh                   prints the figures
 #   bench/peers.sh --table SUBS..    prints a line `SUBS PEER EVENTS_A_SECOND` for each of these numbers of subscriptions
 # shellcheck source=common.sh
@@ -41,7 +42,7 @@ start_postgres() {
     [ ${#as_postgres[@]} = 0 ] || chown postgres: base || return 1
     "${as_postgres[@]}" "$postgres_folder/initdb" -D "$room/base/data" -A trust -U bench -E UTF8 --locale=C --no-sync >postgres.txt 2>&1 &&
         "${as_postgres[@]}" "$postgres_folder/pg_ctl" -D "$room/base/data" -l "$room/base/log" -s -w -t 30 \
-            -o "-c listen_addresses='' -c unix_socket_directories='$room/base' -c fsync=off -c jit=off -c max_connections=5" start >>postgres.txt 2>&1
+            -o "-c listen_addresses='' -c unix_socket_directories='$room/base' -c fsync=off -c jit=off -c max_parallel_workers_per_gather=0 -c max_connections=5" start >>postgres.txt 2>&1
 }
 
 at_end() {
@@ -132,7 +133,7 @@ names() { sed -e 's/^HIT [0-9]* [0-9]* \?//' -e 's/s//g' "$1"; }
 by_run() {
     local filling all
     cat subs.txt events.txt >both.txt
-    filling="$(fastest 3 subs.txt "$program" run schema.txt)" && all="$(fastest 3 both.txt "$program" run schema.txt)" || return 1
+    filling="$(fastest 5 subs.txt "$program" run schema.txt)" && all="$(fastest 5 both.txt "$program" run schema.txt)" || return 1
     grep ^HIT out.txt >run.txt
     names run.txt >hits
     figure '%d %f\n' "$most, $all - $filling" >seconds.txt

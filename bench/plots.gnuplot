@@ -66,8 +66,9 @@ set title 'Memory by subscriptions, in MiB at most' font 'sans-serif,18'
 set xlabel 'live subscriptions of 2.5 predicates'
 set key inside left top vertical Left reverse samplen 2 spacing 1.4
 set ytics autofreq
-set xtics ('0' 0, '50,000' 50000, '100,000' 100000, '150,000' 150000, '200,000' 200000)
-set xrange [0:205000]
+set xtics ('0' 0, '25,000' 25000, '50,000' 50000, '75,000' 75000, '100,000' 100000)
+set xrange [0:*]
+set datafile missing '-'
 set yrange [0:*]
 plot 'memory' using 1:3 with linespoints linestyle 2 title 'serve', '' using 1:2 with linespoints linestyle 1 title 'run'
 set output

@@ -50,6 +50,13 @@ fill() {
     echo "$told"
 }
 
+# filled FILE: of three times the middle, or the first one where that is over some seconds
+filled() {
+    local first
+    first="$(fill "$1")" || exit 1
+    if [ "$(figure %d "${first% *}")" -gt 3 ]; then echo "$first"; else { echo "$first"; fill "$1" && fill "$1"; } | sort -n | sed -n 2p; fi
+}
+
 # by_run FILE WORD..: the seconds that its lines take `run`
 by_run() {
     local idle took
@@ -64,7 +71,7 @@ in_bulk() {
     took="$(middle ask bulk "$tenth" 1 events.txt none)" && run="$(by_run events.txt --load "load-$tenth.txt")" || exit 1
     row "events a second in bulk over one connection, and by \`run\` from a file, with $(grouped "$tenth") subscriptions" \
         "$(grouped "$(figure %f "$most / ${took% *}")") and $(grouped "$(figure %f "$most / $run")")"
-    took="$(middle fill subs.txt)" && took_half="$(middle fill subs-half.txt)" && run="$(by_run subs.txt)" || exit 1
+    took="$(filled subs.txt)" && took_half="$(filled subs-half.txt)" && run="$(by_run subs.txt)" || exit 1
     row "$(grouped "$most") SUBs in bulk over one connection" \
         "$(figure '%.2f s, %.2f times what half as many take; by `run` %.2f s' "${took% *}, ${took% *} / ${took_half% *}, $run")"
 }
