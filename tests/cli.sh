@@ -1,6 +1,5 @@
 #!/usr/bin/env bash
-# Runs the program as the gate built it, or builds it, and compares its exit codes, standard output and
-# standard error byte for byte. Ends with 1 at the first difference.
+# Runs the program, and compares its exit codes, standard output and standard error byte for byte. Ends with 1 at the first difference.
 # shellcheck source=program.sh
 . "$(dirname "${BASH_SOURCE[0]}")/program.sh"
 
@@ -222,75 +221,6 @@ done
 
 call cover "$top/examples/ads/schema.txt" "$top/examples/ads/campaigns.txt" toys.kids
 same 'the example of covering' 0 "$(cat "$top/examples/ads/covered.txt")\n" ''
-
-# the script's own words and codes, in a checkout of three crates whose `rt` builds by writing a file
-own="$room/own"
-mkdir -p "$own/bin" "$own/top/crates"/{low,high,justmeadow}/src
-cp "$top/justmeadow" "$own/top"
-printf '# crates\nhigh: low std\njustmeadow: high\nlow:\nother: low\n' >"$own/top/crates.txt"
-touch "$own/top/crates"/{low,high,justmeadow}/src/lib.rt
-cat >"$own/bin/rt" <<'RT'
-#!/bin/sh
-echo "$* in $(basename "$(pwd)")"
-[ "$*" != lib ] || [ ! -e broken ] || exit 1
-[ "$1" != run ] || { mkdir -p out; printf '#!/bin/sh\n[ "$1" != memory ] || echo "$GLIBC_TUNABLES"\necho ran "$@"\nexit 6\n' >out/justmeadow; chmod +x out/justmeadow; }
-[ "$1" != try ] || { cat; exit 4; }
-RT
-chmod +x "$own/bin/rt"
-
-# script WORD..: runs the script of that checkout on the file `in`; what hangs on the place, the time and the disk is left out
-script() {
-    PATH="$own/bin:$PATH" "$own/top/justmeadow" "$@" <"$room/in" >"$room/out" 2>"$room/err"
-    code=$?
-    sed -i -e "s|$own/top|TOP|g" -e 's/in [0-9]* min.*/in TIME/' "$room/out" "$room/err"
-}
-
-printf 'LIST\n' >in
-how='justmeadow: for an answer in about a minute, with no proof: ./justmeadow --unproved WORD..\n'
-building="justmeadow: building the program, which proves its 3 crates. The log: TOP/out/build.log\n$how"
-building+='justmeadow: 1 of 3: low\njustmeadow: 2 of 3: high\n'
-script --help; cp out usage
-same 'the usage' 0 "$(sed 's/%/%%/g' usage)\n" ''
-for words in 'run SCHEMA' 'run SCHEMA --load FILE' 'gen NUMBER SUBS EVENTS' 'cover SCHEMA FILE NAME' 'drill SCHEMA ROUNDS FILE..' 'SUB name condition' 'UNSUB name' 'PUB event' 'COST event' LIST 'SEND event' 'FETCH most' DUMP 'TAIL place most' QUIT --help --version --build --unproved; do
-    grep -q -- "^    \(./justmeadow \)\?$words" usage || { echo "FAILED: the usage lacks $words"; exit 1; }
-done
-script; same 'the script alone' 2 '' "$(cat usage)\n"
-script --version; code=$((code + $(grep -c '^justmeadow, commit\|^proved with: version in' out)))
-: >out; same 'the version' 2 '' ''
-[ ! -e "$own/top/out" ] || { echo "FAILED: something was built for a usage"; exit 1; }
-touch "$own/top/crates/high/broken"
-script run x; sed -i '/^lib in/d' err
-same 'a crate that fails' 1 '' "${building}justmeadow: the program was not built: high failed. The log: TOP/out/build.log\n"
-rm "$own/top/crates/high/broken"
-script --build
-same 'a build' 0 'TOP/crates/justmeadow/out/justmeadow\n' "${building}justmeadow: 3 of 3: justmeadow\njustmeadow: built in TIME\n"
-script run 'a b' ''; same 'a built program, with its words and its code' 6 'ran run a b \n' ''
-unset GLIBC_TUNABLES
-script memory; same 'a program that asks for large pages' 6 'glibc.malloc.hugetlb=1\nran memory\n' ''
-GLIBC_TUNABLES= script memory; same 'or what its user says' 6 '\nran memory\n' ''
-script ''; same 'an empty word is the program'"'"'s' 6 'ran \n' ''
-script run --help; same 'a later --help is the program'"'"'s' 6 'ran run --help\n' ''
-sleep 0.01; touch "$own/top/crates/low/src/lib.rt"
-echo 'low 61' >"$own/top/out/build.times"
-script --build; grep -q '1 of 3: low (1 min 1 s the last time)$' err || { echo 'FAILED: the last time'; exit 1; }
-script --unproved run in --load=in
-same 'an unproved run' 4 "try -- run $room/in --load=$room/in in justmeadow\nLIST\n" 'justmeadow: an unproved run: nothing is checked, and the input is read to its end, at most 64 MiB, before the first reply\n'
-rm -r "$own/top/out" "$own/top/crates/justmeadow/out"
-PATH=/usr/bin:/bin "$own/top/justmeadow" run x >out 2>err <in; code=$?
-if PATH=/usr/bin:/bin command -v rt >/dev/null; then
-    echo 'skipped: no kit: the command rt stands among the system'"'"'s'
-else
-    same 'no kit' 1 '' 'justmeadow: the command rt, which builds the program, isn'"'"'t found: it is a part of the Rattle kit (README.md)\n'
-fi
-chmod -R a-w "$own/top"
-if [ -w "$own/top" ] && ! "${nobody[@]}" true 2>/dev/null; then
-    echo 'skipped: a checkout that cannot be written: this user may write everywhere'
-else
-    as=(); [ ! -w "$own/top" ] || as=("${nobody[@]}")
-    PATH="$own/bin:$PATH" "${as[@]}" "$own/top/justmeadow" run x >out 2>err <in; code=$?
-    sed -i "s|$own/top|TOP|g" err
-    same 'a checkout that cannot be written' 1 '' 'justmeadow: nothing can be written to TOP, where the build keeps its work: copy it to a folder of your own\n'
-fi
 
 # a client in another language, and a model of the page on the protocol
 if command -v python3 >/dev/null; then

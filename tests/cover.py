@@ -1,7 +1,7 @@
 #!/usr/bin/env python3
 """Compares `cover` with a plain program that tries every event of single values of a small schema: random conditions of
 every operator, each asked against all others, 3,080 pairs. Of each pair the line has to be the one that
-docs/matching.md names, byte for byte. The same pairs at each run. Its word: the program."""
+docs/use/matching.md names, byte for byte. The same pairs at each run. Its word: the program."""
 import itertools
 import random
 import subprocess

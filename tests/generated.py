@@ -1,5 +1,5 @@
 #!/usr/bin/env python3
-"""Compares `gen` with `run` over the same script: the workload is drawn here once more, from what docs/protocol.md says
+"""Compares `gen` with `run` over the same script: the workload is drawn here once more, from what docs/use/protocol.md says
 of it, its script is given to `run`, and the numbers of the replies HIT and COST are summed up. The same numbers at each
 run. Its words: the program, and how many workloads."""
 import random

@@ -1,5 +1,5 @@
 #!/usr/bin/env python3
-"""Judges what `drill` wrote, by a reading of docs/protocol.md of its own: the form to the byte, the list of changes, each
+"""Judges what `drill` wrote, by a reading of docs/use/protocol.md of its own: the form to the byte, the list of changes, each
 transcript over that list, and the letters. Of tests/model.py it has the reading of lines and the canonical texts alone.
 
     legal.py SCHEMA [--load FILE] [--ample] [--shut] OUT FILE..     judges the output OUT over these files

@@ -1,5 +1,5 @@
 #!/usr/bin/env python3
-"""Compares the program with docs/protocol.md and docs/matching.md, as a model in Python that was written from these
+"""Compares the program with docs/use/protocol.md and docs/use/matching.md, as a model in Python that was written from these
 pages alone: random sessions, good lines and faulty ones, each reply byte for byte, also over load files, and faulty load
 files. The same lines at each run. Its words: the program, and how many sessions."""
 import os
@@ -460,7 +460,7 @@ def main(program, sessions):
     # session 5 has no load file, so where it drops a letter its box is full
     if not any(reply.startswith("SENT") and reply.split()[2:] != ["0", "0"] and reply.split()[3] != "0" for reply in told[5]):
         sys.exit("FAILED: model: no box was full")
-    print(f"the model of docs/protocol.md: {len(replies)} lines of replies and {len(faults)} load files, no difference")
+    print(f"the model of docs/use/protocol.md: {len(replies)} lines of replies and {len(faults)} load files, no difference")
 
 
 if __name__ == "__main__":

@@ -1,13 +1,14 @@
 # shellcheck shell=bash disable=SC2034
-# What the scripts that run the program share; they source it. It builds the program where the gate has left none, and says so
-# on standard error. Each works in a room of its own, which goes at its end.
+# What the scripts that run the program share; they source it. They run $JUSTMEADOW_PROGRAM, or what `./justmeadow` runs. Each
+# works in a room of its own, which goes at its end.
 set -u
 top="$(cd "$(dirname "${BASH_SOURCE[0]}")/.." && pwd)"
 room="$(mktemp -d)"
 trap 'chmod -R u+rwx "$room" 2>/dev/null; rm -rf "$room"' EXIT
 passed=0
 
-built="$("$top/justmeadow" --build)" || { echo "FAILED: the program can't be built"; exit 1; }
+built="${JUSTMEADOW_PROGRAM-$("$top/justmeadow" --where)}"
+[ -x "$built" ] || { echo "FAILED: there is no program to test"; exit 1; }
 program="$room/program"
 cp "$built" "$program"
 # another user may be the one that runs it
@@ -41,4 +42,15 @@ same() {
 call() {
     "$program" "$@" <"$room/in" >"$room/out" 2>"$room/err"
     code=$?
+}
+
+# part COMMAND..: runs a part of the test that counts for itself, whose last line is `N passed, N failed`
+failed=0
+part() {
+    local good=0 bad=0 status
+    "$@" 2>&1 | tee "$room/part"
+    status=${PIPESTATUS[0]}
+    read -r good bad < <(awk '/^[0-9]+ passed, [0-9]+ failed$/ { good = $1; bad = $3 } END { print good + 0, bad + 0 }' "$room/part")
+    [ "$status" -eq 0 ] || [ "$bad" -gt 0 ] || bad=1
+    passed=$((passed + good)) failed=$((failed + bad))
 }

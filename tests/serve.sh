@@ -26,7 +26,14 @@ if ! command -v python3 >/dev/null; then
     echo "$passed passed, 0 failed"
     exit
 fi
-echo "serve: $passed passed, 0 failed"
-python3 "$top/tests/serve.py" "$program" || exit 1
-python3 "$top/examples/follower/follower.py" "$program" || exit 1
+part python3 "$top/tests/serve.py" "$program"
+part python3 "$top/tests/descriptors.py" "$program"
+if python3 "$top/examples/follower/follower.py" "$program"; then
+    passed=$((passed + 1))
+else
+    echo 'FAILED: the example of a follower'
+    failed=$((failed + 1))
+fi
 echo "serve took $((SECONDS - began)) s"
+echo "$passed passed, $failed failed"
+[ $failed -eq 0 ]

@@ -1,37 +1,99 @@
-"""A client of Justmeadow over the pipes of a program that it starts: `./justmeadow run SCHEMA`, or the program itself.
+#!/usr/bin/env python3
+"""A client of Justmeadow that needs Python's standard library alone. A session is one over the pipes of a program that it
+starts, over a connection to a server that runs, or over connections that are made again when they are lost:
 
     with Session(["./justmeadow", "run", "schema.txt"]) as session:
+    with Connection(7000) as session:
+    with Client(7000, patience=30) as session:
         session.subscribe("cheap", "price <= 250")
         print(session.publish("price=240"))          # ['cheap']
 
-Or over a connection to a server that runs, `./justmeadow serve schema.txt 7000 8 100`:
+`ask` sends a line and waits for its reply, `ask_all` sends many lines from a thread while it reads their replies. As a
+program it makes each line of standard input a call (`CALLS` lists them), and prints what the call returned as JSON:
 
-    with Connection(7000) as session:
-        session.subscribe("dear", "price > 900")
-
-Each line has one reply, which is there before the program waits for another line: `ask` sends a line and waits for its
-reply. Most replies are one line; those to FETCH, DUMP and TAIL have lines NOTE, ROW and AT before their last one.
-`ask_all` sends many lines from a thread while the caller reads; who sends first and reads later waits for ever, once both
-pipes are full."""
+    examples/client/justmeadow.py PORT [PATIENCE [HOST]]"""
+import collections
 import contextlib
+import json
+import re
 import socket
 import subprocess
+import sys
 import threading
-
+import time
 
 BEFORE_THE_LAST = ("NOTE ", "ROW ", "AT ")  # how those lines of a reply begin that aren't its last
+# the first word of a reply's last line: how many numbers follow it, and how many names; None is as many as the last number
+SHAPES = {
+    **dict.fromkeys(["BAD", "LONG", "NOMEM", "SHUT"], (0, 0)),
+    **dict.fromkeys(["ATTR", "DOM", "TWICE"], (0, 1)),
+    **dict.fromkeys(["OK", "HELD", "BYE", "NONE", "MANY", "END"], (1, 0)),
+    **dict.fromkeys(["DUP", "OTHER", "SPLIT", "# DUMP", "TAILED"], (2, 0)),
+    **dict.fromkeys(["COST", "SENT"], (3, 0)),
+    **dict.fromkeys(["HIT", "LIST"], (2, None)),
+}
+# the lines before it: their first word, and how many fields each has
+ROWS = {"END": ("NOTE", 4), "# DUMP": ("ROW", 3), "TAILED": ("AT", 3)}
+REFUSALS = {"BAD", "LONG", "NOMEM", "SHUT", "ATTR", "DOM", "TWICE", "MANY", "DUP", "NONE", "OTHER", "SPLIT"}
+NUMBER, NAME = re.compile(r"[0-9]+"), re.compile(r"[A-Za-z0-9_.-]+")
+
+FIRST_PAUSE, LONGEST_PAUSE = 0.05, 1.0  # seconds between two attempts
 
 
 class Refused(Exception):
-    """A reply that says that the line wasn't done: its words, as ['DUP', '1', '0']."""
+    """A reply that says that the line wasn't done: its words, as ['DUP', '1', '0'], the first of which is its kind."""
 
     def __init__(self, words):
         super().__init__(" ".join(words))
-        self.words = words
+        self.words, self.kind = words, words[0]
 
 
 class Ended(Exception):
-    """The program has ended, or has closed its output, before a whole reply."""
+    """The session has ended, or the program has closed its output, before a whole reply."""
+
+
+class Lost(Ended):
+    """A `Client` has lost its connection and with it the reply, or couldn't connect. Its next call tries again."""
+
+
+class Unreadable(Exception):
+    """A reply that the protocol doesn't have. Nothing that follows it can be trusted."""
+
+
+Reply = collections.namedtuple("Reply", "kind numbers names rows")  # rows: the fields of the lines before the last
+Kept = collections.namedtuple("Kept", "condition n")  # a subscription: it was accepted as the n-th change
+
+
+class Told(list):
+    """What a reply lists, which is true of the first n changes."""
+
+    def __init__(self, n, items):
+        super().__init__(items)
+        self.n = n
+
+
+def parse(text):
+    """What a reply says."""
+    *before, last = text.split("\n")
+    kind = "# DUMP" if last.startswith("# DUMP ") else last.split(" ", 1)[0]
+    words = last[len(kind) + 1 :].split(" ") if len(last) > len(kind) else []
+    count, named = SHAPES.get(kind, (len(words) + 1, 0))
+    numbers, names = [int(word) for word in words[:count] if NUMBER.fullmatch(word)], words[count:]
+    rows = [line.split(" ", ROWS[kind][1] - 1) for line in before] if kind in ROWS else []
+    is_last_right = len(numbers) == count and len(names) == (numbers[-1] if named is None else named) and all(map(NAME.fullmatch, names))
+    is_rest_right = len(rows) == len(before) and all((row[0], len(row)) == ROWS[kind] for row in rows)
+    if not is_last_right or not is_rest_right or (kind in ROWS and len(rows) != numbers[-1]):
+        raise Unreadable(f"no reply: {text[:200]!r}")
+    return Reply(kind, numbers, names, [row[1:] for row in rows])
+
+
+def understood(line, reply, wanted):
+    told = parse(reply)
+    if told.kind in wanted:
+        return told
+    if told.kind in REFUSALS:
+        raise Refused(reply.split(" "))
+    raise Unreadable(f"{reply[:200]!r} answers {line[:200]!r}")
 
 
 def one_line(line):
@@ -40,16 +102,67 @@ def one_line(line):
     return line.encode() + b"\n"
 
 
-class Session:
-    def __init__(self, command):
-        self.process = subprocess.Popen(command, stdin=subprocess.PIPE, stdout=subprocess.PIPE)
-        self.reader, self.writer = self.process.stdout, self.process.stdin
+def one_name(name):
+    if not NAME.fullmatch(name):
+        raise ValueError(f"{name!r} is no name: it would be read as something else")
+    return name
 
-    def __enter__(self):
-        return self
+
+class Calls(contextlib.AbstractContextManager):
+    """What may be asked of a session that has `ask`, which sends a line and returns its reply."""
 
     def __exit__(self, *_):
         self.close()
+
+    def _told(self, line, *wanted):
+        return understood(line, self.ask(line), wanted)
+
+    def subscribe(self, name, condition):
+        """Keeps the condition under the name. Returns the number of this change."""
+        return self._told(f"SUB {one_name(name)} {condition}", "OK", "HELD").numbers[0]
+
+    def unsubscribe(self, name):
+        return self._told(f"UNSUB {one_name(name)}", "OK", "HELD").numbers[0]
+
+    def _names(self, line, wanted):
+        told = self._told(line, wanted)
+        return Told(told.numbers[0], told.names)
+
+    def publish(self, event):
+        """The names of the subscriptions that the event satisfies, in order of acceptance."""
+        return self._names(f"PUB {event}", "HIT")
+
+    def names(self):
+        """The names of this session's own subscriptions, in order of acceptance."""
+        return self._names("LIST", "LIST")
+
+    def send(self, event):
+        """How many letters were put into boxes, and how many weren't."""
+        return tuple(self._told(f"SEND {event}", "SENT").numbers[1:])
+
+    def fetch(self, most):
+        """The next letters, at most so many: the name and the event of each."""
+        return [(name, event) for _, name, event in self._told(f"FETCH {most}", "END").rows]
+
+    def dump(self):
+        """All live subscriptions, as the text of a load file."""
+        told = self._told("DUMP", "# DUMP")
+        return "".join(f"ROW {name} {condition}\n" for name, condition in told.rows) + "# DUMP {} {}\n".format(*told.numbers)
+
+    def tail(self, place, most):
+        """The changes from a place on, at most so many, as their texts."""
+        told = self._told(f"TAIL {place} {most}", "TAILED")
+        return Told(told.numbers[0], [change for _, change in told.rows])
+
+    def quit(self):
+        """Ends the session. Returns the number of its leave."""
+        return self._told("QUIT", "BYE", "HELD").numbers[0]
+
+
+class Session(Calls):
+    def __init__(self, command):
+        self.process = subprocess.Popen(command, stdin=subprocess.PIPE, stdout=subprocess.PIPE)
+        self.reader, self.writer = self.process.stdout, self.process.stdin
 
     def close(self):
         """Ends the input, at which the session leaves, and returns the program's exit code."""
@@ -67,17 +180,20 @@ class Session:
         return "\n".join(lines)
 
     def _line(self):
-        line = self.reader.readline()
+        try:
+            line = self.reader.readline()
+        except OSError as error:
+            raise Ended("the connection broke off") from error
         if not line.endswith(b"\n"):
-            raise Ended(f"no whole reply, but {line!r}")
-        return line[:-1].decode("ascii")
+            raise Ended(f"no whole reply, but {line[:200]!r}")
+        return line[:-1].decode("ascii", "backslashreplace")
 
     def ask(self, line):
         """Sends one line, and returns its reply."""
         try:
             self.writer.write(one_line(line))
             self.writer.flush()
-        except (BrokenPipeError, ConnectionResetError) as error:
+        except OSError as error:
             raise Ended("the program reads no more") from error
         return self.reply()
 
@@ -94,58 +210,17 @@ class Session:
                 self.reply()
 
     def _send(self, lines):
-        with contextlib.suppress(BrokenPipeError, ConnectionResetError, ValueError):  # the reader meets the end, and says so
+        with contextlib.suppress(OSError, ValueError):  # the reader meets the end, and says so
             self.writer.write(b"".join(lines))
             self.writer.flush()
 
-    def _words(self, line, wanted):
-        words = self.ask(line).split(" ")
-        if words[0] != wanted:
-            raise Refused(words)
-        return words
-
-    def _lines(self, line, wanted):
-        lines = self.ask(line).split("\n")
-        if not lines[-1].startswith(wanted + " "):
-            raise Refused(lines[-1].split(" "))
-        return lines
-
-    def subscribe(self, name, condition):
-        return int(self._words(f"SUB {name} {condition}", "OK")[1])
-
-    def unsubscribe(self, name):
-        return int(self._words(f"UNSUB {name}", "OK")[1])
-
-    def publish(self, event):
-        """The names of the subscriptions that the event satisfies, in order of acceptance."""
-        return self._words(f"PUB {event}", "HIT")[3:]
-
-    def names(self):
-        return self._words("LIST", "LIST")[3:]
-
-    def send(self, event):
-        """How many letters were put into the box, and how many weren't."""
-        words = self._words(f"SEND {event}", "SENT")
-        return int(words[2]), int(words[3])
-
-    def fetch(self, most):
-        """The next letters, at most so many: the name and the event of each."""
-        return [tuple(line.split(" ", 3)[2:]) for line in self._lines(f"FETCH {most}", "END")[:-1]]
-
-    def dump(self):
-        """All live subscriptions, as the text of a load file."""
-        return "".join(line + "\n" for line in self._lines("DUMP", "# DUMP"))
-
-    def tail(self, place, most):
-        """The changes from a place on, at most so many, as their texts."""
-        return [line.split(" ", 2)[2] for line in self._lines(f"TAIL {place} {most}", "TAILED")[:-1]]
-
 
 class Connection(Session):
-    """A session of a server that runs, over a connection to it. While all its seats are taken, the first reply waits."""
+    """A session of a server that runs, over a connection to it. While all its seats are taken, the first reply waits. Where
+    `within` is given, a connection is lost that is silent for so many seconds while a reply is awaited."""
 
-    def __init__(self, port, host="127.0.0.1"):
-        self.socket = socket.create_connection((host, port))
+    def __init__(self, port, host="127.0.0.1", within=None):
+        self.socket = socket.create_connection((host, port), timeout=within)
         self.socket.setsockopt(socket.IPPROTO_TCP, socket.TCP_NODELAY, 1)
         self.reader, self.writer = self.socket.makefile("rb"), self.socket.makefile("wb")
 
@@ -155,5 +230,170 @@ class Connection(Session):
             self.writer.close()
             self.socket.shutdown(socket.SHUT_WR)
             self.reader.read()
-        self.reader.close()
-        self.socket.close()
+        self.abandon()
+
+    def abandon(self):
+        """Closes the connection and waits for nothing."""
+        with contextlib.suppress(OSError):
+            self.socket.shutdown(socket.SHUT_RDWR)
+        for part in (self.writer, self.reader, self.socket):
+            with contextlib.suppress(OSError):
+                part.close()
+
+
+def turns(until):
+    """Turns at something until that time, each after a longer pause than the one before."""
+    pause = FIRST_PAUSE
+    yield
+    while time.monotonic() + pause < until:
+        time.sleep(pause)
+        pause = min(2 * pause, LONGEST_PAUSE)
+        yield
+
+
+class Client(Calls):
+    """A session that outlives its connections. The next call after a loss connects again, and subscribes again what
+    `subscriptions` has, in its order. A name may still be live then, until the server sees that the old connection has ended:
+    its `DUP` is waited out. A call that may be made twice is; `send`, `fetch`, `quit`, `ask` and `ask_all` raise `Lost`. Letters
+    that weren't fetched are gone. It waits at most `patience` seconds for a reply, and as long to be connected and subscribed again."""
+
+    def __init__(self, port, host="127.0.0.1", patience=30.0):
+        self.address, self.patience = (port, host), max(patience, FIRST_PAUSE)
+        self.subscriptions = {}  # by name; an entry that is taken out isn't subscribed again
+        self.connection, self.has_ended = None, False
+        self._connect()
+
+    def close(self):
+        """Ends the session for good."""
+        self.has_ended = True
+        if self.connection:
+            self.connection.close()
+
+    def ask(self, line):
+        """Sends one line, once, and returns its reply. Where it raises `Lost`, nobody knows whether the line was done."""
+        return self.ask_all([line])[0]
+
+    def ask_all(self, lines):
+        """Sends these lines, once each, and returns their replies. It reads while it sends."""
+        self._connect()
+        lines, replies = list(lines), []
+        asked = self.connection.ask_all(lines) if len(lines) > 1 else map(self.connection.ask, lines)
+        try:
+            for line, reply in zip(lines, asked):
+                replies.append(reply)
+                self._note(line, reply)
+        except Ended as error:
+            self._abandon()
+            raise (Ended if self.has_ended else Lost)(f"no reply to {lines[len(replies)][:200]!r}") from error
+        return replies
+
+    def _note(self, line, reply):
+        """Keeps what an accepted line changed, and whether the session has ended."""
+        kind, _, number = reply.partition(" ")
+        command, name, condition = [*line.split(None, 2), "", "", ""][:3]
+        if command == "SUB" and kind in ("OK", "HELD") and number.isdigit():
+            self.subscriptions[name] = Kept(condition, int(number))
+        elif command == "UNSUB" and kind in ("OK", "HELD"):
+            self.subscriptions.pop(name, None)
+        elif kind in ("SPLIT", "BYE") or (command == "QUIT" and kind in ("HELD", "NOMEM")):
+            self.has_ended = True
+
+    def _told(self, line, *wanted):
+        ask = self.ask if line.split(" ", 1)[0] in ("SEND", "FETCH", "QUIT") else self._ask_again
+        try:
+            return understood(line, ask(line), wanted)
+        except Unreadable:
+            self.close()
+            raise
+
+    def _ask_again(self, line):
+        """Asks again after a loss. A `DUP` may then be of this very line, done just before the loss: it is waited out too."""
+        lost = reply = None
+        for _ in turns(time.monotonic() + 2 * self.patience):
+            self._connect()
+            try:
+                reply = self.ask(line)
+            except Lost as error:
+                lost, reply = error, None
+                continue
+            if not (lost and reply.startswith("DUP ")) or line.split(" ")[1] in self.subscriptions:
+                break
+        if reply is None:
+            raise lost
+        return reply
+
+    def _abandon(self):
+        if self.connection:
+            self.connection.abandon()
+        self.connection = None
+
+    def _connect(self):
+        if self.has_ended:
+            raise Ended("the session has ended")
+        until, fault = time.monotonic() + self.patience, None
+        for _ in turns(until):
+            if self.connection:
+                return
+            try:
+                self.connection = Connection(*self.address, within=max(until - time.monotonic(), FIRST_PAUSE))
+                self._subscribe_again(until)
+                self.connection.socket.settimeout(self.patience)
+                return
+            except Exception as error:
+                self._abandon()
+                if not isinstance(error, (OSError, Ended)):
+                    raise
+                fault = error
+        raise Lost(f"no session within {self.patience} seconds: {fault}") from fault
+
+    def _subscribe_again(self, until):
+        """The first name alone until it is free, since the others of the old session are free then too."""
+        left, taken = list(self.subscriptions), {}
+        for _ in turns(until):
+            taken = self._renew(left[:1]) or self._renew(left[1:])
+            if not taken:
+                return
+            left = left if left[0] in taken else list(taken)
+        raise Refused(next(iter(taken.values())).split(" "))
+
+    def _renew(self, names):
+        """Subscribes these names again. Returns those that are live still, with their replies."""
+        lines, taken = [f"SUB {name} {self.subscriptions[name].condition}" for name in names], {}
+        for name, line, reply in zip(names, lines, list(self.connection.ask_all(lines))):
+            self._note(line, reply)
+            if understood(line, reply, ("OK", "HELD", "DUP")).kind == "DUP":
+                taken[name] = reply
+        return taken
+
+
+CALLS = {  # the call, and how many words it takes, of which the last is the rest of the line
+    **{name: (getattr(Client, name), 1) for name in ("unsubscribe", "publish", "send", "fetch")},
+    **{name: (getattr(Client, name), 2) for name in ("subscribe", "tail")},
+    **{"list": (Client.names, 0), "dump": (Client.dump, 0), "quit": (Client.quit, 0)},
+    "lines": (lambda client, rest: client.ask_all(rest.split(";")), 1),
+    "kept": (lambda client: {name: kept.n for name, kept in client.subscriptions.items()}, 0),
+}
+
+
+def answer(client, line):
+    call, *words = line.split(" ", 1)
+    try:
+        function, count = CALLS[call]
+        result = function(client, *(words[0].split(" ", count - 1) if words else []))
+        return [result.n, result] if isinstance(result, Told) else result
+    except (Refused, Ended, Unreadable, KeyError, TypeError, ValueError) as error:
+        is_told = isinstance(error, (Refused, Ended, Unreadable))
+        return {type(error).__name__.lower() if is_told else "wrong": str(error)}
+
+
+def main(port, patience="30", host="127.0.0.1"):
+    try:
+        with Client(int(port), host, float(patience)) as client:
+            for line in sys.stdin:
+                print(json.dumps(answer(client, line.rstrip("\n"))), flush=True)
+    except Lost as error:
+        sys.exit(f"justmeadow: {error}")
+
+
+if __name__ == "__main__":
+    main(*sys.argv[1:])

@@ -5,3 +5,4 @@ pub mod Sums
 pub mod Kept
 pub mod Counts
 pub mod Door
+pub mod AcceptErrors

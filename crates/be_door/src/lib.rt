@@ -9,6 +9,7 @@
 //! in book.rt.
 #![tactic(auto)]
 
+mod accept_errors;
 mod book;
 mod count;
 mod door;
@@ -17,12 +18,14 @@ mod memory;
 mod meter;
 mod none;
 mod numbers;
+mod pause;
 mod stock;
 mod sums;
 mod tcp;
 mod tcp_link;
 mod views;
 
+pub use accept_errors::is_passing;
 pub use count::DoorCount;
 pub use door::Door;
 pub use memory::MemDoor;

@@ -4,15 +4,19 @@ ghost use Rattle.std.specs.Prelude.{◌≡◌, ◌+◌, IfErr, IfOk, OnOk, false
 ghost use Rattle.be_door.specs.Door.{AreAllCounts, new_door, door_sums, after_settle};
 ghost use Rattle.be_door.specs.Links.{no_numbers};
 
+use crate::accept_errors::is_passing;
 use crate::book::Book;
 use crate::count::DoorCount;
 use crate::door::Door;
+use crate::pause::Pause;
 use crate::sums::Sums;
 use crate::tcp_link::TcpLink;
 use be_base::{NoMemory, SessionNo};
 use be_io::{AcceptFault, ListenFault};
 use std::alloc::Global;
 use std::net::{Ipv4Addr, Net, OpenListener, TcpListener};
+use std::sync::Wait;
+use std::time::Clock;
 
 /// A door that gives out the connections to a port of 127.0.0.1, and drops those that come back.
 #[derive(Drop)]
@@ -48,22 +52,30 @@ impl<R: Net> TcpDoor<R> {
         let address = self.listener.as_ref()?.local_addr().ok()?;
         Some(address.port())
     }
+}
 
-    // The next connection. It waits until there is one.
+impl<R: Net + Wait + Clock> TcpDoor<R> {
+    // The next connection. It waits until there is one; where the system can't give one now, it asks again after a pause.
     fn next_link(&self) -> Result<TcpLink<R>, AcceptFault>
         ensures { IfOk result (λ link. link ≡ record { stream = link.stream; meter = no_numbers }) }
     {
         let Some(listener) = &self.listener else {
             return Err(AcceptFault::Failed);
         };
-        match listener.accept() {
-            Ok((stream, _peer)) => Ok(TcpLink::of(stream)),
-            Err(_) => Err(AcceptFault::Failed),
+        let mut pause = Pause::first();
+        for _ in self.rt.forever() {
+            match listener.accept() {
+                Ok((stream, _peer)) => return Ok(TcpLink::of(stream)),
+                Err(error) if is_passing(&error) => {}
+                Err(_) => return Err(AcceptFault::Failed),
+            }
+            pause.take(&self.rt);
         }
+        Err(AcceptFault::Failed)
     }
 }
 
-impl<R: Net> Door<TcpLink<R>> for TcpDoor<R> {
+impl<R: Net + Wait + Clock> Door<TcpLink<R>> for TcpDoor<R> {
     ghost state = { λ d. d.book };
 
     fn listen(

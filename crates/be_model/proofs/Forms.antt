@@ -1,5 +1,5 @@
--- Rising lists with one more element.
-use Rattle.std.proofs.Common.{◌≡◌, ◌↔◌, ℤ, ◌-◌, ◌<◌, ◌≤◌, true, ltb, ◌&&◌, List, [], ◌∷◌, ◌++◌, length, get_or, refl, sym, ap, ◌∙◌, arith}
+-- Rising lists with one more element, and with fewer.
+use Rattle.std.proofs.Common.{◌≡◌, ◌↔◌, ℕ, zero, suc, ℤ, ◌-◌, ◌<◌, ◌≤◌, true, ltb, ◌&&◌, List, [], ◌∷◌, ◌++◌, length, get_or, drop, refl, sym, ap, ◌∙◌, arith}
 use Rattle.std.specs.Int.Signed.{lt_z}
 use Rattle.std.proofs.lemmas.Bool.{and_from, and_parts}
 use Rattle.std.proofs.lemmas.List.{length_push, map_push, length-map, get_or-map}
@@ -12,6 +12,16 @@ use Rattle.be_model.proofs.Lists.{rises_push}
 -- a rising list with one more value
 pub rises-push : (xs : List ℤ) (v d : ℤ) → 0 < length xs → rises (xs ++ v ∷ []) ≡ (rises xs && lt_z (get_or xs (length xs - 1) d) v)
 rises-push xs v d h = rises_push rises lt_z (λ _. refl) (λ _ _ _. refl) xs v d h
+
+-- the values behind the first
+pub rises_rest : (v : ℤ) (vs : List ℤ) → rises (v ∷ vs) ≡ true → rises vs ≡ true
+rises_rest v [] h = refl
+rises_rest v (x ∷ xs) h = (and_parts (lt_z v x) (rises (x ∷ xs)) h).1
+
+pub rises_drop : (n : ℕ) (vs : List ℤ) → rises vs ≡ true → rises (drop n vs) ≡ true
+rises_drop zero vs h = h
+rises_drop (suc n) [] h = refl
+rises_drop (suc n) (v ∷ vs) h = rises_drop n vs (rises_rest v vs h)
 
 -- a set with one more value, which is above the last
 pub AreValues-push : (xs : List ℤ) (v d : ℤ) → AreValues xs → length xs < 64 → (lt_z (get_or xs (length xs - 1) d) v ≡ true ↔ AreValues (xs ++ v ∷ []))

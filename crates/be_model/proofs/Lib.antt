@@ -24,3 +24,4 @@ pub mod SetsBuilt
 pub mod TextsBack
 pub mod SetsLie
 pub mod EventPlaces
+pub mod Merging

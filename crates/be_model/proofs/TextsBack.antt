@@ -19,16 +19,13 @@ use Rattle.be_model.specs.Lies.{lies_in}
 use Rattle.be_model.specs.SetTexts.{known, has_outside, rising, meant_values, IsSpelled}
 use Rattle.be_model.specs.Texts.{value_text, value_text_at, name_at, WordsAreNames, NamesAreNames}
 use Rattle.be_model.proofs.Attributes.{all_at}
+use Rattle.be_model.proofs.Forms.{rises_rest}
 use Rattle.be_model.proofs.InSchema.{range_below, attribute_of_range}
 use Rattle.be_model.proofs.ReadBack.{names_are_found, values_are_read, values_are_words}
 
 rising_put : (v : ℤ) (vs : List ℤ) → rises (v ∷ vs) ≡ true → put_value v vs ≡ v ∷ vs
 rising_put v [] h = refl
 rising_put v (x ∷ xs) h = ap (λ b. cond b (v ∷ x ∷ xs) (cond (lt_z x v) (x ∷ put_value v xs) (x ∷ xs))) (and_parts (lt_z v x) (rises (x ∷ xs)) h).0
-
-rises_rest : (v : ℤ) (vs : List ℤ) → rises (v ∷ vs) ≡ true → rises vs ≡ true
-rises_rest v [] h = refl
-rises_rest v (x ∷ xs) h = (and_parts (lt_z v x) (rises (x ∷ xs)) h).1
 
 -- rising values are their own rising list
 rising_kept : (vs : List ℤ) → rises vs ≡ true → rising vs ≡ vs

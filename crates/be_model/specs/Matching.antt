@@ -20,6 +20,14 @@ attrs_of e = map (λ (item : AttrNo × List ℤ). item.0) e
 abbrev pub is_among : List ℤ → ℤ → Bool
 is_among xs v = list_any (λ x. int_eq x v) xs
 
+-- at least one of the values is among the set's
+abbrev pub has_some : List ℤ → List ℤ → Bool
+has_some xs vs = list_any (is_among xs) vs
+
+-- at least one of the values isn't
+abbrev pub lacks_some : List ℤ → List ℤ → Bool
+lacks_some xs vs = list_any (λ v. not (is_among xs v)) vs
+
 -- whether the value meets the comparison
 abbrev pub holds : Op → ℤ → Bool
 holds (Lt x) v = int_lt v x

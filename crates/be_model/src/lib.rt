@@ -13,6 +13,7 @@ mod laws;
 mod letters;
 mod name_lists;
 mod ops;
+mod overlaps;
 mod paths;
 mod preds;
 mod row_lists;

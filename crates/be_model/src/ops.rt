@@ -45,7 +45,21 @@ impl Op {
     pub fn meets(&self, vs: &Values) -> bool
         ensures { result ≡ meets self.now vs.now }
     {
-        vs.as_slice().iter().any(|v| self.holds(*v))
+        match vs.as_slice() {
+            [v] => self.holds(*v),
+            _ => self.meets_many(vs),
+        }
+    }
+
+    // The same, where there may be many values.
+    fn meets_many(&self, vs: &Values) -> bool
+        ensures { result ≡ meets self.now vs.now }
+    {
+        match self {
+            Op::OneOf(xs) => xs.has_some(vs),
+            Op::NoneOf(xs) => xs.lacks_some(vs),
+            _ => vs.as_slice().iter().any(|v| self.holds(*v)),
+        }
     }
 
     /// Whether each value of the comparison is in the range.

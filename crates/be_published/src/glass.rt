@@ -41,6 +41,8 @@ pub struct Glass<T: Sheet<J>, J: Naming> {
     nones: u64,
     // The steps that were planned.
     plans: Trail<Step>,
+    // The mark of the copy in which a plan last found no step. While the published copy has this mark, a plan finds none.
+    bare: Option<u64>,
 }
 
 impl<T: Sheet<J>, J: Naming> Model for Glass<T, J> {
@@ -62,6 +64,7 @@ impl<T: Sheet<J>, J: Naming> Glass<T, J> {
             reads: 0,
             nones: 0,
             plans: Trail::new(),
+            bare: None,
         }
     }
 
@@ -183,7 +186,8 @@ impl<T: Sheet<J>, J: Naming> Glass<T, J> {
         Ok(self.answer(entered, done)?.0)
     }
 
-    /// The step that reshapes the published copy next, where there is one.
+    /// The step that reshapes the published copy next, where there is one. It goes through the copy only where that changed since
+    /// a plan of this reader found none in it.
     pub fn plan(&mut self) -> Result<Option<Step>, NoRead>
         ensures counted { IfOk result (λ step. self.new ≡ after_plan self.old step) }
         ensures refused { IfErr result (Refuses self.old self.new) }
@@ -191,11 +195,16 @@ impl<T: Sheet<J>, J: Naming> Glass<T, J> {
         let Some(entered) = self.enter() else {
             return Err(self.refuse());
         };
-        let done = entered.get().plan();
+        let mark = entered.get().mark();
+        let done = if self.bare == Some(mark) {
+            Ok(None)
+        } else {
+            entered.get().plan()
+        };
         self.leave(entered);
         match done {
             Ok(step) => {
-                self.note_plan(step.as_ref());
+                self.note_plan(mark, step.as_ref());
                 Ok(step)
             }
             Err(NoMemory) => Err(NoRead::NoMemory),
@@ -294,12 +303,16 @@ impl<T: Sheet<J>, J: Naming> Glass<T, J> {
         NoRead::Shut
     }
 
-    fn note_plan(&mut self, found: Option<&Step>)
+    // Counts what a plan found in the copy of this mark.
+    fn note_plan(&mut self, mark: u64, found: Option<&Step>)
         ensures { self.new ≡ after_plan self.old (option_map (λ step. step.now) found.entry) }
     {
         match found {
             Some(step) => self.plans = self.plans.and(step),
-            None => self.nones = self.nones.saturating_add(1),
+            None => {
+                self.nones = self.nones.saturating_add(1);
+                self.bare = Some(mark);
+            }
         }
     }
 }

@@ -16,11 +16,21 @@ use std::alloc::{AllocError, Global};
 use std::marker::Model;
 use std::sync::Arc;
 
+/// The marks with which the two copies of a press begin. That of one is even, and that of the other is odd.
+pub(crate) const FIRST_MARK: u64 = 0;
+
+pub(crate) const SECOND_MARK: u64 = 1;
+
+// What a note adds to a mark.
+const MARKS_A_NOTE: u64 = 2;
+
 /// A copy that names the beginning of the history that its list is. Contracts see it as its list.
 #[derive(Drop)]
 pub struct Page<I: Index, J: Naming> {
     copy: Copy2<I>,
     front: Front<J>,
+    // It rises with each note, taken in or refused, as a refused one may change the index's shape. After 2^63 notes it begins again.
+    mark: u64,
 }
 
 impl<I: Index, J: Naming> Model for Page<I, J> {
@@ -36,7 +46,7 @@ impl<I: Index, J: Naming> Model for Page<I, J> {
 
 impl<I: Index, J: Naming> Page<I, J> {
     /// A copy of no changes. It takes no memory.
-    pub(crate) fn make(alloc: Global, index: I, front: Front<J>) -> Page<I, J>
+    pub(crate) fn make(alloc: Global, index: I, front: Front<J>, mark: u64) -> Page<I, J>
         requires empty { I.rows index ≡ [] }
         requires schema { I.schema index ≡ J.schema }
         requires bounded { I.is_bounded index ≡ true }
@@ -46,6 +56,7 @@ impl<I: Index, J: Naming> Page<I, J> {
         Page {
             copy: Copy2::make(alloc, index),
             front,
+            mark,
         }
     }
 
@@ -53,6 +64,7 @@ impl<I: Index, J: Naming> Page<I, J> {
     pub(crate) fn take_in(&mut self, note: &Note<J>) -> Result<(), NoMemory>
         ensures { MatchResult result (λ _. self.new ≡ noted self.old note.now) (λ _. self.new ≡ self.old) }
     {
+        self.mark = self.mark.wrapping_add(MARKS_A_NOTE);
         match &note.edit {
             Edit::Reshape(_) => {
                 let _done = self.copy.absorb(&note.edit);
@@ -118,5 +130,9 @@ impl<I: Index, J: Naming> Sheet<J> for Page<I, J> {
 
     fn plan(&self) -> Result<Option<Step>, NoMemory> {
         self.copy.index().plan()
+    }
+
+    fn mark(&self) -> u64 {
+        self.mark
     }
 }

@@ -12,7 +12,7 @@ use crate::front::Front;
 use crate::glass::Glass;
 use crate::history::{Book, Naming, Opened};
 use crate::notes::{Note, led_on};
-use crate::page::Page;
+use crate::page::{FIRST_MARK, Page, SECOND_MARK};
 use crate::press::Press;
 use crate::sheet::Sheet;
 use be_base::{NoMemory, SessionNo};
@@ -103,8 +103,8 @@ fn open_press<I: Index, J: Naming>(
     ensures { IfOk result (λ press. press ≡ settled (opening_of rows.items) []) }
 {
     let (book, mut front) = opened.named::<J>();
-    let mut first = Page::make(alloc, index_a, front.again());
-    let mut second = Page::make(alloc, index_b, front.again());
+    let mut first = Page::make(alloc, index_a, front.again(), FIRST_MARK);
+    let mut second = Page::make(alloc, index_b, front.again(), SECOND_MARK);
     for row in rows {
         front = add_row(alloc, &book, &front, &mut first, &mut second, row)?;
     }

@@ -55,6 +55,10 @@ pub trait Sheet<J: Naming>: Absorb<Note<J>> + Drop {
     /// The step that is to be made next, where there is one.
     fn plan(&self) -> Result<Option<Step>, NoMemory>;
 
+    /// Names the copy and its present state among the two copies of a press: the same number is the same copy, which took
+    /// in no note between.
+    fn mark(&self) -> u64;
+
     /// Notes lead its list as `noted` says.
     ghost follows: { (x y : Self) (notes : List Noted) → Self.state y ≡ fold Self.applied (Self.state x) notes → list y ≡ fold noted (list x) notes };
 }

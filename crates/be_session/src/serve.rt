@@ -106,6 +106,7 @@ pub fn serve_link<B: Board, L: Link, G: Gate>(
         match take_turn(alloc, schema, board, &mut room, &mut reader, link, &station) {
             Turn::Next => {
                 lines += 1;
+                room.let_go(alloc);
                 if lines % REPLIES_TENDED == 0 {
                     board.tend();
                 }

@@ -10,6 +10,7 @@ use std::process::ExitCode;
 use std::rt::{Env, Files};
 use std::sync::Wait;
 use std::thread::Threads;
+use std::time::Clock;
 use std::{env, io};
 
 /// The words after the program's name.
@@ -23,6 +24,7 @@ fn read_words(rt: &(impl Env + Alloc<A = Global>)) -> io::Result<Vec<String>> {
 fn serve<
     R: Threads
         + Wait
+        + Clock
         + Sync
         + Files
         + Input

@@ -16,14 +16,13 @@ use std::io;
 use std::net::{Net, TcpListener, TcpStream};
 use std::sync::Wait;
 use std::thread::Threads;
+use std::time::Clock;
 use worked_lines::answer_each;
 
 // What came of a row.
-fn served<R: Threads + Wait + Sync + Net<Listener = TcpListener, Stream = TcpStream> + Copy>(
-    rt: R,
-    alloc: Global,
-    line: &str,
-) -> Option<String> {
+fn served<
+    R: Threads + Wait + Clock + Sync + Net<Listener = TcpListener, Stream = TcpStream> + Copy,
+>(rt: R, alloc: Global, line: &str) -> Option<String> {
     let row = row::read_row(alloc, line)?;
     if row.is_tcp {
         network::served(rt, alloc, &row)

@@ -7,14 +7,14 @@ use be_door::{Door, TcpDoor};
 use std::alloc::Global;
 use std::io::{Read, Write};
 use std::net::{Ipv4Addr, Net, Shutdown, TcpListener, TcpStream};
+use std::sync::Wait;
 use std::thread::Threads;
+use std::time::Clock;
 
 /// What came of the listen, and how many peers were given back what they gave.
-pub fn served<R: Threads + Sync + Net<Listener = TcpListener, Stream = TcpStream> + Copy>(
-    rt: R,
-    alloc: Global,
-    row: &Row,
-) -> Option<String> {
+pub fn served<
+    R: Threads + Wait + Clock + Sync + Net<Listener = TcpListener, Stream = TcpStream> + Copy,
+>(rt: R, alloc: Global, row: &Row) -> Option<String> {
     let mut door = TcpDoor::make(rt, alloc);
     let counts = door.listen(0, row.links, row.workers).ok()?;
     let port = door.local_port()?;

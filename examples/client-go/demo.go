@@ -1,0 +1,112 @@
+// Makes each line of standard input a call of the client (see answer), and prints what the call returned as JSON:
+//
+//	go run examples/client-go/*.go PORT [PATIENCE [HOST]]
+package main
+
+import (
+	"bufio"
+	"encoding/json"
+	"errors"
+	"fmt"
+	"net"
+	"os"
+	"strconv"
+	"strings"
+	"time"
+)
+
+// answer makes the call that the line names, and returns what is printed of it.
+func answer(client *Client, line string) (any, error) {
+	call, rest, _ := strings.Cut(line, " ")
+	first, second, _ := strings.Cut(rest, " ")
+	number := func(word string) int { number, _ := strconv.Atoi(word); return number }
+	printed := []any{}
+	switch call {
+	case "subscribe":
+		return said(client.Subscribe(first, second))
+	case "unsubscribe":
+		return said(client.Unsubscribe(rest))
+	case "publish":
+		return said(client.Publish(rest))
+	case "list":
+		return said(client.List())
+	case "send":
+		return said(client.Send(rest))
+	case "fetch":
+		return said(client.Fetch(number(rest)))
+	case "dump":
+		return said(client.Dump())
+	case "tail":
+		return said(client.Tail(int64(number(first)), number(second)))
+	case "quit":
+		return said(client.Quit())
+	case "kept":
+		numbers := map[string]int64{}
+		for name, kept := range client.Kept {
+			numbers[name] = kept.N
+		}
+		return numbers, nil
+	case "lines":
+		replies, err := client.AskAll(strings.Split(rest, ";")...)
+		for _, reply := range replies {
+			printed = append(printed, reply.Text)
+		}
+		return printed, err
+	}
+	return nil, fmt.Errorf("%w: there is no call %s", ErrWrong, call)
+}
+
+func said(reply Reply, err error) (any, error) {
+	rows := []any{}
+	for _, row := range reply.Rows {
+		if reply.Kind == "TAILED" {
+			rows = append(rows, row[2])
+		} else {
+			rows = append(rows, row[2:])
+		}
+	}
+	switch reply.Kind {
+	case "OK", "HELD", "BYE":
+		return reply.Numbers[0], err
+	case "HIT", "LIST":
+		return []any{reply.Numbers[0], reply.Names}, err
+	case "SENT":
+		return reply.Numbers[1:], err
+	case "END":
+		return rows, err
+	case "TAILED":
+		return []any{reply.Numbers[0], rows}, err
+	case "# DUMP":
+		return reply.Text + "\n", err
+	}
+	return reply.Numbers, err
+}
+
+func kindOf(err error) string {
+	for kind, known := range map[string]error{"lost": ErrLost, "ended": ErrEnded, "unreadable": ErrUnreadable, "wrong": ErrWrong} {
+		if errors.Is(err, known) {
+			return kind
+		}
+	}
+	return "refused"
+}
+
+func main() {
+	words := os.Args[1:]
+	words = append(words, []string{"", "30", "127.0.0.1"}[len(words):]...)
+	patience, _ := time.ParseDuration(words[1] + "s")
+	client, err := Connect(net.JoinHostPort(words[2], words[0]), patience)
+	if err != nil {
+		fmt.Fprintln(os.Stderr, "justmeadow:", err)
+		os.Exit(1)
+	}
+	defer client.Close()
+	input, output := bufio.NewReader(os.Stdin), json.NewEncoder(os.Stdout)
+	for line, err := input.ReadString('\n'); err == nil; line, err = input.ReadString('\n') {
+		printed, failed := answer(client, strings.TrimSuffix(line, "\n"))
+		if failed != nil {
+			printed = map[string]string{kindOf(failed): failed.Error()}
+		}
+		output.Encode(printed)
+	}
+}
