@@ -44,4 +44,4 @@ awk 'NF != 8 { exit 1 }' rows || fail "a run failed"
 middle() { awk -v pubs="$pubs" "{ print $1 }" rows | sort -g | sed -n 2p; }
 one="$(middle 'pubs / ($2 - $1)')" two="$(middle '2 * pubs / ($4 - $3)')" four="$(middle '4 * pubs / ($6 - $5)')"
 row "events a second of \`drill\` of 1, 2 and 4 files over $(grouped "$subs") subscriptions" "$(grouped "$one"), $(grouped "$two") and $(grouped "$four")"
-row "3 files beside one of $(grouped "$changes") changes" "$(figure '%.2f times as long as alone' "$(middle '($8 - $5) / ($7 - $5)')")"
+row "3 files of \`drill\` beside one that changes $(grouped "$changes") times" "$(figure '%.2f times as long as alone' "$(middle '($8 - $5) / ($7 - $5)')")"

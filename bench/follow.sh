@@ -20,5 +20,5 @@ echo 'PUB price=1' >in.txt
 seconds="$(least 3 in.txt "$program" follow schema.txt feed)"
 [ "$(cat status)" = 0 ] || fail "follow ended with $(cat status): $(cat err.txt)"
 follower="$(peak in.txt "$program" follow schema.txt feed)" && leader="$(peak script.txt "$program" run schema.txt)" || exit 1
-row "lines of a feed a second, by \`follow\`, of $(grouped "$changes")" "$(grouped "$(figure %f "$changes / $seconds")")"
-row "its memory at most, and that of \`run\` with the same changes" "$(figure '%.0f and %.0f MiB' "$follower / 1024, $leader / 1024")"
+row "lines of a feed a second, by \`follow\`, of $(grouped "$changes")" \
+    "$(grouped "$(figure %f "$changes / $seconds")"); $(figure '%.0f MiB of memory at most, and %.0f by `run` with the same changes' "$follower / 1024, $leader / 1024")"

@@ -1,6 +1,6 @@
 #!/usr/bin/env bash
 # Prints how many events a second Justmeadow answers, and others on the same work: conditions and events like a market's
-# (bench/market.awk), over 1,000 and 10,000 subscriptions. The others are
+# (bench/market.awk), over 1,000, 10,000 and 100,000 subscriptions. The others are
 #   a plain filter in C (bench/peers/filter.c), which tests all conditions;
 #   SQLite by python3's module, in memory: a condition is a row of ranges with an index, an event a prepared query;
 #   PostgreSQL, a server of its own on a Unix socket: likewise, by psql, an event a prepared query, or one query for all events;
@@ -183,13 +183,13 @@ declare -A texts=(
     [postgres_at_once]='PostgreSQL, one query for all events'
     [activemq]='the selectors of ActiveMQ'
 )
-few="$(scaled 1000)" many="$(scaled 10000)"
-over "$few" >few.txt && over "$many" >many.txt || exit 1
-read -r _ _ few_run <few.txt
-read -r _ _ many_run <many.txt
-while read -r _ peer few_rate _ _ many_rate; do
-    ratio="$(figure '%.2g and %.2g' "$few_rate / $few_run, $many_rate / $many_run")"
-    [ "$peer" = run ] && ratio= || ratio=", $ratio times those of \`run\`"
-    row "events a second over $(grouped "$few") and $(grouped "$many") subscriptions like a market's, by ${texts[$peer]}" \
-        "$(grouped "$few_rate") and $(grouped "$many_rate")$ratio"
-done < <(paste -d ' ' few.txt many.txt)
+sizes=("$(scaled 1000)" "$(scaled 10000)" "$(scaled 100000)")
+for subs in "${sizes[@]}"; do over "$subs" || exit 1; done >table.txt
+for peer in "${peers[@]}"; do
+    # its figures, and the parts of Justmeadow's that they are
+    mapfile -t rates < <(awk -v peer="$peer" '$2 == peer { print $3 }' table.txt)
+    mapfile -t parts < <(awk -v peer="$peer" '$2 == "run" { run = $3 } $2 == peer { printf "%.2g\n", $3 / run }' table.txt)
+    [ "$peer" = run ] && ratio= || ratio=", ${parts[0]}; ${parts[1]}; ${parts[2]} times those of \`run\`"
+    row "events a second over $(grouped "${sizes[0]}"), $(grouped "${sizes[1]}") and $(grouped "${sizes[2]}") subscriptions like a market's, by ${texts[$peer]}" \
+        "$(grouped "${rates[0]}"); $(grouped "${rates[1]}"); $(grouped "${rates[2]}")$ratio"
+done

@@ -13,9 +13,9 @@ mkdir -p "$folder"
 export BENCH_PROGRAM="$program"
 cd "$room" || exit 1
 
-bash "$top/bench/peers.sh" --table 100 300 1000 3000 10000 30000 100000 >events || fail "events.svg isn't drawn"
-bash "$top/bench/serve.sh" --table 1 2 4 8 16 >trips || fail "roundtrips.svg isn't drawn"
-bash "$top/bench/memory.sh" --table "$(scaled 1000)" "$(scaled 25000)" "$(scaled 50000)" "$(scaled 75000)" "$(scaled 100000)" >memory || fail "memory.svg isn't drawn"
+timeout 240 bash "$top/bench/peers.sh" --table 100 300 1000 3000 10000 30000 100000 >events || fail "events.svg isn't drawn"
+timeout 240 bash "$top/bench/serve.sh" --table 1 2 4 8 16 >trips || fail "roundtrips.svg isn't drawn"
+timeout 240 bash "$top/bench/memory.sh" --table "$(scaled 1000)" "$(scaled 25000)" "$(scaled 50000)" "$(scaled 75000)" "$(scaled 100000)" >memory || fail "memory.svg isn't drawn"
 
 {
     echo "made = '$(stated)'"

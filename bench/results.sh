@@ -9,12 +9,12 @@
 set -o pipefail
 use_program
 export BENCH_PROGRAM="$program"
-scripts=(peers run changes serve memory load follow drill cover schemas long_line)
+scripts=(peers run changes memory serve drill follow load cover)
 failed=()
 
 for script in "${scripts[@]}"; do
     echo "$script .." >&2
-    bash "$top/bench/$script.sh" >"$room/$script.rows" || failed+=("$script")
+    timeout 180 bash "$top/bench/$script.sh" >"$room/$script.rows" || failed+=("$script")
 done
 
 machine() {
@@ -44,27 +44,32 @@ HEAD
 # taken SCRIPT WHAT: the figure of that script's first row whose text has these words
 taken() { awk -F ' [|] ' -v what="$2" 'index($1, what) { print $2; exit }' "$room/$1.rows"; }
 
-# the peers' figures over the greater number of subscriptions, a row each
-by_peers() {
-    awk -F ' [|] ' '{
-        sub(/ over [0-9,]* and /, " over ", $1)
-        split($2, parts, " and ")
-        sub(/, .*/, "", parts[2])
-        print "| " $1 " | " parts[2] " |"
-    }' "$room/peers.rows"
+# by_peer WORDS PLACE: of the peer whose text has these words the figure over the number of subscriptions at this place
+by_peer() { taken peers "$1" | awk -F '; ' -v place="$2" '{ sub(/, .*/, "", $3); print $place }'; }
+
+# events PLACE: what each peer answers, as cells of a table
+events() {
+    local all
+    all="$(by_peer 'one query for all' "$1")"
+    echo "$(by_peer 'Justmeadow, `run`' "$1") | $(by_peer 'PostgreSQL, an event' "$1")${all:+; $all in one query} | $(by_peer SQLite "$1") | $(by_peer ActiveMQ "$1") | $(by_peer 'plain filter' "$1")"
 }
+
+# first SCRIPT WHAT: of a figure that has several parts the first
+first() { taken "$1" "$2" | sed 's/;.*//'; }
 
 figures() {
     cat <<TABLE
-| What | Figure |
-|---|---|
-$(by_peers)
-| SUBs a second, by \`run\` | $(taken changes SUBs | sed 's/;.*//') |
-| round trips a second of \`serve\`, over one connection and over four | $(taken serve 'one connection' | sed 's/;.*//') and $(taken serve 'four connections' | sed 's/;.*//') |
-| memory of a live subscription, in \`run\` and in \`serve\` | $(taken memory 'live subscription') |
-| an event over $(grouped "$(scaled 100000)") subscriptions like a market's | $(taken run "like a market's") |
 
-Measured at $(stated), on $(machine). [bench/RESULTS.md](bench/RESULTS.md) has the others.
+| What | Justmeadow | PostgreSQL | SQLite | ActiveMQ selectors | a plain filter |
+|---|---|---|---|---|---|
+| events a second over $(grouped "$(scaled 10000)") subscriptions, \`run\` | $(events 2) |
+| events a second over $(grouped "$(scaled 100000)") subscriptions, \`run\` | $(events 3) |
+| round trips a second of \`serve\`, one client and four | $(first serve 'one connection') and $(first serve 'four connections') | | | | |
+| \`SUB\` lines a second, \`run\` | $(first changes SUBs) | | | | |
+| memory of a live subscription of 2.5 predicates, \`run\` and \`serve\` | $(taken memory 'live subscription') | | | | |
+
+Measured at $(stated), on $(machine). [bench/RESULTS.md](bench/RESULTS.md) has all figures, each with its script.
+
 TABLE
 }
 

@@ -1,7 +1,6 @@
 #!/usr/bin/env bash
-# Prints what an event takes in `run` over many subscriptions, and how many it finds: its processor time, with reading the line and
-# writing the reply, the least of three runs. The conditions and events are like a market's (bench/market.awk), or of the generated
-# kind (bench/generated.awk), of which an event finds a twentieth.
+# Prints what an event of the generated kind (bench/generated.awk) takes in `run`, which finds a twentieth of the subscriptions, with
+# reading the line and writing the reply: processor time, the least of three runs. bench/peers.sh has events that find few.
 # shellcheck source=common.sh
 . "$(dirname "${BASH_SOURCE[0]}")/common.sh"
 use_program
@@ -9,16 +8,15 @@ pin=()
 ! taskset -c 0 true 2>/dev/null || pin=(taskset -c 0)
 cd "$room" || exit 1
 
-# event KIND TEXT SUBS EVENTS
+# event SUBS EVENTS
 event() {
     local kept all hits
-    schema "$1" >schema.txt
-    script "$1" "$3" 0 >script.txt && kept="$(least 3 script.txt "${pin[@]}" "$program" run schema.txt)" || exit 1
-    script "$1" "$3" "$4" >script.txt && all="$(least 3 script.txt "${pin[@]}" "$program" run schema.txt)" || exit 1
+    script generated "$1" 0 >script.txt && kept="$(least 3 script.txt "${pin[@]}" "$program" run schema.txt)" || exit 1
+    script generated "$1" "$2" >script.txt && all="$(least 3 script.txt "${pin[@]}" "$program" run schema.txt)" || exit 1
     hits="$(awk '$1 == "HIT" { hits += $3; events++ } END { printf "%.0f", hits / events }' out.txt)"
-    row "an event over $(grouped "$3") subscriptions $2, of which it finds $(grouped "$hits")" "$(figure '%.1f µs' "1e6 * ($all - $kept) / $4")"
+    row "an event over $(grouped "$1") subscriptions of which it finds a twentieth, $(grouped "$hits")" "$(figure '%.0f µs' "1e6 * ($all - $kept) / $2")"
 }
 
-event market "like a market's" "$(scaled 100000)" 100000
-event generated "of the generated kind" "$(scaled 10000)" 5000
-event generated "of the generated kind" "$(scaled 100000)" 500
+schema generated >schema.txt
+event "$(scaled 10000)" 5000
+event "$(scaled 100000)" 500

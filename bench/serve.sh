@@ -14,7 +14,7 @@ compiled client client.c
 cd "$room" || exit 1
 schema market >schema.txt
 most="$(scaled 100000)" half="$(scaled 50000)" fifth="$(scaled 20000)" tenth="$(scaled 10000)"
-seconds="${BENCH_SMALL:+0.3}" seconds="${seconds:-1.5}"
+seconds="${BENCH_SMALL:+0.3}" seconds="${seconds:-1}"
 script market "$most" 0 >subs.txt
 head -n "$half" subs.txt >subs-half.txt
 for rows in "$most" "$fifth" "$tenth"; do head -n "$rows" subs.txt | sed 's/^SUB/ROW/' >"load-$rows.txt"; done
@@ -95,11 +95,18 @@ beside() {
         "medians ${alone% *} and ${both% *} µs, 99th percentiles ${alone#* } and ${both#* } µs"
 }
 
-# sixteenth ROWS
-sixteenth() {
+# every ROWS: the median of each sixteenth reply, where that is the longest, and of the others
+every() {
     local found
     found="$(middle ask every "$1" 1 "$(figure %.1f "2 * $seconds")" events.txt)" || exit 1
-    row "each sixteenth reply, and the others, where nothing changes, with $(grouped "$1") subscriptions" "medians ${found% *} and ${found#* } µs"
+    echo "${found% *} and ${found#* } µs"
+}
+
+sixteenth() {
+    local some many
+    some="$(every "$fifth")" && many="$(every "$most")" || exit 1
+    row "each sixteenth reply, and the others, where nothing changes, with $(grouped "$fifth") and with $(grouped "$most") subscriptions" \
+        "medians $some; $many"
 }
 
 if [ "${1-}" = --table ]; then
@@ -116,5 +123,4 @@ in_bulk
 mixed "$fifth"
 mixed "$most"
 beside
-sixteenth "$fifth"
-sixteenth "$most"
+sixteenth
