@@ -66,14 +66,22 @@ by_run() {
 }
 
 in_bulk() {
-    local took took_half run
+    local took run
     # the process of a server isn't asked for its memory here
     took="$(middle ask bulk "$tenth" 1 events.txt none)" && run="$(by_run events.txt --load "load-$tenth.txt")" || exit 1
     row "events a second in bulk over one connection, and by \`run\` from a file, with $(grouped "$tenth") subscriptions" \
         "$(grouped "$(figure %f "$most / ${took% *}")") and $(grouped "$(figure %f "$most / $run")")"
-    took="$(filled subs.txt)" && took_half="$(filled subs-half.txt)" && run="$(by_run subs.txt)" || exit 1
-    row "$(grouped "$most") SUBs in bulk over one connection" \
-        "$(figure '%.2f s, %.2f times what half as many take; by `run` %.2f s' "${took% *}, ${took% *} / ${took_half% *}, $run")"
+}
+
+filling() {
+    local took took_half run
+    run="$(by_run subs.txt)" || exit 1
+    if took="$(filled subs.txt)" && took_half="$(filled subs-half.txt)"; then
+        took="$(figure '%.2f s, %.2f times what half as many take' "${took% *}, ${took% *} / ${took_half% *}")"
+    else
+        took='over a minute'
+    fi
+    row "$(grouped "$most") SUBs in bulk over one connection" "$took; by \`run\` $(figure %.2f "$run") s"
 }
 
 # mixed ROWS
@@ -124,3 +132,4 @@ mixed "$fifth"
 mixed "$most"
 beside
 sixteenth
+filling
