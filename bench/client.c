@@ -6,8 +6,9 @@
 //   client bulk PORT FILE PID        all lines at once, while the replies are read; prints the seconds, and the most memory, in KiB,
 //                                    that the process PID has had meanwhile
 //   client answers PORT SECONDS FILE OUT   one connection that waits for each reply, and writes it to OUT; prints how many, and the seconds
-//   client beside PORT SECONDS FLOOD one connection makes and removes a name, again and again; prints the median and the 99th
-//                                    percentile of a removal in microseconds. With FLOOD 1 another one sends LFs alone meanwhile.
+//   client beside PORT SECONDS CONDITION FLOOD   one connection makes a name with this condition and removes it after a millisecond,
+//                                    again and again; prints the median and the 99th percentile of a removal in microseconds.
+//                                    With FLOOD 1 another one sends LFs alone meanwhile.
 #include <arpa/inet.h>
 #include <errno.h>
 #include <netinet/tcp.h>
@@ -352,17 +353,24 @@ static void *floods(void *argument) {
     return NULL;
 }
 
-static void beside(int port, double seconds, bool flood) {
+static void beside(int port, double seconds, const char *condition, bool flood) {
     struct connection *own = connected(port), *other = connected(port);
     struct times times = {0};
     pthread_t flooding;
-    const char subscribe[] = "SUB own symbol = 7 and price between 5 and 10\n", remove[] = "UNSUB own\n";
+    char subscribe[256];
+    const char remove[] = "UNSUB own\n";
+    size_t size = (size_t)snprintf(subscribe, sizeof subscribe, "SUB own %s\n", condition);
+    if (size >= sizeof subscribe) fail("the condition is too long");
     trip(own, "PUB -\n", 6);
     trip(other, "PUB -\n", 6);
     if (flood && pthread_create(&flooding, NULL, floods, other)) fail("no thread");
     uint64_t since = now();
+    uint64_t pause = 20111;
     do {
-        trip(own, subscribe, sizeof subscribe - 1);
+        trip(own, subscribe, size);
+        // from half a millisecond to one and a half, so that a removal comes at any time of what the other one causes
+        pause = pause * 16807 % 2147483647;
+        usleep((useconds_t)(500 + pause % 1000));
         puts_time(&times, trip(own, remove, sizeof remove - 1));
     } while (now() - since < (uint64_t)(seconds * 1e9));
     ended = true;
@@ -384,8 +392,8 @@ int main(int count, char **words) {
         bulk(port, words[3], words[4]);
     } else if (count == 6 && strcmp(word, "answers") == 0) {
         answers(port, atof(words[3]), words[4], words[5]);
-    } else if (count == 5 && strcmp(word, "beside") == 0) {
-        beside(port, atof(words[3]), atoi(words[4]) != 0);
+    } else if (count == 6 && strcmp(word, "beside") == 0) {
+        beside(port, atof(words[3]), words[4], atoi(words[5]) != 0);
     } else {
         fail("the words have no reading");
     }

@@ -1,8 +1,9 @@
 #!/usr/bin/env bash
-# Prints how fast `serve` answers over connections to 127.0.0.1, of conditions and events like a market's: round trips, lines in
-# bulk, how long it takes to fill it, a mixed load, a removal beside a client that sends empty lines alone, and whether each
-# sixteenth reply takes longer than the others. The clients run on the same machine (bench/client.c), each a thread, and their
-# time counts. Times are elapsed ones: of three runs the middle, of the mixed load one run.
+# Prints how fast `serve` answers over connections to 127.0.0.1. Of conditions and events like a market's (bench/market.awk): round
+# trips, lines in bulk, a mixed load. Of conditions of the generated kind (bench/generated.awk), of which more stand in one place of
+# the tree: a removal beside a client that sends empty lines alone, and whether each sixteenth reply takes longer than the others,
+# where events assign nothing and find nothing. Of both: how long it takes to fill it. The clients run on the same machine
+# (bench/client.c), each a thread, and their time counts. Times are elapsed ones: of three runs the middle, of the mixed load one run.
 #   bench/serve.sh                          prints the figures
 #   bench/serve.sh --table CONNECTIONS..    prints a line `CONNECTIONS TRIPS_A_SECOND` for each of these numbers of connections
 # shellcheck source=common.sh
@@ -12,14 +13,18 @@ use_program
 need python3 python3
 compiled client client.c
 cd "$room" || exit 1
-schema market >schema.txt
-most="$(scaled 100000)" half="$(scaled 50000)" fifth="$(scaled 20000)" tenth="$(scaled 10000)"
+most="$(scaled 100000)" fifth="$(scaled 20000)" tenth="$(scaled 10000)"
 seconds="${BENCH_SMALL:+0.3}" seconds="${seconds:-1}"
-script market "$most" 0 >subs.txt
-head -n "$half" subs.txt >subs-half.txt
-for rows in "$most" "$fifth" "$tenth"; do head -n "$rows" subs.txt | sed 's/^SUB/ROW/' >"load-$rows.txt"; done
-script market 0 "$most" >events.txt
 : >none.txt
+
+# conditions KIND: the schema and the conditions of the servers from here on
+conditions() {
+    local rows
+    schema "$1" >schema.txt
+    script "$1" "$most" 0 >subs.txt
+    head -n $((most / 2)) subs.txt >subs-half.txt
+    for rows in "$most" "$fifth" "$tenth"; do head -n "$rows" subs.txt | sed 's/^SUB/ROW/' >"load-$rows.txt"; done
+}
 
 # ask CLIENT'S WORD ROWS SEATS WORD..: what a client says of a new server over so many rows
 ask() {
@@ -73,6 +78,7 @@ in_bulk() {
         "$(grouped "$(figure %f "$most / ${took% *}")") and $(grouped "$(figure %f "$most / $run")")"
 }
 
+# filling TEXT
 filling() {
     local took took_half run
     run="$(by_run subs.txt)" || exit 1
@@ -81,7 +87,7 @@ filling() {
     else
         took='over a minute'
     fi
-    row "$(grouped "$most") SUBs in bulk over one connection" "$took; by \`run\` $(figure %.2f "$run") s"
+    row "$(grouped "$most") SUBs $1 in bulk over one connection" "$took; by \`run\` $(figure %.2f "$run") s"
 }
 
 # mixed ROWS
@@ -97,8 +103,8 @@ mixed() {
 }
 
 beside() {
-    local alone both
-    alone="$(middle ask beside "$most" 2 "$seconds" 0)" && both="$(middle ask beside "$most" 2 "$seconds" 1)" || exit 1
+    local alone both condition='a0 between 5 and 10 and a1 = 7'
+    alone="$(middle ask beside "$most" 2 "$seconds" "$condition" 0)" && both="$(middle ask beside "$most" 2 "$seconds" "$condition" 1)" || exit 1
     row "an UNSUB alone, and beside a client that sends empty lines without a pause, with $(grouped "$most") subscriptions" \
         "medians ${alone% *} and ${both% *} µs, 99th percentiles ${alone#* } and ${both#* } µs"
 }
@@ -106,7 +112,7 @@ beside() {
 # every ROWS: the median of each sixteenth reply, where that is the longest, and of the others
 every() {
     local found
-    found="$(middle ask every "$1" 1 "$(figure %.1f "2 * $seconds")" events.txt)" || exit 1
+    found="$(middle ask every "$1" 1 "$(figure %.1f "2 * $seconds")" empty.txt)" || exit 1
     echo "${found% *} and ${found#* } µs"
 }
 
@@ -117,6 +123,9 @@ sixteenth() {
         "medians $some; $many"
 }
 
+conditions market
+script market 0 "$most" >events.txt
+echo 'PUB -' >empty.txt
 if [ "${1-}" = --table ]; then
     for connections in "${@:2}"; do
         found="$(trips "$connections")" || exit 1
@@ -130,6 +139,8 @@ round_trips 'four connections' 4
 in_bulk
 mixed "$fifth"
 mixed "$most"
+filling "like a market's"
+conditions generated
 beside
 sixteenth
-filling
+filling "of the generated kind"
