@@ -13,7 +13,7 @@ _justmeadow_words() {
 }
 
 _justmeadow() {
-    local current="${COMP_WORDS[COMP_CWORD]}" first=1 place word
+    local current="${COMP_WORDS[COMP_CWORD]}" before first=1 place word
     local commands="run serve drill heat follow cover gen"
     COMPREPLY=()
     # behind --dist and --unproved stand the program's words
@@ -27,14 +27,17 @@ _justmeadow() {
         _justmeadow_words "$current" "$commands"
         return
     fi
-    if [ "${COMP_WORDS[COMP_CWORD - 1]}" = --load ]; then
-        _justmeadow_files "$current"
+    # bash makes three words of --load=FILE
+    before="${COMP_WORDS[COMP_CWORD - 1]}"
+    [ "$before" != = ] || before="${COMP_WORDS[COMP_CWORD - 2]}"
+    if [ "$before" = --load ]; then
+        _justmeadow_files "${current#=}"
         return
     fi
     # the place of this word behind the command, without --load and its file
     place=$((COMP_CWORD - first))
     for word in "${COMP_WORDS[@]:first:COMP_CWORD - first}"; do
-        [ "$word" != --load ] || place=$((place - 2))
+        case "$word" in --load) place=$((place - 2)) ;; =) place=$((place - 1)) ;; esac
     done
     case "${COMP_WORDS[first]}:$current" in
         run:-* | serve:-* | drill:-*) _justmeadow_words "$current" --load ;;

@@ -81,11 +81,21 @@ chmod -R u+w "$own/top"
 touch there
 script run there --load missing; same 'a load file that is missing' 6 'ran run there --load missing\n' "justmeadow: there is no file 'missing'\n"
 script run --load=missing gone; same 'two files that are missing' 6 'ran run --load=missing gone\n' "justmeadow: there is no file 'missing'\njustmeadow: there is no file 'gone'\n"
+script run --load missing; same 'too few words' 6 'ran run --load missing\n' ''
+script follow missing; same 'too few words for follow' 6 'ran follow missing\n' ''
+script run -- -x; same 'a name behind a separator' 6 'ran run -- -x\n' "justmeadow: there is no file '-x'\n"
 script serve there 7000 2 2; same 'no file is missing' 6 'ran serve there 7000 2 2\n' ''
 script drill there 10 there missing; same 'a file of lines that is missing' 6 'ran drill there 10 there missing\n' "justmeadow: there is no file 'missing'\n"
 script follow missing there; same 'a schema that is missing' 6 'ran follow missing there\n' "justmeadow: there is no file 'missing'\n"
 script cover there there name; same 'a name is no file' 6 'ran cover there there name\n' ''
 script gen 7 1 1; same 'numbers are no files' 6 'ran gen 7 1 1\n' ''
+
+# another program in dist
+cp "$own/top/dist/justmeadow-x86_64-linux" kept
+sleep 0.01; echo '# more' >>"$own/top/dist/justmeadow-x86_64-linux"
+script --where; same 'a program with another checksum' 0 'TOP/out/justmeadow\n' "justmeadow: the sources aren't those that dist/justmeadow-x86_64-linux was built from: it is built now (--dist runs that one all the same)\n"
+cp kept "$own/top/dist/justmeadow-x86_64-linux"
+rm -r "$own/top/out"
 
 # other sources
 differ='justmeadow: the sources aren'"'"'t those that dist/justmeadow-x86_64-linux was built from: it is built now (--dist runs that one all the same)\n'

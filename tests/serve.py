@@ -91,6 +91,22 @@ def each_reply_at_once(schema):
     same("two links", server.end(), (0, b"== LOG 3\nSUB 1 0 a all\nBYE 1 1\nBYE 2 0\nSERVED 2 3\n", b""))
 
 
+def an_empty_box(schema):
+    """A client leaves its box full, and the next one on the seat gets its own letter, and none of those."""
+    server = Server(PROGRAM, schema, 1, 2)
+    first = server.client()
+    first.send(b"SUB a all\n" + b"SEND -\n" * 1030)
+    first.finish()
+    same("a full box", first.came, b"OK 1\n" + b"SENT 1 1 0\n" * 1024 + b"SENT 1 0 1\n" * 6)
+    second = server.client()
+    same("an empty box: a change", second.ask("SUB b all"), "OK 3")
+    same("an empty box: a letter", second.ask("SEND -"), "SENT 3 1 0")
+    second.send(b"FETCH 5\n")
+    second.finish()
+    same("an empty box: what is fetched", second.came.split(b"\n")[2:], [b"NOTE 3 b -", b"END 1", b""])
+    same("an empty box", server.end(), (0, b"== LOG 4\nSUB 1 0 a all\nBYE 1 1\nSUB 2 0 b all\nBYE 2 1\nSERVED 2 4\n", b""))
+
+
 def the_client(schema):
     """Two sessions by the client of examples/client, which see each other's changes."""
     server = Server(PROGRAM, schema, 2, 2)
@@ -250,6 +266,7 @@ def main():
             sys.exit(fault)
         one_client(schema)
         each_reply_at_once(schema)
+        an_empty_box(schema)
         the_client(schema)
         taken_port(schema)
         half_a_line(schema)

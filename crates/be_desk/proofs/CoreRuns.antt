@@ -23,7 +23,7 @@ use Rattle.be_desk.specs.declared.ask.Ask.TheVariants.{Subscribe, Unsubscribe, L
 use Rattle.be_desk.specs.Asks.{request_of}
 use Rattle.be_desk.specs.Desks.{DeskState, IsHeld, freed}
 use Rattle.be_desk.specs.Seats.{SeatState}
-use Rattle.be_desk.specs.Changes.{serial_in, Agrees, Stays, Grew, IsRefusal, Changed, Continues, LeavesSteps}
+use Rattle.be_desk.specs.Changes.{serial_in, Agrees, Stays, Grew, IsRefusal, Changed, Continues, Earns, LeavesSteps}
 use Rattle.be_model.specs.declared.paths.Step.{Step}
 use Rattle.be_desk.specs.Core.{world, opening, asking, asked, accepting, all_nothing, Runs, IsAhead, StandsByRecord, IsRunOfCore}
 use Rattle.be_desk.proofs.Answering.{change_is}
@@ -212,13 +212,14 @@ other_runs d d' s name m id held f at other =
     ∙ cond-false (is_of k found.row) (taken e w) (shown k (core.Other (length d.list) (record { 0 = found.row.0 })) w) apart
     ∙ ap (λ (i : ℕ). shown k (core.Other (length d.list) (record { 0 = i })) w) found.id_is) at
 
-desk_is : (d d' : DeskState) → d'.published ≡ d.list → d'.list ≡ d.list → d'.reshaped ≡ d.steps → d'.steps ≡ d.steps → d'.glass ≡ d.glass → d' ≡ freed d
-desk_is d d' p l r s g =
+desk_is : (d d' : DeskState) → d'.published ≡ d.list → d'.list ≡ d.list → d'.reshaped ≡ d.steps → d'.steps ≡ d.steps → d'.glass ≡ d.glass → d'.patience ≡ d.patience → d' ≡ freed d
+desk_is d d' p l r s g n =
     ap (λ (x : List Entry). record d' { published = x }) p
     ∙ ap (λ (x : List Entry). record d' { published = d.list; list = x }) l
     ∙ ap (λ (x : List Step). record d' { published = d.list; list = d.list; reshaped = x }) r
     ∙ ap (λ (x : List Step). record d' { published = d.list; list = d.list; reshaped = d.steps; steps = x }) s
-    ∙ ap (λ (x : GlassState). record { published = d.list; list = d.list; reshaped = d.steps; steps = d.steps; glass = x }) g
+    ∙ ap (λ (x : GlassState). record d' { published = d.list; list = d.list; reshaped = d.steps; steps = d.steps; glass = x }) g
+    ∙ ap (λ (x : ℕ). record { published = d.list; list = d.list; reshaped = d.steps; steps = d.steps; glass = d.glass; patience = x }) n
 
 split_entry : (d : DeskState) (a b : ℕ) (e : Entry) (s s' : SeatState) → d.published ≡ d.list → session_of e ≡ s.session → serial_of e ≡ serial_in s → IsAhead d s' a b → StandsByRecord d s
     → run (world d s.session a) (asking s.session e ∷ []) ≡ (world d s.session a, core.Split a b ∷ [])
@@ -248,16 +249,16 @@ refusal_runs d d' s s' (Unsubscribe name) (Other m id) held f why = other_runs d
 refusal_runs d d' s s' _ _ held f why = absurd why
 
 -- what a change makes of the desk and the seat is what a run of the core makes of them
-pub is_run_of_core : (d d' : DeskState) (s s' : SeatState) (ask : Ask) (answer : Answer) → IsHeld d.published d.list → IsWellFormed d'.list → LeavesSteps d d' answer → Continues s s'
+pub is_run_of_core : (d d' : DeskState) (s s' : SeatState) (ask : Ask) (answer : Answer) → IsHeld d.published d.list → IsWellFormed d'.list → LeavesSteps d d' answer → Earns d d' answer → Continues s s'
     → (top s'.own ≤ length d'.list → serial_in s' < COUNT_END) → Changed d d' s s' (request_of ask) answer → IsRunOfCore d d' s s' (request_of ask) answer
-is_run_of_core d d' s s' ask (Done n) held formed kept goes few (g, published, known) = done_runs d d' s s' (request_of ask) n held formed g published
-is_run_of_core d d' s s' ask (Held n) held formed kept goes few (g, published, known) = held_runs d d' s s' (request_of ask) n held formed g published
-is_run_of_core d d' s s' ask (Split a b) held formed kept goes few (stays, published, rift) =
-    (desk_is d d' (published ∙ stays.list) stays.list (kept.reshaped (λ is. absurd cc)) kept.steps kept.glass, λ ahead stands. split_runs d d' s s' ask a b published ahead stands)
-is_run_of_core d d' s s' ask NoMemory held formed kept goes few (stays, may) = may
-is_run_of_core d d' s s' ask (Dup m id) held formed kept goes few (stays, a, why) =
+is_run_of_core d d' s s' ask (Done n) held formed kept earns goes few (g, published, known) = done_runs d d' s s' (request_of ask) n held formed g published
+is_run_of_core d d' s s' ask (Held n) held formed kept earns goes few (g, published, known) = held_runs d d' s s' (request_of ask) n held formed g published
+is_run_of_core d d' s s' ask (Split a b) held formed kept earns goes few (stays, published, rift) =
+    (desk_is d d' (published ∙ stays.list) stays.list (kept.reshaped (λ is. absurd cc)) kept.steps kept.glass earns, λ ahead stands. split_runs d d' s s' ask a b published ahead stands)
+is_run_of_core d d' s s' ask NoMemory held formed kept earns goes few (stays, may) = may
+is_run_of_core d d' s s' ask (Dup m id) held formed kept earns goes few (stays, a, why) =
     refusal_runs d d' s s' ask (Dup m id) held (refuses d d' s s' formed goes (few a.within) stays a) why
-is_run_of_core d d' s s' ask (NoName m) held formed kept goes few (stays, a, why) =
+is_run_of_core d d' s s' ask (NoName m) held formed kept earns goes few (stays, a, why) =
     refusal_runs d d' s s' ask (NoName m) held (refuses d d' s s' formed goes (few a.within) stays a) why
-is_run_of_core d d' s s' ask (Other m id) held formed kept goes few (stays, a, why) =
+is_run_of_core d d' s s' ask (Other m id) held formed kept earns goes few (stays, a, why) =
     refusal_runs d d' s s' ask (Other m id) held (refuses d d' s s' formed goes (few a.within) stays a) why

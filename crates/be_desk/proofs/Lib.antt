@@ -1,4 +1,5 @@
 mod Named
+mod Counting
 mod Filing
 mod Leaving
 mod StandSteps
@@ -6,6 +7,7 @@ mod Records
 mod Seats
 mod Offered
 mod Fetched
+pub mod Emptied
 mod Desks
 mod Ledgers
 mod Draws
@@ -13,5 +15,6 @@ mod Answering
 mod CoreSteps
 mod CoreRuns
 mod Openings
+mod Tending
 pub mod Places
 pub mod Closing

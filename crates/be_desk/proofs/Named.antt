@@ -18,7 +18,7 @@ named_if : (b : Bool) (x : ℕ × Row) (o : Option (ℕ × Row)) → option_map 
 named_if true x o = refl
 named_if false x o = refl
 
-named_cons : (name : Text) (x : ℕ × Row) (xs : ByIds) → id_named name (x ∷ xs) ≡ cond (has_name name x) (Some x.0) (id_named name xs)
+pub named_cons : (name : Text) (x : ℕ × Row) (xs : ByIds) → id_named name (x ∷ xs) ≡ cond (has_name name x) (Some x.0) (id_named name xs)
 named_cons name x xs = named_if (has_name name x) x (named name xs)
 
 -- it is the row that a search by the name finds

@@ -12,6 +12,7 @@ use Rattle.be_board.specs.Word.{own_in, top}
 use Rattle.be_published.specs.States.{knowing}
 use Rattle.be_desk.specs.Desks.{DeskState, MayBeFreed}
 use Rattle.be_desk.specs.Numbers.{numbers}
+use Rattle.be_desk.specs.declared.patience.TheConstants.{WORK_A_CHANGE}
 use Rattle.be_desk.specs.Seats.{SeatState, word_of}
 
 -- how many changes the present session had accepted
@@ -85,6 +86,12 @@ pub record LeavesSteps (d d' : DeskState) (answer : Answer) : Type 0 where
   pub glass : d'.glass ≡ d.glass
   pub steps : d'.steps ≡ d.steps
   pub reshaped : answer ≢ NoMemory → d'.reshaped ≡ d.steps
+
+-- a change that was accepted earned its part of a look for a step
+abbrev pub Earns : DeskState → DeskState → Answer → Type 0
+Earns d d' (Done n) = d'.patience ≡ raised WORK_A_CHANGE d.patience
+Earns d d' (Held n) = d'.patience ≡ raised WORK_A_CHANGE d.patience
+Earns d d' answer = d'.patience ≡ d.patience
 
 -- the desk told the seat two numbers that differ, and the seat counted it
 abbrev pub Counts : SeatState → SeatState → Answer → Type 0

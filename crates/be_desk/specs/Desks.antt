@@ -15,6 +15,8 @@ pub record DeskState : Type 0 where
   pub steps : List Step
   -- what the reader that plans knows and counted
   pub glass : GlassState
+  -- what changes and tends earned towards the next look for a step, which costs 1 for each live row
+  pub patience : ℕ
 
 -- the list begins with this opening, and each entry behind it is of a session
 pub record IsOpened (opening list : List Entry) : Type 0 where
@@ -36,7 +38,7 @@ HasPending d = HasHeld d ⊎ (length d.reshaped < length d.steps)
 
 -- a desk whose list is this one, all of it published
 abbrev pub new_desk : List Entry → DeskState
-new_desk list = record { published = list; list = list; reshaped = []; steps = []; glass = new_glass list }
+new_desk list = record { published = list; list = list; reshaped = []; steps = []; glass = new_glass list; patience = 0 }
 
 -- the desk with all that was pending published
 abbrev pub freed : DeskState → DeskState

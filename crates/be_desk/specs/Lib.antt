@@ -2,11 +2,13 @@ pub mod Numbers
 pub mod Rifts
 pub mod Seats
 pub mod Boards
+pub mod Emptied
 pub mod Closing
 pub mod Desks
 pub mod Asks
 pub mod Changes
 pub mod Maintained
+pub mod Tends
 pub mod Registers
 pub mod Stands
 pub mod Ledgers

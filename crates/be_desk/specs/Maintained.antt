@@ -1,8 +1,11 @@
 -- What a call of the maintainer makes of the desk, for each answer.
-use Rattle.std.specs.Prelude.{◌≡◌, ◌⊎◌, [], ◌∷◌, ◌++◌, length}
+use Rattle.std.specs.Prelude.{◌≡◌, ◌<◌, ◌≤◌, ◌⊎◌, [], ◌∷◌, ◌++◌, length, Option, Some, None}
+use Rattle.be_base.specs.Counts.{raised}
+use Rattle.be_change.specs.History.{live}
 use Rattle.be_model.specs.declared.paths.Step.{Step}
 use Rattle.be_published.specs.States.{one_shut, one_none, one_plan}
-use Rattle.be_desk.specs.Desks.{DeskState, freed, HasHeld}
+use Rattle.be_desk.specs.Desks.{DeskState, freed, HasHeld, HasPending}
+use Rattle.be_desk.specs.declared.patience.TheConstants.{WORK_A_TEND}
 use Rattle.be_desk.specs.declared.maintained.Maintained.{Maintained}
 use Rattle.be_desk.specs.declared.maintained.Maintained.TheVariants.{Freed, Stepped, Idle, Shut, NoMemory}
 
@@ -37,3 +40,23 @@ abbrev pub OnStep : DeskState → DeskState → Step → Maintained → Type 0
 OnStep d d' step (Stepped made) = (made ≡ step) × (d' ≡ freed (with_step step d))
 OnStep d d' step NoMemory = (d' ≡ d) ⊎ (d' ≡ with_step step d)
 OnStep d d' step answer = ⊥
+
+-- a tend has earned its part of a look
+abbrev pub having_tended : DeskState → DeskState
+having_tended d = record d { patience = raised WORK_A_TEND d.patience }
+
+-- a look begins: what was earned is spent
+abbrev pub looking : DeskState → DeskState
+looking d = record d { patience = 0 }
+
+-- something is pending, or a look through all live rows was earned
+abbrev pub IsDue : DeskState → Type 0
+IsDue d = HasPending d ⊎ (length (live d.list) ≤ d.patience)
+
+-- what a tend makes of the desk
+abbrev pub IsTended : DeskState → DeskState → Option Maintained → Type 0
+-- nothing is pending, and nothing was done. It earned, and the live rows are still more than was earned
+IsTended d d' None = (d ≡ freed d) × (d' ≡ having_tended d) × (d'.patience < length (live d.list))
+-- it was due, and the desk was maintained: a change that was held was published, or what was earned was spent on a look
+IsTended d d' (Some done) =
+    IsDue (having_tended d) × ((HasHeld d × IsMaintained (having_tended d) d' done) ⊎ ((d.published ≡ d.list) × IsMaintained (looking d) d' done))

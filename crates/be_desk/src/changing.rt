@@ -13,7 +13,7 @@ ghost use Rattle.be_model.specs.Lies.{conj_lies};
 ghost use Rattle.be_board.specs.Changes.{Answers};
 ghost use Rattle.be_board.specs.Word.{top};
 ghost use Rattle.be_desk.specs.Asks.{request_of, ask_lies};
-ghost use Rattle.be_desk.specs.Changes.{Agrees, IsRift, IsRefusal, Changed, Took, Counts, Continues, LeavesSteps, serial_in};
+ghost use Rattle.be_desk.specs.Changes.{Agrees, IsRift, IsRefusal, Changed, Took, Counts, Continues, Earns, LeavesSteps, serial_in};
 ghost use Rattle.be_desk.specs.Core.{IsRunOfCore};
 ghost use Rattle.be_desk.specs.Desks.{DeskState};
 ghost use Rattle.be_desk.specs.Seats.{SeatState, word_of, is_over, list_in};
@@ -21,6 +21,7 @@ ghost use Rattle.be_desk.specs.Seats.{SeatState, word_of, is_over, list_in};
 use crate::ask::Ask;
 use crate::desk::Desk;
 use crate::ledger::Ledger;
+use crate::patience::WORK_A_CHANGE;
 use crate::rift::Rift;
 use crate::seat::Seat;
 use be_base::{Id, Name, NoMemory};
@@ -48,6 +49,7 @@ impl<T: Sheet<J>, J: Naming + BoxNames> Desk<T, J> {
         ensures counts { Counts seat.old seat.new result }
         ensures seat { Continues seat.old seat.new }
         ensures steps { LeavesSteps self.old self.new result }
+        ensures patience { Earns self.old self.new result }
         ensures answers { Answers (word_of seat.old) (word_of seat.new) (request_of ask) result }
         ensures formed { IsWellFormed seat.new.glass.known }
         ensures core { IsRunOfCore self.old self.new seat.old seat.new (request_of ask) result }
@@ -77,6 +79,7 @@ impl<T: Sheet<J>, J: Naming + BoxNames> Desk<T, J> {
         ensures counts { Counts seat.old seat.new result }
         ensures seat { Continues seat.old seat.new }
         ensures steps { LeavesSteps self.old self.new result }
+        ensures patience { Earns self.old self.new result }
     {
         match self.free(rt) {
             Err(NoMemory) => return Answer::NoMemory,
@@ -223,6 +226,7 @@ impl<T: Sheet<J>, J: Naming + BoxNames> Desk<T, J> {
         ensures took { Took self.old self.new seat.old seat.new (entry_of (arc_value change)) result }
         ensures seat { Continues seat.old seat.new × (seat.new.splits ≡ seat.old.splits) × (seat.new.rift ≡ seat.old.rift) }
         ensures steps { (self.new.glass ≡ self.old.glass) × (self.new.steps ≡ self.old.steps) × (self.new.reshaped ≡ self.old.steps) }
+        ensures patience { Earns self.old self.new result }
     {
         let leaves = is_leave_of(&change, seat.session);
         begins(&seat.made, self.press.whole());
@@ -232,6 +236,7 @@ impl<T: Sheet<J>, J: Naming + BoxNames> Desk<T, J> {
         seat.made = Some(self.press.whole().again());
         seat.serial += 1;
         seat.gone = leaves;
+        self.patience.earn(WORK_A_CHANGE);
         match self.free(rt) {
             Err(NoMemory) => return Answer::Held { n },
             Ok(()) => seat.glass.learn(self.press.tell()),

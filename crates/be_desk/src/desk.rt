@@ -13,6 +13,7 @@ ghost use Rattle.be_desk.specs.Seats.{SeatState, is_over};
 ghost use Rattle.be_desk.specs.Changes.{Continues, serial_in};
 
 use crate::ledger::Ledger;
+use crate::patience::Patience;
 use crate::rift::Rift;
 use crate::seat::Seat;
 use be_base::{NoMemory, SessionNo};
@@ -33,6 +34,8 @@ pub struct Desk<T: Sheet<J>, J: Naming + BoxNames> {
     pub(crate) ledger: Ledger,
     // How many seats there are.
     pub(crate) seats: u32,
+    // What was earned towards the next look for a step.
+    pub(crate) patience: Patience,
 }
 
 impl<T: Sheet<J>, J: Naming + BoxNames> Model for Desk<T, J> {
@@ -41,7 +44,7 @@ impl<T: Sheet<J>, J: Naming + BoxNames> Model for Desk<T, J> {
 
     ghost Value = { DeskState };
 
-    ghost view = { λ d. record { published = d.press.published; list = d.press.list; reshaped = d.press.reshaped; steps = d.press.steps; glass = d.glass } };
+    ghost view = { λ d. record { published = d.press.published; list = d.press.list; reshaped = d.press.reshaped; steps = d.press.steps; glass = d.glass; patience = d.patience } };
 
     ghost invariant = { λ d. (d.ledger ≡ d.press.list) × IsHeld d.press.published d.press.list × (d.seats ≡ length J.boxes) × (0 < d.seats) × IsOpened J.opening d.press.list };
 }
@@ -114,6 +117,7 @@ impl<T: Sheet<J>, J: Naming + BoxNames> Desk<T, J> {
             glass: _,
             ledger,
             seats: _,
+            patience: _,
         } = self;
         press.end(rt);
         ledger.into_log()

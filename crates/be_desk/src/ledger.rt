@@ -100,6 +100,14 @@ impl Ledger {
         }
     }
 
+    /// How many rows are live.
+    pub fn rows(&self) -> u64
+        requires { IsWellFormed self.now }
+        ensures { result ≡ length (live self.now) }
+    {
+        self.register.len()
+    }
+
     /// Puts a change last here and in the history behind the press, or in neither.
     pub fn append<T: Sheet<J>, J: Naming>(
         &mut self,

@@ -8,16 +8,17 @@ ghost use Rattle.be_model.specs.ByIds.{rows_of};
 ghost use Rattle.be_model.specs.Letters.{plain_letter};
 ghost use Rattle.be_model.specs.Lies.{event_lies};
 ghost use Rattle.be_change.specs.History.{hit_rows};
-ghost use Rattle.be_mail.specs.Letters.{posting, seat_of, IsFit};
+ghost use Rattle.be_mail.specs.Letters.{posting, seat_of, IsFit, IsFor};
 ghost use Rattle.be_mail.specs.Passes.{after_put, after_full, after_fetch, after_empty, AreOfSeat, Held};
 ghost use Rattle.be_board.specs.Letters.{IsLetterFor, Sends, RefusesSend, Posts, Fetches};
 ghost use Rattle.be_board.specs.Local.{letters_for};
 ghost use Rattle.be_board.specs.State.{LeavesLetters};
 ghost use Rattle.be_board.specs.Word.{IsDelivered};
 ghost use Rattle.be_desk.specs.Boards.{OnBoards, Offers};
+ghost use Rattle.be_desk.specs.Emptied.{IsEmptied};
 
 use crate::seat::Seat;
-use be_base::NoRead;
+use be_base::{BOX_LETTERS, NoRead};
 use be_board::{Sent, make_letters};
 use be_mail::{BoxNames, Mail, Post};
 use be_model::{Event, Found, Letter};
@@ -133,19 +134,39 @@ impl<T: Sheet<J>, J: Naming + BoxNames> Seat<T, J> {
         unreachable!()
     }
 
+    /// Takes out what is in the seat's mailbox, and gives none of it. It stops where the mailbox is empty at the step that
+    /// looks, or after a box full, however many letters others put meanwhile. It takes no memory.
+    ///
+    /// The next session begins with an empty box where this is called after one session and before the next is entered: no
+    /// row of a session that hasn't begun is live, so each letter is for a session that is over. That isn't a clause, since
+    /// the seat doesn't see what others know. Whatever comes here, `fetch` gives only letters for the present session.
+    pub fn empty_box<S: Post, R: Wait>(&mut self, rt: &R, mail: &Mail<S>)
+        requires mail { mail.now ≡ J.boxes }
+        requires schema { S.schema ≡ J.schema }
+        ensures { IsEmptied J.schema (length J.boxes) self.old self.new }
+    {
+        // That the count is not past its type's end comes to light here.
+        let _ = self.passes.empties();
+        for _ in 0..BOX_LETTERS {
+            let Some(_) = self.take(rt, mail) else {
+                return;
+            };
+        }
+    }
+
     // Takes the next letter out of the seat's mailbox, and says whether it is for the present session.
     fn take<S: Post, R: Wait>(&mut self, rt: &R, mail: &Mail<S>) -> Option<(Letter, bool)>
         requires mail { mail.now ≡ J.boxes }
         requires schema { S.schema ≡ J.schema }
         ensures seat { self.new ≡ record self.old { passes = self.new.passes } }
-        ensures taken { IfSome result (λ r. (from : ℕ) × (self.new.passes ≡ after_fetch self.old.passes (posting from (plain_letter r.0)))) }
+        ensures taken { IfSome result (λ r. (from : ℕ) × (self.new.passes ≡ after_fetch self.old.passes (posting from (plain_letter r.0))) × IsFor J.schema (length J.boxes) self.old.passes.seat (posting from (plain_letter r.0))) }
         ensures fit { IfSome result (λ r. IsFit J.schema (plain_letter r.0)) }
         ensures mine { IfSome result (λ r. r.1 ≡ (r.0.session.0 == self.old.session)) }
         ensures none { IfNone result (self.new.passes ≡ after_empty self.old.passes) }
         ensures empties { self.old.passes.empties ≤ last_count }
     {
-        // That the count is not past its type's end comes to light here.
-        let _ = self.passes.empties();
+        // That the count is not past its type's end, and how many mailboxes there are, comes to light here.
+        let _ = (self.passes.empties(), mail.seats());
         let letter = mail.fetch(rt, &mut self.passes)?;
         let mine = letter.session.0 == self.session.0;
         Some((letter, mine))

@@ -1,12 +1,14 @@
 //! What a maintainer does at the desk.
 
-ghost use Rattle.std.specs.Prelude.{◌≡◌, IfOk};
+ghost use Rattle.std.specs.Prelude.{◌≡◌, ◌≤◌, ◌<◌, length, IfOk, MatchBool};
 ghost use Rattle.be_base.specs.Counts.{raised};
+ghost use Rattle.be_change.specs.History.{live};
 ghost use Rattle.be_desk.specs.Desks.{freed};
-ghost use Rattle.be_desk.specs.Maintained.{IsMaintained, OnStep};
+ghost use Rattle.be_desk.specs.Maintained.{IsDue, IsMaintained, IsTended, OnStep};
 
 use crate::broom::Broom;
 use crate::desk::Desk;
+use crate::patience::WORK_A_TEND;
 use be_base::{NoMemory, NoRead};
 use be_copy::Edit;
 use be_mail::BoxNames;
@@ -29,6 +31,38 @@ pub enum Maintained {
 }
 
 impl<T: Sheet<J>, J: Naming + BoxNames> Desk<T, J> {
+    /// What a worker calls between two replies. Where something is pending, or a look for a step was earned by the changes and
+    /// tends since the last one, it maintains the desk; else it looks at nothing. It may wait for readers.
+    pub fn tend<R: Wait>(&mut self, rt: &R, broom: &mut Broom) -> Option<Maintained>
+        ensures broom { broom.new ≡ raised 1 broom.old }
+        ensures done { IsTended self.old self.new result }
+    {
+        self.patience.earn(WORK_A_TEND);
+        if !self.is_due() {
+            broom.calls = broom.calls.saturating_add(1);
+            return None;
+        }
+        if !self.press.has_changes() {
+            self.patience.spend();
+        }
+        Some(self.maintain(rt, broom))
+    }
+
+    fn is_due(&self) -> bool
+        ensures { MatchBool result (IsDue self.now) ((self.now ≡ freed self.now) × (self.now.patience < length (live self.now.list))) }
+    {
+        !self.press.is_settled() || self.patience.has_earned(self.rows())
+    }
+
+    // How many rows are live, those of a held change too.
+    fn rows(&self) -> u64
+        ensures { result ≡ length (live self.now.list) }
+    {
+        // That the list is well formed comes to light at its length.
+        let _ = self.press.len();
+        self.ledger.rows()
+    }
+
     /// Publishes the change that is held, and does no more; or, where none is, makes the next step that the desk's reader
     /// plans. Steps that couldn't be published before are published first. It may wait for readers.
     pub fn maintain<R: Wait>(&mut self, rt: &R, broom: &mut Broom) -> Maintained

@@ -14,6 +14,7 @@ ghost use Rattle.be_desk.specs.Seats.{first_seat, seat_for};
 
 use crate::desk::Desk;
 use crate::ledger::Ledger;
+use crate::patience::Patience;
 use crate::seat::Seat;
 use be_base::{NoMemory, SessionNo};
 use be_index::Index;
@@ -88,6 +89,7 @@ pub fn open_desk<I: Index, J: Naming + BoxNames, R: Wait>(
                 glass,
                 ledger,
                 seats,
+                patience: Patience::make(),
             };
             Ok((desk, all))
         }

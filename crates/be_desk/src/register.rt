@@ -5,7 +5,8 @@ ghost use Rattle.indexmap.specs.IndexMap.{index_map_len};
 ghost use Rattle.be_base.specs.Lists.{BeginsWith};
 ghost use Rattle.be_model.specs.ByIds.{ByIds};
 ghost use Rattle.be_change.specs.Entries.{entry_of};
-ghost use Rattle.be_change.specs.History.{Entry, unsubscribed, left, live, after_entry, is_live_name_of, IsWellFormed, MayFollow};
+ghost use Rattle.be_change.specs.History.{Entry, unsubscribed, left, live, after_entry, is_live_name_of, names_of, IsWellFormed, MayFollow};
+ghost use Rattle.be_change.specs.LiveRows.{all_differ};
 ghost use Rattle.be_desk.specs.Registers.{id_named, with_row, with_put, IsRegister, MayPut, TakesOut, IsIn};
 
 use be_base::{Id, Name, NoMemory, SessionNo};
@@ -39,6 +40,13 @@ impl Register {
         ensures { (m : ByIds) → IsRegister self.now m → result ≡ id_named name.now m }
     {
         self.names.get(name).copied()
+    }
+
+    /// How many rows there are.
+    pub fn len(&self) -> u64
+        ensures { (m : ByIds) → all_differ (names_of m) ≡ true → IsRegister self.now m → result ≡ length m }
+    {
+        self.names.len() as u64
     }
 
     /// Files a row that may be subscribed next, or leaves all as it was.

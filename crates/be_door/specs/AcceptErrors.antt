@@ -11,10 +11,10 @@ not_yet = pos 4 ∷ pos 11 ∷ []
 abbrev pub wanting : List ℤ
 wanting = pos 12 ∷ pos 23 ∷ pos 24 ∷ pos 105 ∷ []
 
--- the connection went wrong before it was accepted: ECONNABORTED; and what the network reports of it: ENONET, EPROTO,
--- ENOPROTOOPT, EOPNOTSUPP, ENETDOWN, ENETUNREACH, EHOSTDOWN, EHOSTUNREACH
+-- the connection went wrong before it was accepted: ECONNABORTED, or EPERM where a firewall forbids it; and what the network
+-- reports of it: ENONET, EPROTO, ENOPROTOOPT, EOPNOTSUPP, ENETDOWN, ENETUNREACH, EHOSTDOWN, EHOSTUNREACH
 abbrev pub of_the_connection : List ℤ
-of_the_connection = pos 103 ∷ pos 64 ∷ pos 71 ∷ pos 92 ∷ pos 95 ∷ pos 100 ∷ pos 101 ∷ pos 112 ∷ pos 113 ∷ []
+of_the_connection = pos 103 ∷ pos 1 ∷ pos 64 ∷ pos 71 ∷ pos 92 ∷ pos 95 ∷ pos 100 ∷ pos 101 ∷ pos 112 ∷ pos 113 ∷ []
 
 -- an error without a number of the system doesn't pass
 abbrev pub is_passing : Option ℤ → Bool

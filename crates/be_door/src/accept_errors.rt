@@ -9,6 +9,8 @@ ghost use Rattle.be_door.specs.AcceptErrors.{is_passing};
 use std::io;
 
 // Linux's numbers. Its manual, accept(2), says which of them are tried again.
+const EPERM: i32 = 1;
+
 const EINTR: i32 = 4;
 
 const EAGAIN: i32 = 11;
@@ -39,7 +41,7 @@ const EHOSTDOWN: i32 = 112;
 
 const EHOSTUNREACH: i32 = 113;
 
-const PASSING: [i32; 15] = [
+const PASSING: [i32; 16] = [
     EINTR,
     EAGAIN,
     ENOMEM,
@@ -47,6 +49,7 @@ const PASSING: [i32; 15] = [
     EMFILE,
     ENOBUFS,
     ECONNABORTED,
+    EPERM,
     ENONET,
     EPROTO,
     ENOPROTOOPT,

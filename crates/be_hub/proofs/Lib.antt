@@ -7,6 +7,7 @@ pub mod Ends
 mod Transcripts
 mod FilesClosed
 pub mod Places
+mod Entered
 mod Visits
 mod LinksServed
 mod LinksBegun

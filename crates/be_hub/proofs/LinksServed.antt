@@ -1,6 +1,6 @@
 -- One more link was served.
 use Rattle.std.proofs.Common.{◌≡◌, ◌≢◌, ℕ, ◌+◌, ◌-◌, ◌<◌, ◌≤◌, ◌⊎◌, inl, inr, Bool, true, false, List, [], ◌∷◌, ◌++◌, length, map, max, Some, slice_get, refl, sym, ap, ◌∙◌, subst, append_assoc, length-append, arith, ◌==◌}
-use Rattle.std.specs.Prelude.{if◌then◌else◌}
+use Rattle.std.specs.Prelude.{if◌then◌else◌, MatchBool}
 use Rattle.std.specs.List.{All, filter}
 use Rattle.std.proofs.lemmas.Bool.{eqb-true}
 use Rattle.std.proofs.lemmas.List.{append-nil, map-append}
@@ -28,7 +28,8 @@ use Rattle.be_session.specs.declared.serve.SessionEnd.TheVariants.{Eof, Quit, Re
 use Rattle.be_session.specs.Served.{SessionEnds, BoardLeft}
 use Rattle.be_session.specs.Tied.{is_split}
 use Rattle.be_hub.specs.Files.{is_split_end}
-use Rattle.be_hub.specs.Links.{session_at, SessionServed, WentOn, SeatVisit, LinkServed, IsCounted, IsOfLink, AddsOfLinks, IsOfVisit, LinksServed}
+use Rattle.be_hub.specs.Links.{session_at, SessionServed, WentOn, SeatVisit, LinkServed, EntersNext, IsCounted, IsOfLink, AddsOfLinks, IsOfVisit, LinksServed}
+use Rattle.be_hub.proofs.Entered.{number_is, own_same, glass_same, splits_same, place_same, notes_grow}
 use Rattle.be_hub.proofs.Places.{at_last, in_front, in_push}
 use Rattle.be_hub.proofs.Transcripts.{is_split_of, some_counted}
 use Rattle.be_hub.proofs.Visits.{as_many, follows_on}
@@ -50,16 +51,17 @@ all_of m new is =
     (subst (λ (l : List (ℕ × Entry)). All (λ (q : ℕ × Entry). (session_of q.1 == m) ≡ true) l) is (filter_passes (λ (q : ℕ × Entry). session_of q.1 == m) new))
 
 -- the seat entered its session number n, from 0, of those of its worker
-pub record Enters (seats n : ℕ) (first last entered : SeatState) : Type 0 where
+pub record Enters (s : Attributes) (seats n : ℕ) (first last entered : SeatState) : Type 0 where
   pub session : entered.session ≡ session_at seats first.session n
   pub no_sooner : last.session ≤ entered.session
   pub later : 0 < n → last.session < entered.session
   pub own : entered.own ≡ last.own
   pub known : entered.glass ≡ last.glass
-  pub passes : entered.passes ≡ last.passes
+  pub seat : entered.passes.seat ≡ last.passes.seat
+  pub notes : BeginsWith (map letter_in entered.passes.taken) (map letter_in last.passes.taken)
   pub splits : entered.splits ≡ last.splits
-  -- it changed in nothing but its session's number
-  pub same : entered ≡ record last { session = entered.session }
+  pub same : n ≡ 0 → entered ≡ last
+  pub next : 0 < n → EntersNext s seats last entered
 
 same_number : (seats n a b : ℕ) → n ≡ 0 → b ≡ session_at seats a (n - 1) → b ≡ session_at seats a n
 same_number seats n a b none is = is ∙ ap (session_at seats a) (less n none)
@@ -76,29 +78,33 @@ next_number seats n a b some is = one_on (n - 1) is ∙ ap (session_at seats a) 
     less : (n : ℕ) → 0 < n → (n - 1) + 1 ≡ n
     less n some = omega (arith, some)
 
-pub enters : (seats n : ℕ) (first last entered : SeatState) (b : Bool) → (b ≡ true → n ≡ 0) → (b ≡ false → 0 < n) → 0 < seats → last.session ≡ session_at seats first.session (n - 1)
-    → entered ≡ (if b then last else record last { session = last.session + seats }) → Enters seats n first last entered
-enters seats n first last entered true none some many was same = record {
-  same = same ∙ ap (λ m. record last { session = m }) (sym (ap (λ (s : SeatState). s.session) same));
-  session = ap (λ (s : SeatState). s.session) same ∙ same_number seats n first.session last.session (none refl) was;
-  no_sooner = omega (arith, ap (λ (s : SeatState). s.session) same);
+pub enters : (s : Attributes) (seats n : ℕ) (first last entered : SeatState) (b : Bool) → (b ≡ true → n ≡ 0) → (b ≡ false → 0 < n) → 0 < seats → last.session ≡ session_at seats first.session (n - 1)
+    → MatchBool b (entered ≡ last) (EntersNext s seats last entered) → Enters s seats n first last entered
+enters s seats n first last entered true none some many was same = record {
+  session = ap (λ (x : SeatState). x.session) same ∙ same_number seats n first.session last.session (none refl) was;
+  no_sooner = omega (arith, ap (λ (x : SeatState). x.session) same);
   later = λ lt. absurd (omega (arith, lt, none refl));
-  own = ap (λ (s : SeatState). s.own) same;
-  known = ap (λ (s : SeatState). s.glass) same;
-  passes = ap (λ (s : SeatState). s.passes) same;
-  splits = ap (λ (s : SeatState). s.splits) same;
+  own = ap (λ (x : SeatState). x.own) same;
+  known = ap (λ (x : SeatState). x.glass) same;
+  seat = ap (λ (x : SeatState). x.passes.seat) same;
+  notes = subst (λ (x : SeatState). BeginsWith (map letter_in x.passes.taken) (map letter_in last.passes.taken)) (sym same) (BeginsWith-same (map letter_in last.passes.taken));
+  splits = ap (λ (x : SeatState). x.splits) same;
+  same = λ _. same;
+  next = λ lt. absurd (omega (arith, lt, none refl));
 }
-enters seats n first last entered false none some many was same =
-    let num : entered.session ≡ last.session + seats = ap (λ (s : SeatState). s.session) same in
+enters s seats n first last entered false none some many was next =
+    let num : entered.session ≡ last.session + seats = number_is s seats last entered next in
     record {
-      same = same ∙ ap (λ m. record last { session = m }) (sym num);
       session = num ∙ next_number seats n first.session last.session (some refl) was;
       no_sooner = omega (arith, num);
       later = λ _. omega (arith, num, many);
-      own = ap (λ (s : SeatState). s.own) same;
-      known = ap (λ (s : SeatState). s.glass) same;
-      passes = ap (λ (s : SeatState). s.passes) same;
-      splits = ap (λ (s : SeatState). s.splits) same;
+      own = own_same s seats last entered next;
+      known = glass_same s seats last entered next;
+      seat = place_same s seats last entered next;
+      notes = notes_grow s seats last entered next;
+      splits = splits_same s seats last entered next;
+      same = λ zero. absurd (omega (arith, zero, some refl));
+      next = λ _. next;
     }
 
 pub went_nowhere : (k : ℕ) (s : SeatState) → WentOn k s s
@@ -112,7 +118,7 @@ went_nowhere k s = record {
   splits = omega arith;
 }
 
-module _ (schema : Attributes) (seats n : ℕ) (first last e seat' : SeatState) (calls calls' : ℕ) (ent : Enters seats n first last e) (board : BoardLeft (board_of schema calls e) (board_of schema calls' seat')) where
+module _ (schema : Attributes) (seats n : ℕ) (first last e seat' : SeatState) (calls calls' : ℕ) (ent : Enters schema seats n first last e) (board : BoardLeft (board_of schema calls e) (board_of schema calls' seat')) where
   abbrev new : List (ℕ × Entry)
   new = board.own.0
 
@@ -123,7 +129,7 @@ module _ (schema : Attributes) (seats n : ℕ) (first last e seat' : SeatState) 
   own_is = board.own.1 ∙ ap (λ l. l ++ new) ent.own
 
   seat_same : seat'.passes.seat ≡ last.passes.seat
-  seat_same = board.goes.seat ∙ ap (λ p. p.seat) ent.passes
+  seat_same = board.goes.seat ∙ ent.seat
 
   knows_more : BeginsWith seat'.glass.known last.glass.known
   knows_more = subst (λ g. BeginsWith seat'.glass.known g.known) ent.known board.goes.known
@@ -138,7 +144,7 @@ module _ (schema : Attributes) (seats n : ℕ) (first last e seat' : SeatState) 
         ∙ (filter-append (λ (q : ℕ × Entry). session_of q.1 == k) last.own new
         ∙ (ap (λ l. own_of k last.own ++ l) (none_of k e.session new other new_is) ∙ (append-nil (own_of k last.own) ∙ w.own)));
     notes = BeginsWith-along (map letter_in seat'.passes.taken) (map letter_in last.passes.taken) (map letter_in s.passes.taken)
-        (subst (λ p. BeginsWith (map letter_in seat'.passes.taken) (map letter_in p.taken)) ent.passes board.notes) w.notes;
+        (BeginsWith-along (map letter_in seat'.passes.taken) (map letter_in e.passes.taken) (map letter_in last.passes.taken) board.notes ent.notes) w.notes;
     shuts = omega (arith, w.shuts, board.goes.counts.shuts, ap (λ g. g.shuts) ent.known);
     splits = omega (arith, w.splits, board.goes.counts.splits, ent.splits);
   }
@@ -237,7 +243,7 @@ module _ {L : Type 0} (told : L → LinkState) where
       risen a b d h = omega (arith, h)
 
   module _ (s : Attributes) (boxes : List TableId) (first last e seat' : SeatState) (c : CountState L) (ends : List SessionEnd) (session : SessionNo) (link : L) (before : LinkState) (end : SessionEnd) (calls calls' : ℕ)
-      (l : LinksServed told s boxes first last c ends calls) (sound : IsSound c) (ent : Enters (length boxes) (length ends) first last e) (is : session.0 ≡ e.session) (kept_seat : IsKeptSeat boxes e)
+      (l : LinksServed told s boxes first last c ends calls) (sound : IsSound c) (ent : Enters s (length boxes) (length ends) first last e) (is : session.0 ≡ e.session) (kept_seat : IsKeptSeat boxes e)
       (unused : IsUnused before) (served : SessionServed s e seat' before (told link) end calls calls')
     where
       abbrev after : LinkState
@@ -333,7 +339,7 @@ module _ {L : Type 0} (told : L → LinkState) where
         own = subst (λ m. AddsOfLinks (length boxes) m first seat') (sym one_more) (adds s (length boxes) n first last e seat' calls calls' ent served.board l.own);
         visits = visits';
         ends_are = ap (λ es. es ++ end ∷ []) l.ends_are ∙ sym (map-append (λ (v : SeatVisit). v.end) l.visits (visit ∷ []));
-        chain = follows_on first last l.visits visit l.chain ent.same;
+        chain = follows_on s (length boxes) first last l.visits visit l.chain (λ none. ent.same (sym many ∙ none)) (λ some. ent.next (omega (arith, some, many)));
         served = λ i v at. served_there i v (in_push l.visits visit i v at);
         kept = λ i x at. kept_there i x (kept_before c.keeps refl i x at);
         counted = All-push (IsCounted (sums_of c')) ends end (All-weaker (IsCounted (sums_of c)) (IsCounted (sums_of c')) (counted_on c c' (raised_by c session link after)) ends l.counted)

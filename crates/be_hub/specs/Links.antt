@@ -12,6 +12,7 @@ use Rattle.be_change.specs.History.{Entry, session_of}
 use Rattle.be_mail.specs.Letters.{seat_of, letter_in}
 use Rattle.be_board.specs.Word.{own_of, own_in}
 use Rattle.be_desk.specs.Boards.{board_of, put_count}
+use Rattle.be_desk.specs.Emptied.{IsEmptied}
 use Rattle.be_desk.specs.Seats.{SeatState, word_of}
 use Rattle.be_door.specs.Counts.{CountState, IsSound, sums_of}
 use Rattle.be_door.specs.Door.{DoorState, IsOf, IsNew}
@@ -52,10 +53,22 @@ pub record SeatVisit : Type 0 where
   pub link : LinkState
   pub end : SessionEnd
 
--- the visits to one seat, one after another: each finds the seat as the one before it left it, but for its session's number
-abbrev pub FollowOn : SeatState → List SeatVisit → SeatState → Type 0
-FollowOn seat [] last = last ≡ seat
-FollowOn seat (v ∷ vs) last = (v.entered ≡ record seat { session = v.entered.session }) × FollowOn v.left vs last
+-- after a session that left the seat so its mailbox was emptied, and then the seat's next session was entered
+pub record EntersNext (s : Attributes) (seats : ℕ) (left entered : SeatState) : Type 0 where
+  pub emptied : SeatState
+  pub box : IsEmptied s seats left emptied
+  pub next : entered ≡ record emptied { session = emptied.session + seats }
+
+-- the visits to a seat that a session left so, one after another: before each the mailbox was emptied
+abbrev pub FollowLeft : Attributes → (seats : ℕ) → SeatState → List SeatVisit → SeatState → Type 0
+FollowLeft s seats left [] last = last ≡ left
+FollowLeft s seats left (v ∷ vs) last = EntersNext s seats left v.entered × FollowLeft s seats v.left vs last
+
+-- the visits to one seat, one after another: the first finds it as it was, and each other one as the one before it left it, but for
+-- what was taken out of its mailbox between the two, and its session's number
+abbrev pub FollowOn : Attributes → (seats : ℕ) → SeatState → List SeatVisit → SeatState → Type 0
+FollowOn s seats first [] last = last ≡ first
+FollowOn s seats first (v ∷ vs) last = (v.entered ≡ first) × FollowLeft s seats v.left vs last
 
 -- a link that nobody had used was served as session k, and stands so now. The seat began as `first`, knew no less when the
 -- session began, and stands at `last`
@@ -71,17 +84,31 @@ pub record LinkServed (s : Attributes) (boxes : List TableId) (k : ℕ) (first l
   pub served : SessionServed s visit.entered visit.left unused visit.link visit.end calls calls'
   pub went_on : WentOn k visit.left last
 
+-- what the visits added to a count of the seat, together
+abbrev pub added_by : (SeatState → ℕ) → List SeatVisit → ℕ
+added_by count visits = sum_by (λ (v : SeatVisit). count v.left - count v.entered) visits
+
+-- what was added to it between the visits, together, where the first finds the seat so
+abbrev pub added_between : (SeatState → ℕ) → SeatState → List SeatVisit → ℕ
+added_between count before [] = 0
+added_between count before (v ∷ vs) = (count v.entered - count before) + added_between count v.left vs
+
 -- what the visits added to a count of the seat is what was added to it from first to last
 abbrev pub AddUp : (SeatState → ℕ) → List SeatVisit → SeatState → SeatState → Type 0
-AddUp count visits first last = count last ≡ count first + sum_by (λ (v : SeatVisit). count v.left - count v.entered) visits
+AddUp count visits first last = count last ≡ count first + added_by count visits
 
--- so it is of each count to which a session's replies are tied: no rise of it belongs to two visits
+-- so it is with what was added between them
+abbrev pub AddUpWith : (SeatState → ℕ) → List SeatVisit → SeatState → SeatState → Type 0
+AddUpWith count visits first last = count last ≡ count first + added_between count first visits + added_by count visits
+
+-- so it is of each count to which a session's replies are tied: no rise of it belongs to two visits. Between two visits only the
+-- look that found the mailbox empty is counted
 pub record CountsAddUp (visits : List SeatVisit) (first last : SeatState) : Type 0 where
   pub reads : AddUp (λ x. x.glass.reads) visits first last
   pub shuts : AddUp (λ x. x.glass.shuts) visits first last
   pub splits : AddUp (λ x. x.splits) visits first last
   pub fulls : AddUp (λ x. x.passes.fulls) visits first last
-  pub empties : AddUp (λ x. x.passes.empties) visits first last
+  pub empties : AddUpWith (λ x. x.passes.empties) visits first last
   pub puts : AddUp (λ x. put_count x.passes) visits first last
 
 -- a session ends so only where these numbers say it
@@ -121,14 +148,14 @@ module _ {L : Type 0} (told : L → LinkState) where
     -- one a link, in order
     pub visits : List SeatVisit
     pub ends_are : ends ≡ map (λ (v : SeatVisit). v.end) visits
-    pub chain : FollowOn first visits last
+    pub chain : FollowOn s (length boxes) first visits last
     pub served : (i : ℕ) (visit : SeatVisit) → slice_get visits i ≡ Some visit → LinkServed s boxes (session_at (length boxes) first.session i) first last visit
     pub kept : (i : ℕ) (kept : SessionNo × L) → slice_get count.kept i ≡ Some kept → IsOfVisit visits i kept
     pub counted : All (IsCounted (sums_of count)) ends
     pub split : All (λ (end : SessionEnd). is_split_end end ≡ true → HasRisen first.splits last.splits) ends
     -- an accept failed only where the count of faults says it
     pub failed : 0 < count.failed → 0 < count.read_faults
-    -- after each session the rows were maintained
+    -- after each session the desk was tended
     pub swept : length ends ≤ calls
 
   -- a worker has met the end of the links, and all that it was given are back

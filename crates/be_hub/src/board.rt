@@ -135,7 +135,7 @@ impl<'a, T: Sheet<J>, J: Naming + BoxNames, S: Post, R: Wait> Board for DeskBoar
             let _ = self.broom.calls();
             let hub = self.hub;
             let mut guard = hub.desk.lock(self.rt);
-            guard.maintain(self.rt, &mut self.broom);
+            guard.tend(self.rt, &mut self.broom);
             MutexGuard::unlock(guard);
         }
     }

@@ -1,6 +1,6 @@
 //! A worker that serves links of a door, each as a session of its own.
 
-ghost use Rattle.std.specs.Prelude.{◌≡◌, ◌+◌, ◌<◌, ◌≤◌, ◌*◌, [], length, true, false, if◌then◌else◌, IfOk, vec_len, vec_capacity};
+ghost use Rattle.std.specs.Prelude.{◌≡◌, ◌+◌, ◌<◌, ◌≤◌, ◌*◌, [], length, true, false, MatchBool, IfOk, vec_len, vec_capacity};
 ghost use Rattle.be_base.specs.declared.limits.TheConstants.{LINKS, SEATS};
 ghost use Rattle.be_base.specs.Counts.{HasRisen};
 ghost use Rattle.be_board.specs.Word.{own_in};
@@ -9,7 +9,7 @@ ghost use Rattle.be_desk.specs.declared.desk.TheConstants.{SESSIONS_END};
 ghost use Rattle.be_door.specs.Counts.{CountState, IsSound, after_given};
 ghost use Rattle.be_door.specs.Door.{IsOf};
 ghost use Rattle.be_door.specs.Links.{IsUnused};
-ghost use Rattle.be_hub.specs.Links.{SessionServed, LinksServed, WorkerServed, MayBegin, session_at};
+ghost use Rattle.be_hub.specs.Links.{EntersNext, SessionServed, LinksServed, WorkerServed, MayBegin, session_at};
 ghost use Rattle.be_io.specs.Outside.{link_state};
 
 use crate::board::DeskBoard;
@@ -28,7 +28,7 @@ use std::sync::{MutexGuard, Wait};
 /// The session of a worker's seat is below this at the beginning: 2^61.
 pub const FIRST_END: u64 = 2305843009213693952;
 
-/// After a session the rows are maintained at most so many times, until there is memory for it.
+/// After a session the desk is tended at most so many times, until there is memory for it.
 const TRIES: u64 = 8;
 
 /// What a worker leaves of the links that it served: its seat and its count, how each session ended, in the order in which the
@@ -145,7 +145,7 @@ fn serve_next<
     }
 }
 
-// The seat in its next session, or in its first one.
+// The seat in its next session, or in its first one. Before a next one it empties its mailbox, without the lock.
 fn next_seat<T: Sheet<J>, J: Naming + BoxNames, S: Post, R: Wait>(
     rt: &R,
     hub: &Hub<T, J, S>,
@@ -154,13 +154,14 @@ fn next_seat<T: Sheet<J>, J: Naming + BoxNames, S: Post, R: Wait>(
 ) -> Seat<T, J>
     requires number { seat.session < SESSIONS_END }
     requires fresh { is_first ≡ true → own_in (word_of seat) ≡ [] }
-    ensures entered { result ≡ (if is_first then seat else record seat { session = seat.session + length J.boxes }) }
+    ensures entered { MatchBool is_first (result ≡ seat) (EntersNext J.schema (length J.boxes) seat result) }
     ensures fresh { own_in (word_of result) ≡ [] }
 {
     if is_first {
         return seat;
     }
     let mut seat = seat;
+    seat.empty_box(rt, &hub.mail);
     let guard = hub.desk.lock(rt);
     guard.enter(&mut seat);
     MutexGuard::unlock(guard);
@@ -193,7 +194,8 @@ fn serve_session<T: Sheet<J>, J: Naming + BoxNames, S: Post, R: Wait, L: Link, G
     }
 }
 
-// Maintains the rows until there is memory for it, so that a change that is held is published.
+// Tends the desk until there is memory for it, so that a change that is held is published. It looks for a step only where a look
+// was earned.
 fn publish_held<T: Sheet<J>, J: Naming + BoxNames, S: Post, R: Wait>(
     rt: &R,
     hub: &Hub<T, J, S>,
@@ -203,9 +205,9 @@ fn publish_held<T: Sheet<J>, J: Naming + BoxNames, S: Post, R: Wait>(
 {
     for _ in 0..TRIES {
         let mut guard = hub.desk.lock(rt);
-        let done = guard.maintain(rt, broom);
+        let done = guard.tend(rt, broom);
         MutexGuard::unlock(guard);
-        if !matches!(done, Maintained::NoMemory) {
+        if !matches!(done, Some(Maintained::NoMemory)) {
             return;
         }
     }

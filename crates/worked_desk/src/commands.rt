@@ -54,10 +54,23 @@ fn answer<T: Sheet<J>, J: Naming + BoxNames, R: Wait>(
         "A" => seats::answer(rt, alloc, schema, desk, seats.get_mut(0)?, rest),
         "B" => seats::answer(rt, alloc, schema, desk, seats.get_mut(1)?, rest),
         "MAINTAIN" => texts::maintained(alloc, &desk.maintain(rt, broom)),
+        "TEND" => tended(rt, alloc, desk, broom),
         "REST" => rested(rt, alloc, desk, broom),
         "FREE" => freed(rt, alloc, desk),
         "STATE" => format!(in alloc; "{} {}", desk.len(), broom.calls()).ok(),
         _ => None,
+    }
+}
+
+fn tended<T: Sheet<J>, J: Naming + BoxNames, R: Wait>(
+    rt: &R,
+    alloc: Global,
+    desk: &mut Desk<T, J>,
+    broom: &mut Broom,
+) -> Option<String> {
+    match desk.tend(rt, broom) {
+        Some(done) => texts::maintained(alloc, &done),
+        None => String::from_str(alloc, "not due").ok(),
     }
 }
 

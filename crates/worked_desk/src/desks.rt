@@ -28,6 +28,11 @@ use worked_indexes::Watched;
 // With which a desk may be opened.
 const TABLE: &[u8] = b"ROW x all\nROW y price < 5\n";
 
+// How many rows a table has that is more than one tend earns, and the number of the first insert behind it.
+const MANY: u64 = 90;
+
+const BEHIND_MANY: u64 = 91;
+
 // How many seats a desk is to have, and what is asked there.
 #[derive(Drop)]
 struct Script {
@@ -52,14 +57,32 @@ pub fn answers<R: Wait>(
     let script = Script { seats, commands };
     match kind {
         "list" => over_list(rt, alloc, schema, Vec::new(alloc), &script),
-        "tree" => over_tree(rt, alloc, schema, &script),
-        "balky" => over_balky(rt, alloc, schema, &script),
+        "tree" => over_tree(rt, alloc, schema, Vec::new(alloc), &script),
+        "balky" => over_balky(rt, alloc, schema, Vec::new(alloc), [1, 2], &script),
         "opened" => {
             let rows = read_table(alloc, schema, TABLE).ok()?;
             over_list(rt, alloc, schema, rows, &script)
         }
+        "many" => over_tree(rt, alloc, schema, many(alloc, schema)?, &script),
+        "many_balky" => {
+            let refuse = [BEHIND_MANY, BEHIND_MANY + 1];
+            over_balky(rt, alloc, schema, many(alloc, schema)?, refuse, &script)
+        }
         _ => None,
     }
+}
+
+// Rows that all stand in one leaf of a tree.
+fn many(alloc: Global, schema: &Schema) -> Option<Vec<Row>>
+    ensures table { IfSome result (λ rows. IsTable rows.items) }
+    ensures lie { IfSome result (λ rows. list_all (row_lies schema.now) rows.items ≡ true) }
+{
+    let mut text = String::new(alloc);
+    for number in 0..MANY {
+        let line = format!(in alloc; "ROW m{number} price = 7\n").ok()?;
+        text.push_str(line.as_str()).ok()?;
+    }
+    read_table(alloc, schema, text.as_bytes()).ok()
 }
 
 fn over_list<R: Wait>(
@@ -80,21 +103,29 @@ fn over_tree<R: Wait>(
     rt: &R,
     alloc: Global,
     schema: &Arc<Schema>,
+    rows: Vec<Row>,
     script: &Script,
-) -> Option<String> {
+) -> Option<String>
+    requires table { IsTable rows.items }
+    requires lie { list_all (row_lies (arc_value schema.now)) rows.items ≡ true }
+{
     let a = BeTree::make(alloc, Arc::try_clone(schema).ok()?);
     let b = BeTree::make(alloc, Arc::try_clone(schema).ok()?);
-    mailed::<BeTree, Brand, R>(rt, alloc, schema, a, b, Vec::new(alloc), script)
+    mailed::<BeTree, Brand, R>(rt, alloc, schema, a, b, rows, script)
 }
 
 fn over_balky<R: Wait>(
     rt: &R,
     alloc: Global,
     schema: &Arc<Schema>,
+    rows: Vec<Row>,
+    refuse: [u64; 2],
     script: &Script,
-) -> Option<String> {
-    let (a, b) = (balky(alloc, schema)?, balky(alloc, schema)?);
-    let rows = Vec::new(alloc);
+) -> Option<String>
+    requires table { IsTable rows.items }
+    requires lie { list_all (row_lies (arc_value schema.now)) rows.items ≡ true }
+{
+    let (a, b) = (balky(alloc, schema, refuse)?, balky(alloc, schema, refuse)?);
     mailed::<Watched<ListIndex>, Brand, R>(rt, alloc, schema, a, b, rows, script)
 }
 
@@ -104,12 +135,12 @@ fn plain(alloc: Global, schema: &Arc<Schema>) -> Option<ListIndex>
     Some(ListIndex::make(alloc, Arc::try_clone(schema).ok()?))
 }
 
-// It refuses its first two inserts.
-fn balky(alloc: Global, schema: &Arc<Schema>) -> Option<Watched<ListIndex>>
+// It refuses these of its inserts.
+fn balky(alloc: Global, schema: &Arc<Schema>, refuse: [u64; 2]) -> Option<Watched<ListIndex>>
     ensures { IfSome result (λ balky. balky.index ≡ plain_index (arc_value schema.now) []) }
 {
     let finds = Arc::new(alloc, AtomicU64::new(0)).ok()?;
-    let refuse = Vec::from_array(alloc, [1, 2]).ok()?;
+    let refuse = Vec::from_array(alloc, refuse).ok()?;
     Some(Watched::make(plain(alloc, schema)?, finds, refuse))
 }
 

@@ -11,4 +11,4 @@ returns-clause-answers g c =
 pub returns-clause-core : goal.returns-clause-core
 returns-clause-core g c =
     is_run_of_core c.args.self.now c.decide-answer.new.self c.args.seat.now c.decide-answer.new.seat c.args.ask c.decide-answer.result
-    (record { begins = c.len.ensures.begins; one = omega (arith, c.len.ensures.len, c.len.ensures.held) }) c.len-2.ensures.sound.formed c.decide-answer.ensures.steps c.decide-answer.ensures.seat c.few.ensures c.decide-answer.ensures.changed
+    (record { begins = c.len.ensures.begins; one = omega (arith, c.len.ensures.len, c.len.ensures.held) }) c.len-2.ensures.sound.formed c.decide-answer.ensures.steps c.decide-answer.ensures.patience c.decide-answer.ensures.seat c.few.ensures c.decide-answer.ensures.changed

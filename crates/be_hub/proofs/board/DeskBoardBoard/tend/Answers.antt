@@ -5,5 +5,5 @@ pub returns-then-self : goal.returns-then-self
 returns-then-self g c =
     let calls = c.calls.ensures in
     let most = c.calls.type_inv in
-    let more = c.maintain.ensures.broom in
-    (c.maintain.new.broom, omega (arith, calls, most, more), refl)
+    let more = c.tend.ensures.broom in
+    (c.tend.new.broom, omega (arith, calls, most, more), refl)

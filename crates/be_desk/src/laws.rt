@@ -1,0 +1,8 @@
+//! The law of how long a look is put off. Its function's contract is the law, which its proof shows; to call it does nothing.
+
+ghost use Rattle.be_desk.specs.Tends.{TendsComeDue};
+
+/// Tends that find nothing due are no more than the live rows divided by 64, until a change comes.
+pub fn tends_come_due()
+    ensures { TendsComeDue }
+{}

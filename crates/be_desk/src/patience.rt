@@ -1,0 +1,55 @@
+//! How long a desk waits before it looks for a step.
+
+ghost use Rattle.std.specs.Prelude.{◌≡◌, ◌≤◌, ◌↔◌, IsTrue};
+ghost use Rattle.be_base.specs.Counts.{raised};
+
+use std::marker::Model;
+
+/// What an accepted change earns towards the next look for a step, which goes through all live rows and costs 1 for each: so all looking
+/// takes about a tenth of the time that the changes take.
+pub const WORK_A_CHANGE: u64 = 8;
+
+/// What a tend earns: without any change a look comes after as many tends as there are live rows, divided by 64.
+pub const WORK_A_TEND: u64 = 64;
+
+/// What was earned since the last look. A count at the end of its type stays there.
+#[derive(Drop)]
+pub struct Patience {
+    credit: u64,
+}
+
+impl Model for Patience {
+    ghost use Rattle.std.specs.Prelude.{ℕ};
+
+    ghost Value = { ℕ };
+
+    ghost view = { λ p. p.credit };
+}
+
+impl Patience {
+    /// Nothing was earned yet.
+    pub fn make() -> Patience
+        ensures { result ≡ 0 }
+    {
+        Patience { credit: 0 }
+    }
+
+    pub fn earn(&mut self, work: u64)
+        ensures { self.new ≡ raised work self.old }
+    {
+        self.credit = self.credit.saturating_add(work);
+    }
+
+    /// Whether a look through so many rows was earned.
+    pub fn has_earned(&self, rows: u64) -> bool
+        ensures { IsTrue result ↔ (rows ≤ self.now) }
+    {
+        rows <= self.credit
+    }
+
+    pub fn spend(&mut self)
+        ensures { self.new ≡ 0 }
+    {
+        self.credit = 0;
+    }
+}
