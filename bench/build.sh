@@ -11,5 +11,5 @@ awk -v processors="$(nproc)" '{
     printf "the first build, on %d processors | %.0f min\n", processors, $1 / 60
     printf "its processor time | %.0f min\n", ($2 + $3) / 60
 }' "$room/took"
-du -sch "$room"/crates/*/out | awk 'END { print "what it keeps on disk | " $1 "B" }'
+du -sh "$room/out" | awk '{ print "what it keeps on disk | " $1 "B" }'
 stat -c '%s' "$(cat "$room/program")" | awk '{ printf "the program that it builds | %.0f kB\n", $1 / 1000 }'

@@ -1,7 +1,7 @@
 # shellcheck shell=bash disable=SC2034
 # What the scripts of this folder share; they source it. Each works in a room of its own, which goes at its end, with whatever
 # it has started. Each prints its figures as lines `WHAT | FIGURE`, without anything else on standard output.
-#   BENCH_PROGRAM   a built program to measure, in place of the one that ./justmeadow --build names
+#   BENCH_PROGRAM   a built program to measure, in place of the one that ./justmeadow runs
 #   BENCH_SMALL     where it is set, sizes and times are a twentieth: to try a script, not to measure
 set -u
 top="$(cd "$(dirname "${BASH_SOURCE[0]}")/.." && pwd)"
@@ -24,10 +24,10 @@ need() {
 }
 need /usr/bin/time time
 
-# Names the program, and builds it where there is none.
+# Names the program that ./justmeadow runs, which is built where there is none.
 use_program() {
     program="${BENCH_PROGRAM:-}"
-    [ -n "$program" ] || program="$("$top/justmeadow" --build)" || fail "the program can't be built"
+    [ -n "$program" ] || program="$("$top/justmeadow" --where)" || fail "the program can't be built"
     [ -x "$program" ] || fail "there is no program $program"
 }
 
