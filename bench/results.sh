@@ -68,7 +68,7 @@ figures() {
 | \`SUB\` lines a second, \`run\` | $(first changes SUBs) | | | | |
 | memory of a live subscription of 2.5 predicates, \`run\` and \`serve\` | $(taken memory 'live subscription') | | | | |
 
-Measured at $(stated), on $(machine). [bench/RESULTS.md](bench/RESULTS.md) has all figures, each with its script.
+The conditions and events are like a market's; each answers the same ones, and finds the same. Measured at $(stated), on $(machine). [bench/RESULTS.md](bench/RESULTS.md) has all figures, each with its script.
 
 TABLE
 }
