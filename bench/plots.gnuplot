@@ -46,6 +46,7 @@ set key outside right center vertical Left reverse samplen 2 spacing 1.5
 plot for [i = 1:words(there)] 'events-' . word(there, i) using 1:2 with linespoints linestyle (word(lines, i) + 0) title text(word(there, i))
 
 unset logscale
+set rmargin 5
 set key inside left top vertical Left reverse samplen 2 spacing 1.4
 set ytics ('0' 0)
 do for [thousands = 20:400:20] { set ytics add (sprintf('%d,000', thousands) thousands * 1000) }
