@@ -17,9 +17,10 @@ for script in "${scripts[@]}"; do
     timeout 180 bash "$top/bench/$script.sh" >"$room/$script.rows" || failed+=("$script")
 done
 
+processors() { echo "$(nproc) processors ($(awk -F ': ' '/^model name/ { print $2; exit }' /proc/cpuinfo))"; }
+
 machine() {
-    echo "$(nproc) processors ($(awk -F ': ' '/^model name/ { print $2; exit }' /proc/cpuinfo))," \
-        "$(awk '/^MemTotal/ { printf "%.0f GiB", $2 / 1048576 }' /proc/meminfo) of memory, $(uname -sr)"
+    echo "$(processors), $(awk '/^MemTotal/ { printf "%.0f GiB", $2 / 1048576 }' /proc/meminfo) of memory, $(uname -sr)"
 }
 
 results() {
@@ -68,7 +69,7 @@ figures() {
 | \`SUB\` lines a second, \`run\` | $(first changes SUBs) | | | | |
 | memory of a live subscription of 2.5 predicates, \`run\` and \`serve\` | $(taken memory 'live subscription') | | | | |
 
-The conditions and events are like a market's; each answers the same ones, and finds the same. Measured at $(stated), on $(machine). [bench/RESULTS.md](bench/RESULTS.md) has all figures, each with its script.
+The subscriptions and events are like a market's, and the same for all. Measured at $(stated), on $(processors). [bench/RESULTS.md](bench/RESULTS.md) has all figures.
 
 TABLE
 }
