@@ -33,7 +33,7 @@ if [ "${1-}" = --table ]; then
     exit
 fi
 
-most="$(scaled 50000)" changes="$(scaled 1000000)"
+most="$(scaled 100000)" changes="$(scaled 1000000)"
 run="$(in_run "$most")" && run_none="$(in_run 0)" && serve="$(in_serve "$most")" && serve_none="$(in_serve 0)" || exit 1
 row 'memory of an empty session, in `run` and in `serve`' "$(figure '%.1f and %.1f MiB' "$run_none / 1024, $serve_none / 1024")"
 row 'memory of a live subscription of 2.5 predicates, all told, in `run` and in `serve`' \
