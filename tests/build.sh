@@ -131,6 +131,29 @@ echo '// more' >>crates/base/src/lib.rt
 JUSTMEADOW_MEMORY=150000000 build 0
 noted 'begin base' 'end base' 'begin long' 'end long' 'begin short' 'end short' 'begin longer' 'end longer' 'begin justmeadow' 'end justmeadow'
 
+what='a change while it is built'
+echo '// more' >>crates/long/src/lib.rt
+: >"$NOTES"
+tools/build >out.log 2>&1 &
+for _ in $(seq 100); do grep -q 'begin longer' "$NOTES" && break; sleep 0.05; done
+echo '// more' >>crates/base/src/lib.rt
+wait $! && { echo "FAILED: $what: it ended well"; exit 1; }
+says 'was changed while it was built: build again'
+what='and the build after it'
+build 0
+says '5 of 5 crates are to be proved'
+
+what='two builds at once'
+echo '// more' >>crates/base/src/lib.rt
+: >"$NOTES"
+tools/build >first.log 2>&1 &
+sleep 0.3
+tools/build >out.log 2>&1 || { echo "FAILED: $what: the second failed"; exit 1; }
+wait $! || { echo "FAILED: $what: the first failed"; exit 1; }
+says 'another build runs here: waiting for it'
+[ "$(grep -c begin "$NOTES")" = 5 ] || { echo "FAILED: $what: a crate was built twice"; cat "$NOTES"; exit 1; }
+passed=$((passed + 1))
+
 what='Ctrl-C'
 echo '// more' >>crates/base/src/lib.rt
 : >"$NOTES.slow"

@@ -106,6 +106,11 @@ script gen; same 'a build that fails' 1 '' "${differ}low failed\n"
 rm "$own/top/broken"
 script gen; same 'a build' 0 'built gen\n' "$differ"
 script gen; same 'what was built' 0 'built gen\n' ''
+cp -p "$own/top/crates/justmeadow/src/lib.rt" older.rt
+sleep 0.01; echo '// later' >"$own/top/crates/justmeadow/src/lib.rt"
+script gen; same 'sources that changed once more' 0 'built gen\n' "$differ"
+sleep 0.01; cp -p older.rt "$own/top/crates/justmeadow/src/lib.rt"
+script gen; same 'an older source that was put back' 0 'built gen\n' "$differ"
 script --where; same 'where that lies' 0 'TOP/out/justmeadow\n' ''
 script --build; same 'a build of what is built' 0 'TOP/out/justmeadow\n' ''
 script --unproved run in --load=in
@@ -114,6 +119,9 @@ same 'an unproved run' 4 "try -- run $room/in --load=$room/in in justmeadow\nLIS
 script run; same 'the sources as they were' 6 'ran run\n' ''
 
 # what the gate asks of dist/
+"$own/top/tools/dist" --check >out 2>err; code=$?
+same 'a program of other sources' 1 '' 'dist: no program was built of these sources: run rt ci or ./justmeadow --build\n'
+script --build; same 'a build of these sources' 0 'TOP/out/justmeadow\n' ''
 PATH="$own/bin:$PATH" "$own/top/tools/dist" --check >out 2>err; code=$?
 sed -i 's/: .*//' out
 same 'another program than the one that was built' 1 'FAILED\n' ''
@@ -123,7 +131,7 @@ same 'that one taken' 0 '' ''
 same 'is the one that was built' 0 'dist/justmeadow-x86_64-linux is the program that was built from these sources, byte for byte\n' ''
 rm -r "$own/top/out"
 "$own/top/tools/dist" --check >out 2>err; code=$?
-same 'no program was built' 1 '' 'dist: there is no built program: run rt ci or ./justmeadow --build\n'
+same 'no program was built' 1 '' 'dist: no program was built of these sources: run rt ci or ./justmeadow --build\n'
 
 # no kit
 echo '// another' >"$own/top/crates/low/src/lib.rt"

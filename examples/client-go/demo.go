@@ -93,6 +93,10 @@ func kindOf(err error) string {
 
 func main() {
 	words := os.Args[1:]
+	if len(words) < 1 || len(words) > 3 {
+		fmt.Fprintln(os.Stderr, "justmeadow: PORT [PATIENCE [HOST]]")
+		os.Exit(1)
+	}
 	words = append(words, []string{"", "30", "127.0.0.1"}[len(words):]...)
 	patience, _ := time.ParseDuration(words[1] + "s")
 	client, err := Connect(net.JoinHostPort(words[2], words[0]), patience)

@@ -363,6 +363,7 @@ async function answer(client, line) {
 }
 
 async function main(port, patience = '30', host = '127.0.0.1') {
+  if (!/^\d+$/.test(port)) throw new Error('PORT [PATIENCE [HOST]]');
   const client = await Client.connect(Number(port), { host, patience: Number(patience) });
   for await (const line of readline.createInterface({ input: process.stdin })) {
     console.log(JSON.stringify(await answer(client, line)));

@@ -394,6 +394,7 @@ def main(port, patience="30", host="127.0.0.1"):
     except Lost as error:
         sys.exit(f"justmeadow: {error}")
 
-
 if __name__ == "__main__":
+    if not 1 <= len(sys.argv[1:]) <= 3 or not sys.argv[1].isdigit():
+        sys.exit("justmeadow: PORT [PATIENCE [HOST]]")
     main(*sys.argv[1:])

@@ -25,6 +25,7 @@ FAULTS = {
     links.check_places: [
         ("docs/develop/terms.md", None, "in /home/somebody/file", "names a place of a machine"),
         ("docs/develop/terms.md", None, "as issue 12 says", "names something outside"),
+        ("docs/develop/terms.md", None, "takes @@TIME", "has '@@TIME' where something is to be written"),
     ],
     links.check_readme: [("README.md", None, "x" * 8192, "more than 8192")],
     names.check_map: [

@@ -10,6 +10,8 @@ PATH = re.compile(r"(?<![\w./-])(?:crates|docs|bench|tests|tools|examples|comple
 COMMAND = re.compile(r"\./justmeadow +(\S+)")
 # of the machine on which something was written
 MACHINE = re.compile(r"(?<![\w.])/(?:work|tmp|root|home)\b[\w./-]*")
+# what stands for something that is still to be written
+UNWRITTEN = re.compile(r"@@\w*|\bTODO\b|\bTBD\b|\bTo be replaced\b")
 # a task, a paper, or a place on the network that the repository doesn't stand on
 OUTSIDE = re.compile(r"\bissue #?\d+|\b[TD]\d\.\d+\b|\bpaper \d+|\b[\w.-]*(?:crates\.io|pypi\.org|npmjs\.\w+|golang\.org)\b", re.I)
 
@@ -90,6 +92,8 @@ def check_places(book, sources, report):
     for page in book.pages.values():
         for found in MACHINE.findall(page.text):
             report.see(False, f"{page.path} names a place of a machine, {found}")
+        for found in UNWRITTEN.findall(page.text):
+            report.see(False, f"{page.path} has '{found}' where something is to be written")
         for found in OUTSIDE.findall(page.text):
             report.see(False, f"{page.path} names something outside of the repository, {found}")
         report.see(True, "")

@@ -15,7 +15,7 @@ BESIDE = re.compile(r"((?:`[\w:]+`(?:, | and )?)+) \((`\w+/[\w/.]+`)\)")
 # functions, and in brackets their clauses
 CARRIED = re.compile(r"((?:`[\w:]+`(?:, )?)+)(?: of (?:trait )?`\w+`)? \(([^()]*)\)")
 FIELD = re.compile(r"`([a-z]\w*)` of `([A-Z]\w*)`")
-REFUSED = re.compile(r"(gate|planted): ([^|;]*)")
+REFUSED = re.compile(r"(gate|planted): ([^|;\n]*)")
 OF_OWNER = re.compile(r"`([a-z]\w*)`(?= of `([\w:]+)`)")
 OF_CRATE = re.compile(r"((?:`\w+`(?:,? and |, )?)+) of `(be_\w+)`")
 
@@ -105,7 +105,7 @@ def check_bodies(book, sources, report):
         report.see(named[place] or not there, f"{BODIES} names no edit of '{place}'")
         for crate, name in sorted(named[place]):
             report.see((crate, name) in there, f"{BODIES} names the edit {name} of {crate} ({place}), which isn't there")
-        if "by their names" not in text:
+        if "others stand by their names alone" not in text:
             for crate, name in sorted(there):
                 report.see((crate, name) in named[place], f"{BODIES} doesn't name the edit {name} of {crate} ({place})")
 

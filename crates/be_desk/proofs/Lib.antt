@@ -7,7 +7,7 @@ mod Records
 mod Seats
 mod Offered
 mod Fetched
-pub mod Emptied
+mod Emptied
 mod Desks
 mod Ledgers
 mod Draws

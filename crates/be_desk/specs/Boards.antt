@@ -12,7 +12,7 @@ use Rattle.be_desk.specs.Seats.{SeatState, word_of}
 abbrev pub put_count : Passes → ℕ
 put_count q = sum_by (λ (letters : List PlainLetter). length letters) q.puts
 
--- the seat as the board of its session, through which the rows were maintained so often. It tells no box, and others change its list
+-- the seat as the board of its session, through which the desk was tended so often. It tells no box, and others change its list
 abbrev pub board_of : Attributes → ℕ → SeatState → BoardState
 board_of schema tends s = record {
   seat = s.passes.seat;
@@ -31,7 +31,7 @@ board_of schema tends s = record {
   alone = false;
 }
 
--- it holds of the board before and after, however often the rows were maintained
+-- it holds of the board before and after, however often the desk was tended
 abbrev pub OnBoards : Attributes → (BoardState → BoardState → Type 0) → SeatState → SeatState → Type 0
 OnBoards schema P s s' = (tends : ℕ) → P (board_of schema tends s) (board_of schema tends s')
 

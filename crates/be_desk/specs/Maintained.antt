@@ -57,6 +57,7 @@ IsDue d = HasPending d ⊎ (length (live d.list) ≤ d.patience)
 abbrev pub IsTended : DeskState → DeskState → Option Maintained → Type 0
 -- nothing is pending, and nothing was done. It earned, and the live rows are still more than was earned
 IsTended d d' None = (d ≡ freed d) × (d' ≡ having_tended d) × (d'.patience < length (live d.list))
--- it was due, and the desk was maintained: a change that was held was published, or what was earned was spent on a look
+-- it was due, and the desk was maintained: a change that was held was published, or what was earned was spent, and what is pending
+-- published before a look
 IsTended d d' (Some done) =
     IsDue (having_tended d) × ((HasHeld d × IsMaintained (having_tended d) d' done) ⊎ ((d.published ≡ d.list) × IsMaintained (looking d) d' done))

@@ -1,4 +1,4 @@
-//! What counts the calls of the maintainer.
+//! What counts how often a desk was maintained or tended.
 
 ghost use Rattle.std.specs.Prelude.{◌≡◌};
 

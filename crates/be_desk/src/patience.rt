@@ -5,8 +5,8 @@ ghost use Rattle.be_base.specs.Counts.{raised};
 
 use std::marker::Model;
 
-/// What an accepted change earns towards the next look for a step, which goes through all live rows and costs 1 for each: so all looking
-/// takes about a tenth of the time that the changes take.
+/// What an accepted change earns towards the next look for a step, which goes through all live rows and costs 1 for each: the looks
+/// that changes earn take about a tenth of the time that the changes take.
 pub const WORK_A_CHANGE: u64 = 8;
 
 /// What a tend earns: without any change a look comes after as many tends as there are live rows, divided by 64.

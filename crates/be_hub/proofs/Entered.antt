@@ -1,12 +1,12 @@
 -- What stays of a seat between two of its sessions.
-use Rattle.std.proofs.Common.{◌≡◌, ℕ, ◌+◌, ◌≤◌, ◌⊎◌, inl, inr, List, ◌++◌, map, sym, ap, ◌∙◌, subst, arith}
+use Rattle.std.proofs.Common.{◌≡◌, ℕ, ◌+◌, ◌≤◌, inl, inr, List, ◌++◌, map, ap, ◌∙◌, arith}
 use Rattle.std.proofs.lemmas.List.{map-append}
 use Rattle.be_base.specs.Lists.{BeginsWith}
 use Rattle.be_model.specs.Schemas.{Attributes}
 use Rattle.be_mail.specs.Letters.{Posting, letter_in}
 use Rattle.be_mail.specs.Passes.{Passes}
 use Rattle.be_desk.specs.Boards.{put_count}
-use Rattle.be_desk.specs.Emptied.{after_taken, TakesAll}
+use Rattle.be_desk.specs.Emptied.{TakesAll}
 use Rattle.be_desk.specs.Seats.{SeatState}
 use Rattle.be_hub.specs.Links.{EntersNext}
 

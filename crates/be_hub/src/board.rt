@@ -23,7 +23,7 @@ pub struct DeskBoard<'a, T: Sheet<J>, J: Naming + BoxNames, S: Post, R: Wait> {
     hub: &'a Hub<T, J, S>,
     seat: Seat<T, J>,
     broom: Broom,
-    // Whether the rows are maintained when it is tended.
+    // Whether the desk is tended when it is.
     tends: bool,
 }
 

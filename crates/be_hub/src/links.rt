@@ -32,7 +32,7 @@ pub const FIRST_END: u64 = 2305843009213693952;
 const TRIES: u64 = 8;
 
 /// What a worker leaves of the links that it served: its seat and its count, how each session ended, in the order in which the
-/// links were given back, and the calls of the maintainer that it made.
+/// links were given back, and how often it tended the desk.
 #[derive(Drop)]
 pub struct WorkEnd<T: Sheet<J>, J: Naming + BoxNames, L> {
     pub seat: Seat<T, J>,

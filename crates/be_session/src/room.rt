@@ -44,7 +44,7 @@ impl Room {
         if self.changes.capacity() > ROWS_KEPT {
             self.changes = Vec::new(alloc);
         }
-        if self.found.len() > ROWS_KEPT {
+        if self.found.len().saturating_add(self.found.spare()) > ROWS_KEPT {
             self.found = Found::make(alloc);
         }
     }

@@ -1,6 +1,6 @@
 //! One session: a reply for each line, until a QUIT, the end of the input, a SPLIT or a fault.
 
-ghost use Rattle.std.specs.Prelude.{◌≡◌, ◌+◌, ◌<◌, ◌≤◌, [], length, true, false, None, OnOk, IfErr};
+ghost use Rattle.std.specs.Prelude.{◌≡◌, ◌+◌, ◌<◌, ◌≤◌, [], length, true, false, None, OnOk, IfErr, vec_capacity};
 ghost use Rattle.be_base.specs.declared.limits.TheConstants.{SOURCE_BYTES};
 ghost use Rattle.be_io.specs.Lines as line;
 ghost use Rattle.be_io.specs.Outside.{link_state, sink_state};
@@ -10,6 +10,7 @@ ghost use Rattle.be_model.specs.Schemas.{Attributes};
 ghost use Rattle.be_board.specs.State.{BoardState, is_gone};
 ghost use Rattle.be_board.specs.Word.{own_in};
 ghost use Rattle.be_session.specs.Requests.{plain_request, request_lies};
+ghost use Rattle.be_session.specs.declared.room.TheConstants.{REPLY_KEPT};
 ghost use Rattle.be_session.specs.Short.{plain_reply};
 ghost use Rattle.be_session.specs.Served.{SessionEnds, TakesWithin, BoardLeft, KeepsBeside};
 ghost use Rattle.be_session.specs.Turns.{IsReading, TakesAlike, TurnsAfter, Turned, short_end, Tells, TellsText};
@@ -103,10 +104,9 @@ pub fn serve_link<B: Board, L: Link, G: Gate>(
             worker,
             line: lines + 1,
         };
-        match take_turn(alloc, schema, board, &mut room, &mut reader, link, &station) {
+        match next_turn(alloc, schema, board, &mut room, &mut reader, link, &station) {
             Turn::Next => {
                 lines += 1;
-                room.let_go(alloc);
                 if lines % REPLIES_TENDED == 0 {
                     board.tend();
                 }
@@ -118,6 +118,41 @@ pub fn serve_link<B: Board, L: Link, G: Gate>(
             Turn::After(end) => return end,
         }
     }
+}
+
+// Takes a turn, and then lets room go that is too large to be kept for the next one.
+fn next_turn<B: Board, L: Link, G: Gate>(
+    alloc: Global,
+    schema: &Schema,
+    board: &mut B,
+    room: &mut Room,
+    reader: &mut LineReader,
+    link: &mut L,
+    station: &Station<'_, G>,
+) -> Turn
+    requires reads { IsReading reader.old }
+    requires present { is_gone (B.state board.old) ≡ false }
+    requires schema { (B.state board.old).schema ≡ schema.now }
+    ensures turned { Turned schema.now
+        (record {
+          reader = reader.old;
+          link = link_state L.Source L.Sink link.old;
+          board = B.state board.old;
+        })
+        (record {
+          reader = reader.new;
+          link = link_state L.Source L.Sink link.new;
+          board = B.state board.new;
+        }) result }
+    ensures alike { TakesAlike reader.old.taken reader.new.taken (L.taken link.old) (L.taken link.new) }
+    ensures progress { result ≡ Turn.Next → length reader.new.unread + reader.old.taken < length reader.old.unread + reader.new.taken }
+    ensures bound { reader.new.taken ≤ SOURCE_BYTES }
+    ensures beside { KeepsBeside (L.kept_by_read link.old) (L.kept_by_read link.new) }
+    ensures room { vec_capacity room.new.reply ≤ REPLY_KEPT }
+{
+    let turn = take_turn(alloc, schema, board, room, reader, link, station);
+    room.let_go(alloc);
+    turn
 }
 
 // Reads the next line and answers it.
