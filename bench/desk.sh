@@ -1,9 +1,8 @@
 #!/usr/bin/env bash
 # Prints how long a change at a desk takes, by one seat over two trees, where a thousand rows live and where the rows grow; how
-# long a leave takes; and the memory of an entry of the list and of a live subscription, with both copies. The desk looks at no
-# row but those that it changes; of such rows as these, narrow ranges on
-# one attribute, many stand in leaves of the tree that can't be divided, where a removal finds its row by hints of ids.
-# It builds, and so proves, a program of its own. No part of the gate.
+# long a leave takes; and the memory of an entry of the list and of a live subscription, with both copies. The rows are narrow ranges
+# on one attribute: many stand in leaves of the tree that can't be divided, where a removal finds its row by hints of ids.
+# It builds, and so proves, a program of its own.
 # shellcheck source=common.sh
 . "$(dirname "${BASH_SOURCE[0]}")/common.sh"
 own_crate deskbench be_base be_io be_model be_change be_index be_shape be_match be_score be_insert be_remove be_adjust be_plan be_tree be_copy be_core be_board be_mail be_expr be_event be_transcript be_published be_desk
@@ -24,9 +23,8 @@ changes() {
     drawn="$(measure 3 drawing "$2" 0)" || exit 1
     once="$(measure 3 "$1" "$2" 0)" && twice="$(measure 3 "$1" $((2 * $2)) 0)" || exit 1
     awk -v live="$3" -v drawn="$drawn" -v once="$once" -v twice="$twice" -v count="$2" 'BEGIN {
-        printf "a change at the desk, of %d of which %s: %.0f ns, and some %.0f ns to read what is asked; twice as many take %.2f times as long\n",
+        printf "a change at the desk, of %d of which %s | %.0f ns, and some %.0f ns to read what is asked; twice as many take %.2f times as long\n",
             count, live, 1e9 * (once - drawn) / count, 1e9 * drawn / count, twice / once
-        if (twice > 2.4 * once) print "more than wanted, which is 2.4 times"
     }'
 }
 count=1000000
@@ -41,10 +39,10 @@ leave() {
 }
 one="$(leave 100000 0)" && two="$(leave 200000 0)" && beside="$(leave 100000 100000)" || exit 1
 awk -v one="$one" -v two="$two" -v beside="$beside" 'BEGIN {
-    printf "a leave of 100,000 rows: %.0f ms, %.0f ns a row; of 200,000: %.2f times as long; beside 100,000 of another seat: %.2f times as long\n",
+    printf "a leave of 100,000 rows | %.0f ms, %.0f ns a row; of 200,000: %.2f times as long; beside 100,000 of another seat: %.2f times as long\n",
         1e3 * one, 1e9 * one / 100000, two / one, beside / one
 }'
 awk -v once="$(memory bounded "$count" 0)" -v twice="$(memory bounded $((2 * count)) 0)" -v live="$(memory only 100000 0)" -v lives="$(memory only 200000 0)" -v count="$count" 'BEGIN {
-    printf "memory of an entry of the list, where half of them subscribe and 1,000 rows live: %.0f bytes\n", 1024 * (twice - once) / count
-    printf "memory of a live subscription, with its entry: %.0f bytes\n", 1024 * (lives - live) / 100000
+    printf "memory of an entry of the list, where half of them subscribe and 1,000 rows live | %.0f bytes\n", 1024 * (twice - once) / count
+    printf "memory of a live subscription, with its entry | %.0f bytes\n", 1024 * (lives - live) / 100000
 }'

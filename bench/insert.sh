@@ -5,7 +5,7 @@
 # the processor's time: the middle one of nine runs, of which each of 50,000 is followed by one of 100,000. What the cache does
 # is told from the work by two more lines: the time of only reading the rows in that order, and, where valgrind is there,
 # the instructions of the removals.
-# It builds, and so proves, a program of its own. No part of the gate.
+# It builds, and so proves, a program of its own.
 # shellcheck source=common.sh
 . "$(dirname "${BASH_SOURCE[0]}")/common.sh"
 own_crate insertbench be_base be_model be_shape be_score be_insert be_remove
@@ -48,10 +48,10 @@ done
 awk -v half="$half" -v all="$all" -v stuck_half="$stuck_half" -v stuck_all="$stuck_all" \
     -v out_half="$(middle "$room/half.txt")" -v out_all="$(middle "$room/all.txt")" \
     -v read_half="$(middle "$room/half_read.txt")" -v read_all="$(middle "$room/all_read.txt")" 'BEGIN {
-    printf "placing 100,000 random rows in a tree: %.3f s, %.2f times what 50,000 take\n", all, all / half
-    printf "placing 20,000 stuck rows at one node: %.3f s, %.2f times what 10,000 take\n", stuck_all, stuck_all / stuck_half
-    printf "taking 100,000 random rows out of a tree in mixed order: %.3f s, %.2f times what 50,000 take\n", out_all / 1e9, out_all / out_half
-    printf "only reading these rows in the same order: %.3f s, %.2f times what 50,000 take\n", read_all / 1e9, read_all / read_half
+    printf "placing 100,000 random rows in a tree | %.3f s, %.2f times what 50,000 take\n", all, all / half
+    printf "placing 20,000 stuck rows at one node | %.3f s, %.2f times what 10,000 take\n", stuck_all, stuck_all / stuck_half
+    printf "taking 100,000 random rows out of a tree in mixed order | %.3f s, %.2f times what 50,000 take\n", out_all / 1e9, out_all / out_half
+    printf "only reading these rows in the same order | %.3f s, %.2f times what 50,000 take\n", read_all / 1e9, read_all / read_half
 }'
 
 # counted KIND ROWS: the instructions of a run
@@ -61,5 +61,5 @@ counted() {
 
 command -v valgrind >/dev/null || exit 0
 awk -v a="$(counted kept 50000)" -v b="$(counted taken 50000)" -v c="$(counted kept 100000)" -v d="$(counted taken 100000)" 'BEGIN {
-    printf "its instructions: %.1f million, %.2f times those of 50,000\n", (d - c) / 1e6, (d - c) / (b - a)
+    printf "its instructions | %.1f million, %.2f times those of 50,000\n", (d - c) / 1e6, (d - c) / (b - a)
 }'

@@ -1,9 +1,9 @@
 #!/usr/bin/env bash
 # Prints where the time of `run` goes, of 10,000 subscriptions and 5,000 events of the generated kind and of 200,000 events like a
-# market's: shares of the samples that perf takes, by the functions that were run. It needs perf. No part of the gate.
+# market's: shares of the samples that perf takes, by the functions that were run. It needs perf.
 # shellcheck source=common.sh
 . "$(dirname "${BASH_SOURCE[0]}")/common.sh"
-command -v perf >/dev/null || { echo "there is no perf"; exit 1; }
+command -v perf >/dev/null || fail "there is no perf here; Debian's package linux-perf has it"
 use_program
 
 # parts KIND TEXT EVENTS
@@ -23,7 +23,7 @@ parts() {
             sum[part] += share
         }
         END {
-            printf "%d events %s over 10,000 subscriptions: search and a reference to each found row %.0f%%, order of the found rows %.0f%%, letting them go %.0f%%, reply %.0f%%, reading a line and its event %.0f%%, the subscriptions and the rest %.0f%%\n",
+            printf "%d events %s over 10,000 subscriptions | search and a reference to each found row %.0f%%, order of the found rows %.0f%%, letting them go %.0f%%, reply %.0f%%, reading a line and its event %.0f%%, the subscriptions and the rest %.0f%%\n",
                 events, text, sum["search"], sum["order"], sum["free"], sum["reply"], sum["line"], sum["rest"]
         }'
 }

@@ -1,7 +1,7 @@
 #!/usr/bin/env bash
 # Makes each allocation of the test of refused insertions in worked_tree fail in turn, and prints what the runs came to: how
 # many had memory of the test's own refused, and tested nothing, and in how many which row came back. It builds once, and
-# proves nothing. It ends with status 1 where a run saw something wrong. No part of the gate.
+# proves nothing. It ends with status 1 where a run saw something wrong.
 # shellcheck source=common.sh
 . "$(dirname "${BASH_SOURCE[0]}")/common.sh"
 own_crate refused be_base be_model be_score be_shape be_match be_insert worked_walks
@@ -18,9 +18,9 @@ awk -v last="$last" '
     /^== / { pieces = $2 }
     /^(Untested|AllPlaced|CameBack|Wrong)/ { runs++; times[$0]++; if (!pieces) whole = $0 == "AllPlaced" }
     END {
-        for (outcome in times) printf "%s: %d\n", outcome, times[outcome] | "sort -V"
+        for (outcome in times) printf "runs that ended with %s | %d\n", outcome, times[outcome] | "sort -V"
         close("sort -V")
-        printf "of %d runs\n", runs
+        printf "runs | %d\n", runs
         if (runs != last) { print "not every run ended well"; exit 1 }
         if (!whole) { print "the test takes more memory than is looked at"; exit 1 }
         exit ("Wrong" in times)

@@ -1,12 +1,14 @@
 #!/usr/bin/env bash
-# Prints the time of reading the greatest schema, 256 attributes of 4,096 symbols each, of half of it, and of a schema
-# whose one line has more symbols than it may. No part of the gate.
+# Prints what it takes to read the greatest schema, 256 attributes of 4,096 symbols each, beside half of it, and to refuse a schema
+# whose one line has more symbols than it may: processor time, the least of five runs.
 # shellcheck source=common.sh
 . "$(dirname "${BASH_SOURCE[0]}")/common.sh"
 use_program
+cd "$room" || exit 1
+: >none.txt
 
-# schema ATTRIBUTES SYMBOLS
-schema() {
+# many ATTRIBUTES SYMBOLS: a schema
+many() {
     awk -v attributes="$1" -v symbols="$2" 'BEGIN {
         for (i = 0; i < attributes; i++) {
             printf "sym a%d", i
@@ -16,18 +18,13 @@ schema() {
     }'
 }
 
-# measure STATUS ATTRIBUTES SYMBOLS: the least seconds of processor time of five runs that end so
+# measure STATUS ATTRIBUTES SYMBOLS: the least processor seconds of a session that ends so
 measure() {
-    local wanted="$1"
-    shift
-    schema "$@" >"$room/schema.txt"
-    least 5 /dev/null "$program" run "$room/schema.txt"
-    [ "$(cat "$room/status")" = "$wanted" ] || { echo "another status than $wanted" >&2; exit 1; }
+    many "$2" "$3" >schema.txt
+    least 5 none.txt "$program" run schema.txt
+    [ "$(cat status)" = "$1" ] || fail "another status than $1"
 }
 
 half="$(measure 0 128 4096)" && whole="$(measure 0 256 4096)" && over="$(measure 3 1 1000000)" || exit 1
-awk -v half="$half" -v whole="$whole" -v over="$over" 'BEGIN {
-    printf "reading the greatest schema, 256 attributes of 4,096 symbols: %.2f s\n", whole
-    printf "reading half of it: %.2f s\n", half
-    printf "refusing an attribute of 1,000,000 symbols: %.2f s\n", over
-}'
+row "reading the greatest schema, of 256 attributes with 4,096 symbols each" "$(figure '%.2f s, %.2f times what half of it takes' "$whole, $whole / $half")"
+row "refusing an attribute of 1,000,000 symbols" "$(figure '%.2f s' "$over")"

@@ -1,7 +1,6 @@
 #!/usr/bin/env bash
 # Prints the time of 20,000,000 searches of a tree with 4, 8 and 16 rows at its root, each of which is tested and not
-# found, beyond the time of as many searches without a row. It builds, and so proves, a program of its own. No part of
-# the gate.
+# found, beyond the time of as many searches without a row. It builds, and so proves, a program of its own.
 # shellcheck source=common.sh
 . "$(dirname "${BASH_SOURCE[0]}")/common.sh"
 own_crate search be_base be_model be_shape be_match
@@ -15,8 +14,8 @@ measure() {
 
 none="$(measure 0)" && four="$(measure 4)" && eight="$(measure 8)" && all="$(measure 16)" || exit 1
 awk -v none="$none" -v four="$four" -v eight="$eight" -v all="$all" 'BEGIN {
-    printf "searching a tree of one node without a row: %.1f ns\n", 50 * none
-    printf "testing 4 rows there: %.1f ns more\n", 50 * (four - none)
-    printf "testing 8 rows there: %.1f ns more\n", 50 * (eight - none)
-    printf "testing 16 rows there: %.1f ns more\n", 50 * (all - none)
+    printf "searching a tree of one node without a row | %.1f ns\n", 50 * none
+    printf "testing 4 rows there | %.1f ns more\n", 50 * (four - none)
+    printf "testing 8 rows there | %.1f ns more\n", 50 * (eight - none)
+    printf "testing 16 rows there | %.1f ns more\n", 50 * (all - none)
 }'

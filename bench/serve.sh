@@ -1,15 +1,146 @@
 #!/usr/bin/env bash
-# Prints how fast `serve` answers over TCP, on 127.0.0.1, over 10,000 subscriptions: round trips a second of one client, which
-# waits for each reply, and of 4 clients on 4 seats; and bulk lines a second of one client, which sends all of them and reads
-# meanwhile, beside those of `run` over pipes. The same PUB lines in all. Bulk lines over TCP are to be 0.7 times those of
-# `run` at least; that is told where it isn't so. A client's own time counts, as it is in Python. Each figure is the best of the
-# runs, in one run of this script. No part of the gate.
-#   bench/serve.sh [PUBS] [RUNS]
+# Prints how fast `serve` answers over connections to 127.0.0.1. Of conditions and events like a market's (bench/market.awk): round
+# trips, lines in bulk, a mixed load. Of conditions of the generated kind (bench/generated.awk), of which more stand in one place of
+# the tree: a removal beside a client that sends empty lines alone, and whether each sixteenth reply takes longer than the others,
+# where events assign nothing and find nothing. Of both: how long it takes to fill it. The clients run on the same machine
+# (bench/client.c), each a thread, and their time counts. Times are elapsed ones: of three runs the middle, of the mixed load one run.
+#   bench/serve.sh                          prints the figures
+#   bench/serve.sh --table CONNECTIONS..    prints a line `CONNECTIONS TRIPS_A_SECOND` for each of these numbers of connections
 # shellcheck source=common.sh
 . "$(dirname "${BASH_SOURCE[0]}")/common.sh"
+set -o pipefail
 use_program
+need python3 python3
+compiled client client.c
 cd "$room" || exit 1
-awk -v what=schema -f "$top/bench/workload.awk" >schema.txt
-awk -v what=script -v subs=10000 -v events=0 -f "$top/bench/workload.awk" | sed 's/^SUB/ROW/' >load.txt
-awk -v what=script -v subs=1 -v events="${1:-40000}" -f "$top/bench/workload.awk" | sed 1d | grep ^PUB >events
-python3 "$top/bench/serve.py" "${SERVE_PROGRAM:-$program}" "${2:-3}"
+most="$(scaled 100000)" fifth="$(scaled 20000)" tenth="$(scaled 10000)"
+seconds="${BENCH_SMALL:+0.3}" seconds="${seconds:-1}"
+: >none.txt
+
+# conditions KIND: the schema and the conditions of the servers from here on
+conditions() {
+    local rows
+    schema "$1" >schema.txt
+    script "$1" "$most" 0 >subs.txt
+    head -n $((most / 2)) subs.txt >subs-half.txt
+    for rows in "$most" "$fifth" "$tenth"; do head -n "$rows" subs.txt | sed 's/^SUB/ROW/' >"load-$rows.txt"; done
+}
+
+# ask CLIENT'S WORD ROWS SEATS WORD..: what a client says of a new server over so many rows
+ask() {
+    local word="$1" rows="$2" seats="$3"
+    serving "$seats" --load "load-$rows.txt"
+    client "$word" "$port" "${@:4}"
+    echo "$told"
+}
+
+# middle COMMAND..: runs it three times; prints the line whose first number is the middle one
+middle() { for _ in 1 2 3; do "$@" || exit 1; done | sort -n | sed -n 2p; }
+
+# trips CONNECTIONS: the trips a second over so many connections, their median and their 99th percentile
+trips() { middle ask trips "$tenth" "$1" "$1" "$seconds" events.txt; }
+
+# round_trips TEXT CONNECTIONS
+round_trips() {
+    local found rate median late
+    found="$(trips "$2")" || exit 1
+    read -r rate median late <<<"$found"
+    row "round trips a second over $1, with $(grouped "$tenth") subscriptions" "$(grouped "$rate"); median $median µs, 99th percentile $late µs"
+}
+
+# fill FILE: the seconds that its lines take over one connection to an empty server
+fill() {
+    serving 1
+    client bulk "$port" "$1" "$server"
+    echo "$told"
+}
+
+# filled FILE: of three times the middle, or the first one where that is over some seconds
+filled() {
+    local first
+    first="$(fill "$1")" || exit 1
+    if [ "$(figure %d "${first% *}")" -gt 3 ]; then echo "$first"; else { echo "$first"; fill "$1" && fill "$1"; } | sort -n | sed -n 2p; fi
+}
+
+# by_run FILE WORD..: the seconds that its lines take `run`
+by_run() {
+    local idle took
+    idle="$(fastest 3 none.txt "$program" run schema.txt "${@:2}")" && took="$(fastest 3 "$1" "$program" run schema.txt "${@:2}")" || exit 1
+    [ "$(wc -l <out.txt)" = "$(wc -l <"$1")" ] || fail "not every line has its reply"
+    figure '%.4f' "$took - $idle"
+}
+
+in_bulk() {
+    local took run
+    # the process of a server isn't asked for its memory here
+    took="$(middle ask bulk "$tenth" 1 events.txt none)" && run="$(by_run events.txt --load "load-$tenth.txt")" || exit 1
+    row "events a second in bulk over one connection, and by \`run\` from a file, with $(grouped "$tenth") subscriptions" \
+        "$(grouped "$(figure %f "$most / ${took% *}")") and $(grouped "$(figure %f "$most / $run")")"
+}
+
+# filling TEXT
+filling() {
+    local took took_half run
+    run="$(by_run subs.txt)" || exit 1
+    if took="$(filled subs.txt)" && took_half="$(filled subs-half.txt)"; then
+        took="$(figure '%.2f s, %.2f times what half as many take' "${took% *}, ${took% *} / ${took_half% *}")"
+    else
+        took='over a minute'
+    fi
+    row "$(grouped "$most") SUBs $1 in bulk over one connection" "$took; by \`run\` $(figure %.2f "$run") s"
+}
+
+# mixed ROWS
+mixed() {
+    local connections found rate median late rates=() medians=() lates=()
+    for connections in 1 4 16; do
+        found="$(ask mixed "$1" "$connections" "$connections" "$seconds" events.txt)" || exit 1
+        read -r rate median late <<<"$found"
+        rates+=("$(grouped "$rate")") medians+=("$median") lates+=("$late")
+    done
+    row "nine PUBs to one SUB or UNSUB over 1, 4 and 16 connections, with $(grouped "$1") subscriptions: lines a second" \
+        "${rates[0]}, ${rates[1]} and ${rates[2]}; medians ${medians[0]}, ${medians[1]} and ${medians[2]} µs, 99th percentiles ${lates[0]}, ${lates[1]} and ${lates[2]} µs"
+}
+
+beside() {
+    local alone both condition='a0 between 5 and 10 and a1 = 7'
+    alone="$(middle ask beside "$most" 2 "$seconds" "$condition" 0)" && both="$(middle ask beside "$most" 2 "$seconds" "$condition" 1)" || exit 1
+    row "an UNSUB alone, and beside a client that sends empty lines without a pause, with $(grouped "$most") subscriptions" \
+        "medians ${alone% *} and ${both% *} µs, 99th percentiles ${alone#* } and ${both#* } µs"
+}
+
+# every ROWS: the median of each sixteenth reply, where that is the longest, and of the others
+every() {
+    local found
+    found="$(middle ask every "$1" 1 "$(figure %.1f "2 * $seconds")" empty.txt)" || exit 1
+    echo "${found% *} and ${found#* } µs"
+}
+
+sixteenth() {
+    local some many
+    some="$(every "$fifth")" && many="$(every "$most")" || exit 1
+    row "each sixteenth reply, and the others, where nothing changes, with $(grouped "$fifth") and with $(grouped "$most") subscriptions" \
+        "medians $some; $many"
+}
+
+conditions market
+script market 0 "$most" >events.txt
+echo 'PUB -' >empty.txt
+if [ "${1-}" = --table ]; then
+    for connections in "${@:2}"; do
+        found="$(trips "$connections")" || exit 1
+        echo "$connections ${found%% *}"
+    done
+    exit
+fi
+
+round_trips 'one connection' 1
+round_trips 'four connections' 4
+in_bulk
+mixed "$fifth"
+mixed "$most"
+filling "like a market's"
+conditions generated
+beside
+sixteenth
+filling "of the generated kind"
