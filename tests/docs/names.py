@@ -47,7 +47,7 @@ def check_beside(sources, report, page, names, place):
 def check_map(book, sources, report):
     """Names stand in the file that the map of the crates puts beside them."""
     page = book.page(MAP)
-    for heading in ("Where the main definitions stand", "Where each promise stands"):
+    for heading in ("Where the main definitions stand",):
         rows = rows_of(page.section(heading))
         report.see(len(rows) > 20, f"{MAP} has no table below '{heading}'")
         for row in rows:
