@@ -19,7 +19,7 @@ compiled client client.c
 compiled filter peers/filter.c
 cd "$room" || exit 1
 seconds="${BENCH_SMALL:+0.2}" seconds="${seconds:-1}"
-most="$(scaled 100000)"
+most="${BENCH_SMALL:+20000}" most="${most:-100000}"
 peers=(run serve filter sqlite)
 : >none.txt
 schema market >schema.txt
@@ -151,6 +151,7 @@ rate() {
     local count took
     "by_$1" || fail "$1 failed over $2 subscriptions"
     read -r count took <seconds.txt
+    [ "$(figure %d "1000 * $took")" -ge 2 ] || fail "$1 took no time that can be measured, over $2 subscriptions; is the machine busy?"
     [ "$1" != run ] || mv hits wanted
     [ "$1" = run ] || head -n "$count" wanted | cmp -s - hits || fail "$1 has other hits than Justmeadow, over $2 subscriptions"
     figure %.1f "$count / $took"
