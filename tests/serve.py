@@ -1,8 +1,10 @@
 #!/usr/bin/env python3
 """Drives `serve` over TCP with clients that behave and clients that don't, and judges what each saw over the list that the
 server prints. Its one word is the program. Ends with 1 at the first difference."""
+import contextlib
 import os
 import socket
+import statistics
 import sys
 import tempfile
 import threading
@@ -17,6 +19,11 @@ sys.path.insert(0, os.path.join(os.path.dirname(os.path.dirname(os.path.abspath(
 from justmeadow import Connection, Refused  # noqa: E402
 
 PROGRAM = sys.argv[1]
+
+# Four times as many SUBs: the processor time grows fourfold, or sixteenfold where a SUB costs what is there already.
+FEW, MANY, FILL_BOUND = 20_000, 80_000, 8
+# How much longer another's UNSUB may take beside a client that sends LFs alone, and how many make a median, each after a pause.
+HOLD_BOUND, TRIPS, PAUSE = 4, 50, 0.002
 passed = 0
 
 
@@ -256,6 +263,109 @@ def is_idle(schema):
     print(f"serve: an idle server with 64 seats took {spent} hundredths of a second in a second")
 
 
+def fill(server, count, most):
+    """Subscribes so many by one connection in bulk. Gives the connection and the processor time that the server took, in seconds.
+    It stops where that is more than the most."""
+    client = server.client()
+    client.ask("PUB -")
+    lines = b"".join(b"SUB a%d price = %d\n" % (number, number * 7919 % 1_000_001) for number in range(count))
+
+    def send():
+        with contextlib.suppress(OSError):
+            client.socket.sendall(lines)
+
+    before, spent, came, left = server.seconds(), 0, b"", count
+    sender = threading.Thread(target=send, daemon=True)
+    sender.start()
+    while left and spent <= most:
+        data = client.socket.recv(1 << 16)
+        if not data:
+            sys.exit("FAILED: serve: the stall: the server ended a link")
+        came = came[-20:] + data
+        left -= data.count(b"\n")
+        spent = server.seconds() - before
+    if left:
+        server.kill()
+    else:
+        same("the stall: the last SUB", came.splitlines()[-1], b"OK %d" % count)
+    sender.join()
+    return client, spent
+
+
+def least_fill(schema, count, most=float("inf")):
+    """The least processor time of three servers that are filled so."""
+    least = float("inf")
+    for _ in range(3):
+        server = Server(PROGRAM, schema, 1, 1)
+        _, spent = fill(server, count, most)
+        server.kill()
+        least = min(least, spent)
+    return least
+
+
+def median_trip(client, first):
+    """The least of five medians of an UNSUB's time until its reply, in seconds."""
+    medians = []
+    for spell in range(5):
+        trips = []
+        for number in range(TRIPS):
+            time.sleep(PAUSE)
+            began = time.perf_counter()
+            client.socket.sendall(b"UNSUB a%d\n" % (first + spell * TRIPS + number))
+            reply = client.socket.recv(64)
+            trips.append(time.perf_counter() - began)
+            same("the stall: an UNSUB", reply[:3], b"OK ")
+        medians.append(statistics.median(trips))
+    return min(medians)
+
+
+def send_lfs(client, is_over):
+    """Sends LFs alone and reads their replies, until it is over."""
+    count = 4096
+    with contextlib.suppress(OSError):
+        while not is_over.is_set():
+            client.socket.sendall(b"\n" * count)
+            left = count
+            while left:
+                data = client.socket.recv(1 << 16)
+                if not data:
+                    return
+                left -= data.count(b"\n")
+
+
+def hold(schema):
+    """How much longer an UNSUB takes while another client sends LFs alone, over many subscriptions."""
+    server = Server(PROGRAM, schema, 2, 2)
+    client, _ = fill(server, MANY, float("inf"))
+    alone = median_trip(client, 0)
+    is_over = threading.Event()
+    other = server.client()
+    flood = threading.Thread(target=send_lfs, args=(other, is_over), daemon=True)
+    flood.start()
+    beside = median_trip(client, 5 * TRIPS)
+    is_over.set()
+    flood.join()
+    server.kill()
+    return beside / alone
+
+
+def the_stall(room):
+    """A SUB costs about the same however many there are, and a client that sends LFs alone doesn't hold others for long."""
+    global passed
+    schema = os.path.join(room, "prices.txt")
+    with open(schema, "w", encoding="ascii") as file:
+        file.write("int price 0 1000000\n")
+    few = least_fill(schema, FEW)
+    many = least_fill(schema, MANY, FILL_BOUND * few)
+    if many > FILL_BOUND * few:
+        sys.exit(f"FAILED: serve: the stall: {MANY} SUBs took over {FILL_BOUND} times the processor time of {FEW}")
+    held = hold(schema)
+    if held > HOLD_BOUND:
+        sys.exit(f"FAILED: serve: the stall: LFs of one client made another's UNSUB {held:.1f} times as long")
+    passed += 2
+    print(f"serve: {MANY} SUBs took {many / few:.1f} times the processor time of {FEW}; LFs made another's UNSUB {held:.1f} times as long")
+
+
 def main():
     with tempfile.TemporaryDirectory() as room:
         mixed.main(room, 1, 1, 9)
@@ -274,6 +384,7 @@ def main():
         long_line(schema, 100 << 20)
         resets(schema)
         is_idle(schema)
+        the_stall(room)
         many_clients(schema, load, opening, 4, 12, 300)
         many_clients(schema, load, opening, 64, 200, 40)
     print(f"{passed} passed, 0 failed")

@@ -1,14 +1,16 @@
 //! A hub over two trees, whose searches are counted, and whose workers serve files. Which history and which mailboxes it has is picked where these were made.
 
-ghost use Rattle.std.specs.Prelude.{◌≡◌, ℕ, [], length, map, slice_get, Some, All, IfSome};
+ghost use Rattle.std.specs.Prelude.{◌≡◌, ◌<◌, ◌≤◌, ℕ, [], length, map, slice_get, Some, All, IfSome};
 ghost use Rattle.std.specs.Arc.{arc_value};
 ghost use Rattle.std.specs.List.{range_with_len};
+ghost use Rattle.be_base.specs.declared.limits.TheConstants.{SEATS};
 ghost use Rattle.be_board.specs.Word.{own_in};
-ghost use Rattle.be_desk.specs.Seats.{word_of};
+ghost use Rattle.be_desk.specs.Seats.{word_of, first_seat};
 ghost use Rattle.be_mail.specs.Mailbox.{ForEachState};
 ghost use Rattle.be_mail.specs.Passes.{new_passes};
 
 use crate::closing::changes_of;
+use crate::door::tends;
 use crate::files::Script;
 use crate::shown::shown;
 use be_desk::Seat;
@@ -26,7 +28,7 @@ use std::thread::Threads;
 use worked_indexes::Watched;
 
 /// The transcripts of the files, parted by ` || `, how often the maintainer was called, how many changes the list has at its end,
-/// and how many searches the trees were asked for.
+/// and how many searches the trees were asked for; or, of a link of a door, how often its worker tended the desk.
 pub fn served<R: Threads + Wait + Sync>(
     rt: &R,
     alloc: Global,
@@ -78,6 +80,9 @@ fn begun<S: Post + Send + Sync, J: Naming + BoxNames + Send + Sync, R: Threads +
     let Ok((hub, seats)) = made else {
         return None;
     };
+    if script.is_door {
+        return tended(rt, alloc, hub, seats, script);
+    }
     let Some(run) = served_by(rt, alloc, &hub, seats, script) else {
         hub.end(rt);
         return None;
@@ -94,6 +99,32 @@ fn again(schema: &Arc<Schema>) -> Option<Arc<Schema>>
     ensures { IfSome result (λ s. arc_value s ≡ arc_value schema.now) }
 {
     Arc::try_clone(schema).ok()
+}
+
+// How often the desk was tended, where the last file is given by a link of a door.
+fn tended<
+    T: Sheet<J> + Send + Sync,
+    J: Naming + BoxNames + Send + Sync,
+    S: Post + Send + Sync,
+    R: Threads + Wait + Sync,
+>(
+    rt: &R,
+    alloc: Global,
+    hub: Hub<T, J, S>,
+    seats: Vec<Seat<T, J>>,
+    script: Script,
+) -> Option<String>
+    requires few { (0 < length J.boxes) × (length J.boxes ≤ SEATS) }
+    requires seats { seats.items ≡ map (first_seat J.opening J.boxes) (range_with_len 0 (length J.boxes)) }
+{
+    let mut files = script.files;
+    let tends = match files.pop() {
+        Some(file) => tends(rt, alloc, &hub, seats, file),
+        None => None,
+    };
+    hub.end(rt);
+    let tends = tends?;
+    format!(in alloc; "{tends}").ok()
 }
 
 fn served_by<
@@ -114,7 +145,11 @@ fn served_by<
     ensures count { IfSome result (λ run. length run.ends.items ≡ length script.files.items) }
     ensures places { IfSome result (λ run. (i : ℕ) (end : _) → slice_get run.ends.items i ≡ Some end → end.seat.passes.seat ≡ i) }
 {
-    let Script { rounds, files } = script;
+    let Script {
+        is_door: _,
+        rounds,
+        files,
+    } = script;
     match hub.run_files(rt, alloc, seats, files, rounds, &NoGate) {
         Ok(run) => Some(run),
         Err(_) => None,

@@ -1,11 +1,13 @@
 //! Serves files by workers over one hub. A line of the input is how many calls the maintainer makes, and the files, parted by
 //! ` || `, of which each has lines parted by `; `. Each line of the output is the same with the transcripts, the calls
 //! that the maintainer made, how many changes the list has when the hub is closed, and how many searches its trees were asked for. Where there is more than
-//! one file, the numbers of changes depend on the schedule, and each is printed as `n`. The rows stand in `stdin`, and with their
-//! transcripts, worked by hand from the rules, in `stdout`; the gate compares.
+//! one file, the numbers of changes depend on the schedule, and each is printed as `n`. A line `door: FILE` is served as a link of a
+//! door, and its answer is how often its worker tended the desk (door.rt). The rows stand in `stdin`, and with their transcripts
+//! and numbers, worked by hand from the rules, in `stdout`; the gate compares.
 #![tactic(auto)]
 
 mod closing;
+mod door;
 mod files;
 mod hubs;
 mod shown;
@@ -26,8 +28,7 @@ fn served<R: Threads + Wait + Sync>(
     schema: &Arc<Schema>,
     line: &str,
 ) -> Option<String> {
-    let (rounds, texts) = line.split_once(": ")?;
-    let script = files::read_script(alloc, rounds.parse().ok()?, texts)?;
+    let script = files::read_script(alloc, line)?;
     hubs::served(rt, alloc, schema, script)
 }
 

@@ -1,0 +1,52 @@
+//! A link of a door in memory, and how often its worker tends the desk.
+//!
+//! A worker tends the desk after every sixteenth reply of a session, and, once the session is over, again and again until there was
+//! memory for it, which is once here: no row runs out of it. So a session of 15 lines is tended 0 + 1 times, one of 16 lines
+//! 1 + 1 times, and one of 33 lines 2 + 1 times, after its replies 16 and 32 and at its end.
+
+ghost use Rattle.std.specs.Prelude.{◌≡◌, ◌<◌, ◌≤◌, length, map};
+ghost use Rattle.std.specs.List.{range_with_len};
+ghost use Rattle.be_base.specs.declared.limits.TheConstants.{SEATS};
+ghost use Rattle.be_desk.specs.Seats.{first_seat};
+
+use be_desk::Seat;
+use be_door::{Door, MemDoor};
+use be_hub::Hub;
+use be_io::{MemSink, MemSource, NoGate, Pair};
+use be_mail::{BoxNames, Post};
+use be_published::{Naming, Sheet};
+use std::alloc::Global;
+use std::sync::Wait;
+use std::thread::Threads;
+
+/// A read of the link gives at most so many bytes.
+const PIECE: usize = 65536;
+
+/// Serves a link that gives these bytes, and says how often the first seat's worker tended the desk.
+pub fn tends<
+    T: Sheet<J> + Send + Sync,
+    J: Naming + BoxNames + Send + Sync,
+    S: Post + Send + Sync,
+    R: Threads + Wait + Sync,
+>(
+    rt: &R,
+    alloc: Global,
+    hub: &Hub<T, J, S>,
+    seats: Vec<Seat<T, J>>,
+    bytes: Vec<u8>,
+) -> Option<u64>
+    requires few { (0 < length J.boxes) × (length J.boxes ≤ SEATS) }
+    requires seats { seats.items ≡ map (first_seat J.opening J.boxes) (range_with_len 0 (length J.boxes)) }
+{
+    let link = Pair {
+        source: MemSource::make(bytes, PIECE, Vec::new(alloc)),
+        sink: MemSink::make(alloc, Vec::new(alloc)),
+    };
+    let links = vec![in alloc; link].ok()?;
+    let mut door = MemDoor::make(rt, alloc, links, Vec::new(alloc));
+    let counts = door.listen(0, 1, seats.len() as u32).ok()?;
+    let ends = hub
+        .run_door(rt, alloc, seats, &door, counts, &NoGate)
+        .ok()?;
+    Some(ends.get(0)?.broom.calls())
+}
