@@ -28,13 +28,7 @@ pub fn tends<
     J: Naming + BoxNames + Send + Sync,
     S: Post + Send + Sync,
     R: Threads + Wait + Sync,
->(
-    rt: &R,
-    alloc: Global,
-    hub: &Hub<T, J, S>,
-    seats: Vec<Seat<T, J>>,
-    bytes: Vec<u8>,
-) -> Option<u64>
+>(rt: &R, alloc: Global, hub: &Hub<T, J, S>, seats: Vec<Seat<T, J>>, bytes: Vec<u8>) -> Option<u64>
     requires few { (0 < length J.boxes) × (length J.boxes ≤ SEATS) }
     requires seats { seats.items ≡ map (first_seat J.opening J.boxes) (range_with_len 0 (length J.boxes)) }
 {
@@ -45,8 +39,6 @@ pub fn tends<
     let links = vec![in alloc; link].ok()?;
     let mut door = MemDoor::make(rt, alloc, links, Vec::new(alloc));
     let counts = door.listen(0, 1, seats.len() as u32).ok()?;
-    let ends = hub
-        .run_door(rt, alloc, seats, &door, counts, &NoGate)
-        .ok()?;
+    let ends = hub.run_door(rt, alloc, seats, &door, counts, &NoGate).ok()?;
     Some(ends.get(0)?.broom.calls())
 }
