@@ -21,7 +21,7 @@ from justmeadow import Connection, Refused  # noqa: E402
 PROGRAM = sys.argv[1]
 
 # Four times as many SUBs: the processor time grows fourfold, or sixteenfold where a SUB costs what is there already.
-FEW, MANY, FILL_BOUND = 20_000, 80_000, 8
+FEW, MANY, FILL_BOUND = 20_000, 80_000, 9
 # How much longer another's UNSUB may take beside a client that sends LFs alone, and how many make a median, each after a pause.
 HOLD_BOUND, TRIPS, PAUSE = 4, 50, 0.002
 passed = 0

@@ -4,10 +4,9 @@
 //! memory for it, which is once here: no row runs out of it. So a session of 15 lines is tended 0 + 1 times, one of 16 lines
 //! 1 + 1 times, and one of 33 lines 2 + 1 times, after its replies 16 and 32 and at its end.
 
-ghost use Rattle.std.specs.Prelude.{◌≡◌, ◌<◌, ◌≤◌, length, map};
-ghost use Rattle.std.specs.List.{range_with_len};
+ghost use Rattle.std.specs.Prelude.{◌<◌, ◌≤◌, length, All};
 ghost use Rattle.be_base.specs.declared.limits.TheConstants.{SEATS};
-ghost use Rattle.be_desk.specs.Seats.{first_seat};
+ghost use Rattle.be_hub.specs.Links.{MayStart};
 
 use be_desk::Seat;
 use be_door::{Door, MemDoor};
@@ -30,7 +29,8 @@ pub fn tends<
     R: Threads + Wait + Sync,
 >(rt: &R, alloc: Global, hub: &Hub<T, J, S>, seats: Vec<Seat<T, J>>, bytes: Vec<u8>) -> Option<u64>
     requires few { (0 < length J.boxes) × (length J.boxes ≤ SEATS) }
-    requires seats { seats.items ≡ map (first_seat J.opening J.boxes) (range_with_len 0 (length J.boxes)) }
+    requires count { (0 < length seats.items) × (length seats.items ≤ SEATS) }
+    requires start { All MayStart seats.items }
 {
     let link = Pair {
         source: MemSource::make(bytes, PIECE, Vec::new(alloc)),

@@ -5,7 +5,8 @@ ghost use Rattle.std.specs.Arc.{arc_value};
 ghost use Rattle.std.specs.List.{range_with_len};
 ghost use Rattle.be_base.specs.declared.limits.TheConstants.{SEATS};
 ghost use Rattle.be_board.specs.Word.{own_in};
-ghost use Rattle.be_desk.specs.Seats.{word_of, first_seat};
+ghost use Rattle.be_desk.specs.Seats.{word_of};
+ghost use Rattle.be_hub.specs.Links.{MayStart};
 ghost use Rattle.be_mail.specs.Mailbox.{ForEachState};
 ghost use Rattle.be_mail.specs.Passes.{new_passes};
 
@@ -115,7 +116,8 @@ fn tended<
     script: Script,
 ) -> Option<String>
     requires few { (0 < length J.boxes) × (length J.boxes ≤ SEATS) }
-    requires seats { seats.items ≡ map (first_seat J.opening J.boxes) (range_with_len 0 (length J.boxes)) }
+    requires count { (0 < length seats.items) × (length seats.items ≤ SEATS) }
+    requires start { All MayStart seats.items }
 {
     let mut files = script.files;
     let tends = match files.pop() {
