@@ -83,6 +83,7 @@ script run there --load missing; same 'a load file that is missing' 6 'ran run t
 script run --load=missing gone; same 'two files that are missing' 6 'ran run --load=missing gone\n' "justmeadow: there is no file 'missing'\njustmeadow: there is no file 'gone'\n"
 script run --load missing; same 'too few words' 6 'ran run --load missing\n' ''
 script follow missing; same 'too few words for follow' 6 'ran follow missing\n' ''
+script heat there 1 missing --load there; same 'a load file where there is none' 6 'ran heat there 1 missing --load there\n' ''
 script run -- -x; same 'a name behind a separator' 6 'ran run -- -x\n' "justmeadow: there is no file '-x'\n"
 script serve there 7000 2 2; same 'no file is missing' 6 'ran serve there 7000 2 2\n' ''
 script drill there 10 there missing; same 'a file of lines that is missing' 6 'ran drill there 10 there missing\n' "justmeadow: there is no file 'missing'\n"

@@ -355,6 +355,7 @@ const CALLS = {
 async function answer(client, line) {
   const [call, rest = ''] = fields(line, 2);
   try {
+    if (!Object.hasOwn(CALLS, call)) throw new Error(`there is no call ${call}`);
     return await CALLS[call](client, rest);
   } catch (error) {
     const kind = [Refused, Ended, Lost, Unreadable].find((it) => error.constructor === it);

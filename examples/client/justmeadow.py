@@ -377,13 +377,14 @@ CALLS = {  # the call, and how many words it takes, of which the last is the res
 
 def answer(client, line):
     call, *words = line.split(" ", 1)
+    if call not in CALLS:
+        return {"wrong": f"there is no call {call}"}
+    function, count = CALLS[call]
     try:
-        function, count = CALLS[call]
         result = function(client, *(words[0].split(" ", count - 1) if words else []))
         return [result.n, result] if isinstance(result, Told) else result
     except (Refused, Ended, Unreadable, KeyError, TypeError, ValueError) as error:
-        is_told = isinstance(error, (Refused, Ended, Unreadable))
-        return {type(error).__name__.lower() if is_told else "wrong": str(error)}
+        return {type(error).__name__.lower() if isinstance(error, (Refused, Ended, Unreadable)) else "wrong": str(error)}
 
 
 def main(port, patience="30", host="127.0.0.1"):
