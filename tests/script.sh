@@ -112,6 +112,10 @@ sleep 0.01; echo '// later' >"$own/top/crates/justmeadow/src/lib.rt"
 script gen; same 'sources that changed once more' 0 'built gen\n' "$differ"
 sleep 0.01; cp -p older.rt "$own/top/crates/justmeadow/src/lib.rt"
 script gen; same 'an older source that was put back' 0 'built gen\n' "$differ"
+sleep 0.01; mkdir "$own/top/crates/low/specs"; echo '-- new' >"$own/top/crates/low/specs/New.antt"
+script gen; same 'a source that is new' 0 'built gen\n' "$differ"
+sleep 0.01; rm -r "$own/top/crates/low/specs"
+script gen; same 'and that is gone' 0 'built gen\n' "$differ"
 script --where; same 'where that lies' 0 'TOP/out/justmeadow\n' ''
 script --build; same 'a build of what is built' 0 'TOP/out/justmeadow\n' ''
 script --unproved run in --load=in
