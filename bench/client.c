@@ -9,6 +9,9 @@
 //   client beside PORT SECONDS CONDITION FLOOD   one connection makes a name with this condition and removes it after a millisecond,
 //                                    again and again; prints the median and the 99th percentile of a removal in microseconds.
 //                                    With FLOOD 1 another one sends LFs alone meanwhile.
+//   client held PORT CALLS FILE OWN  one connection sends the lines of OWN, and then those of FILE in so many equal parts, a call each,
+//                                    and waits for the replies of each. Another one makes a name and removes it meanwhile, again and
+//                                    again. Prints the longest trip of that one beside a call, in microseconds: the middle of all calls
 #include <arpa/inet.h>
 #include <errno.h>
 #include <netinet/tcp.h>
@@ -378,6 +381,81 @@ static void beside(int port, double seconds, const char *condition, bool flood) 
     printf("%.1f %.1f\n", percentile(&times, 0.5), percentile(&times, 0.99));
 }
 
+// held
+
+struct trips {
+    struct connection *connection;
+    struct times begins, ends;
+};
+
+static void *makes_and_removes(void *argument) {
+    struct trips *trips = argument;
+    const char *lines[] = {"SUB held all\n", "UNSUB held\n"};
+    for (uint64_t n = 0; !ended; n++) {
+        const char *line = lines[n % 2];
+        uint64_t took = trip(trips->connection, line, strlen(line)), end = now();
+        puts_time(&trips->begins, end - took);
+        puts_time(&trips->ends, end);
+    }
+    return NULL;
+}
+
+// Reads replies to the end of the one to a COST, or to the end of the connection.
+static void reads_to_cost(struct connection *connection) {
+    char first = 0;
+    for (;;) {
+        if (connection->begin == connection->end) {
+            ssize_t got = recv(connection->socket, connection->bytes, BUFFER, 0);
+            if (got <= 0) return;
+            connection->begin = 0;
+            connection->end = (size_t)got;
+        }
+        char letter = connection->bytes[connection->begin++];
+        if (!first) first = letter;
+        if (letter != '\n') continue;
+        if (first == 'C') return;
+        first = 0;
+    }
+}
+
+static void held(int port, int calls, const char *file, const char *own) {
+    struct lines lines = lines_of(file), before = lines_of(own);
+    struct connection *connection = connected(port);
+    struct trips other = {.connection = connected(port)};
+    struct sending sending = {.connection = connection, .lines = &before};
+    struct times from = {0}, to = {0}, longest = {0};
+    pthread_t sender, changing;
+    if (calls < 1 || lines.count < (size_t)calls) fail("from 1 to %zu calls", lines.count);
+    if (pthread_create(&sender, NULL, sends_all, &sending)) fail("no thread");
+    reads_all(connection, before.count);
+    pthread_join(sender, NULL);
+    if (pthread_create(&changing, NULL, makes_and_removes, &other)) fail("no thread");
+    size_t part = lines.count / (size_t)calls;
+    for (size_t i = 0; i < (size_t)calls; i++) {
+        usleep(20000);
+        char *begin = lines.starts[i * part], *end = lines.starts[(i + 1) * part];
+        puts_time(&from, now());
+        sends(connection, begin, (size_t)(end - begin));
+        sends(connection, "COST -\n", 7);
+        reads_to_cost(connection);
+        // what the next change of the other one has to do of it counts too
+        usleep(5000);
+        puts_time(&to, now());
+    }
+    ended = true;
+    pthread_join(changing, NULL);
+    for (size_t i = 0, next = 0; i < from.count; i++) {
+        uint64_t most = 0;
+        while (next < other.ends.count && other.ends.all[next] < from.all[i]) next++;
+        for (; next < other.ends.count && other.begins.all[next] < to.all[i]; next++) {
+            uint64_t took = other.ends.all[next] - other.begins.all[next];
+            if (took > most) most = took;
+        }
+        puts_time(&longest, most);
+    }
+    printf("%.1f\n", percentile(&longest, 0.5));
+}
+
 int main(int count, char **words) {
     const char *word = count > 2 ? words[1] : "";
     int port = count > 2 ? atoi(words[2]) : 0;
@@ -394,6 +472,8 @@ int main(int count, char **words) {
         answers(port, atof(words[3]), words[4], words[5]);
     } else if (count == 6 && strcmp(word, "beside") == 0) {
         beside(port, atof(words[3]), words[4], atoi(words[5]) != 0);
+    } else if (count == 6 && strcmp(word, "held") == 0) {
+        held(port, atoi(words[3]), words[4], words[5]);
     } else {
         fail("the words have no reading");
     }

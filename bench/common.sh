@@ -7,6 +7,7 @@ set -u
 top="$(cd "$(dirname "${BASH_SOURCE[0]}")/.." && pwd)"
 room="$(mktemp -d)"
 server=
+before=() # the words that a server is started with
 at_end() { :; } # what a script has to stop; it may define it anew
 trap 'at_end; [ -z "$server" ] || kill "$server" 2>/dev/null; rm -rf "$room"' EXIT
 # as ./justmeadow sets it; all programs that are measured run with it
@@ -76,7 +77,7 @@ serving() {
     local seats="$1"
     shift
     port="$(python3 -c 'import socket; s = socket.socket(); s.bind(("127.0.0.1", 0)); print(s.getsockname()[1])')"
-    "$program" serve "$room/schema.txt" "$port" "$seats" "$seats" "$@" </dev/null >/dev/null 2>"$room/err.txt" &
+    "${before[@]}" "$program" serve "$room/schema.txt" "$port" "$seats" "$seats" "$@" </dev/null >/dev/null 2>"$room/err.txt" &
     server=$!
 }
 

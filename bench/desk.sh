@@ -5,7 +5,7 @@
 # It builds, and so proves, a program of its own.
 # shellcheck source=common.sh
 . "$(dirname "${BASH_SOURCE[0]}")/common.sh"
-own_crate deskbench be_base be_io be_model be_change be_index be_shape be_match be_score be_insert be_remove be_adjust be_plan be_tree be_copy be_core be_board be_mail be_expr be_event be_transcript be_published be_desk
+own_crate deskbench be_base be_io be_model be_change be_index be_shape be_match be_score be_insert be_remove be_adjust be_plan be_tree be_copy be_core be_board be_mail be_expr be_event be_protocol be_published be_desk
 build_own deskbench only 1 0
 
 # measure RUNS WORD NUMBER NUMBER: the least processor seconds of that many runs

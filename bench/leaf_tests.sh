@@ -6,15 +6,15 @@
 . "$(dirname "${BASH_SOURCE[0]}")/common.sh"
 crates=(be_base be_io be_model be_expr be_event be_shape be_score be_match be_insert)
 
-# build: proves and builds the program in this room, with the tree that grows of `worked_walks` and the rows of `worked_trees`.
+# build: proves and builds the program in this room, with the tree that grows of `worked_help` and the rows of `worked_growth`.
 build() {
     own_crate leafbench "${crates[@]}"
-    local walks="$top/crates/worked_walks" own_folder="$room/crates/leafbench"
+    local walks="$top/crates/worked_help" own_folder="$room/crates/leafbench"
     mkdir -p "$own_folder/proofs" "$own_folder/specs"
-    cp "$walks/src/grown.rt" "$top/crates/worked_trees/src/rows.rt" "$own_folder/src"
-    sed -i 's/worked_walks::Grown/crate::grown::Grown/' "$own_folder/src/rows.rt"
+    cp "$walks/src/grown.rt" "$top/crates/worked_growth/src/rows.rt" "$own_folder/src"
+    sed -i 's/worked_help::Grown/crate::grown::Grown/' "$own_folder/src/rows.rt"
     tar -C "$walks/proofs" -cf - . | tar -C "$own_folder/proofs" -xf -
-    find "$own_folder/proofs" -name '*.antt' -exec sed -i 's/worked_walks/leafbench/g' {} +
+    find "$own_folder/proofs" -name '*.antt' -exec sed -i 's/worked_help/leafbench/g' {} +
     sed -i '$s/$/ anyhow/' "$room/crates.txt"
     build_own leafbench 1
 }

@@ -17,8 +17,8 @@ parts() {
             if (/be_match::|be_shape::sights/) part = "search"
             else if (/slice::sort|Found::order/) part = "order"
             else if (/Vec::truncate|Found::clear|Found::cut/) part = "free"
-            else if (/be_session::texts|be_session::reads|be_session::serve::tell|memmove|memcpy|write|fdget/) part = "reply"
-            else if (/be_base::|be_event::|be_io::|be_session::requests|be_session::serve|name_lists|be_model::events|memchr|read/) part = "line"
+            else if (/be_protocol::texts|be_session::reads|be_session::serve::tell|memmove|memcpy|write|fdget/) part = "reply"
+            else if (/be_base::|be_event::|be_io::|be_protocol::requests|be_session::serve|name_lists|be_model::events|memchr|read/) part = "line"
             else part = "rest"
             sum[part] += share
         }

@@ -4,7 +4,7 @@
 # beside one. It builds, and so proves, a program of its own.
 # shellcheck source=common.sh
 . "$(dirname "${BASH_SOURCE[0]}")/common.sh"
-own_crate publishedbench be_base be_io be_model be_change be_index be_shape be_match be_score be_insert be_remove be_adjust be_plan be_tree be_copy be_core be_expr be_event be_transcript be_table be_published
+own_crate publishedbench be_base be_io be_model be_change be_index be_shape be_match be_score be_insert be_remove be_adjust be_plan be_tree be_copy be_core be_expr be_event be_protocol be_load_files be_published
 build_own publishedbench tree 1 1
 
 # measure RUNS WORD NUMBER NUMBER: the least processor seconds of that many runs

@@ -1,11 +1,11 @@
 #!/usr/bin/env bash
-# Makes each allocation of the test of refused insertions in worked_tree fail in turn, and prints what the runs came to: how
+# Makes each allocation of the test of refused insertions in worked_steps fail in turn, and prints what the runs came to: how
 # many had memory of the test's own refused, and tested nothing, and in how many which row came back. It builds once, and
 # proves nothing. It ends with status 1 where a run saw something wrong.
 # shellcheck source=common.sh
 . "$(dirname "${BASH_SOURCE[0]}")/common.sh"
-own_crate refused be_base be_model be_score be_shape be_match be_insert worked_walks
-cp "$top"/crates/worked_tree/src/{looks,refused}.rt "$room/crates/refused/src"
+own_crate refused be_base be_model be_score be_shape be_match be_insert worked_help
+cp "$top"/crates/worked_steps/src/{looks,refused}.rt "$room/crates/refused/src"
 
 # the number of the allocation that fails, of which so many may be taken before the test
 last=240

@@ -2,8 +2,10 @@
 # Prints how fast `serve` answers over connections to 127.0.0.1. Of conditions and events like a market's (bench/market.awk): round
 # trips, lines in bulk, a mixed load. Of conditions of the generated kind (bench/generated.awk), of which more stand in one place of
 # the tree: a removal beside a client that sends empty lines alone, and whether each sixteenth reply takes longer than the others,
-# where events assign nothing and find nothing. Of both: how long it takes to fill it. The clients run on the same machine
-# (bench/client.c), each a thread, and their time counts. Times are elapsed ones: of three runs the middle, of the mixed load one run.
+# where events assign nothing and find nothing. Of both: how long it takes to fill it, and how many rows a search then tests. Of a
+# market's: how much longer a change of one session takes beside one call of another, and the processor time of an event but for the
+# system's. The clients run on the same machine (bench/client.c), each a thread, and their time counts. Other times are elapsed ones:
+# of three runs the middle, of the mixed load one run.
 #   bench/serve.sh                          prints the figures
 #   bench/serve.sh --table CONNECTIONS..    prints a line `CONNECTIONS TRIPS_A_SECOND` for each of these numbers of connections
 # shellcheck source=common.sh
@@ -62,10 +64,10 @@ filled() {
     if [ "$(figure %d "${first% *}")" -gt 3 ]; then echo "$first"; else { echo "$first"; fill "$1" && fill "$1"; } | sort -n | sed -n 2p; fi
 }
 
-# by_run FILE WORD..: the seconds that its lines take `run`
+# by_run FILE WORD..: the seconds that its lines take `run`, over pipes
 by_run() {
-    local idle took
-    idle="$(fastest 3 none.txt "$program" run schema.txt "${@:2}")" && took="$(fastest 3 "$1" "$program" run schema.txt "${@:2}")" || exit 1
+    local idle took piped=(sh -c 'cat | "$@" | cat' sh "$program" run schema.txt "${@:2}")
+    idle="$(fastest 3 none.txt "${piped[@]}")" && took="$(fastest 3 "$1" "${piped[@]}")" || exit 1
     [ "$(wc -l <out.txt)" = "$(wc -l <"$1")" ] || fail "not every line has its reply"
     figure '%.4f' "$took - $idle"
 }
@@ -74,8 +76,8 @@ in_bulk() {
     local took run
     # the process of a server isn't asked for its memory here
     took="$(middle ask bulk "$tenth" 1 events.txt none)" && run="$(by_run events.txt --load "load-$tenth.txt")" || exit 1
-    row "events a second in bulk over one connection, and by \`run\` from a file, with $(grouped "$tenth") subscriptions" \
-        "$(grouped "$(figure %f "$most / ${took% *}")") and $(grouped "$(figure %f "$most / $run")")"
+    row "events a second in bulk over one connection, and by \`run\` over pipes, with $(grouped "$tenth") subscriptions" \
+        "$(grouped "$(figure %f "$most / ${took% *}")") and $(grouped "$(figure %f "$most / $run")"), $(figure %.2f "$run / ${took% *}") times"
 }
 
 # filling TEXT
@@ -123,8 +125,94 @@ sixteenth() {
         "medians $some; $many"
 }
 
+# user FILE ROWS: the least seconds, but for the system's, of three servers over so many rows that answer these lines
+user() {
+    local rows="$2"
+    for _ in 1 2 3; do
+        before=(timeout 300 /usr/bin/time -o "$room/used" -f %U)
+        serving 1 --load "load-$rows.txt"
+        client bulk "$port" "$1" none
+        before=()
+        tail -n 1 "$room/used"
+    done | sort -n | head -n 1
+}
+
+# user_by_run FILE ROWS: likewise of `run`
+user_by_run() {
+    for _ in 1 2 3; do
+        /usr/bin/time -o "$room/used" -f %U "$program" run schema.txt --load "load-$2.txt" <"$1" >out.txt || exit 1
+        tail -n 1 "$room/used"
+    done | sort -n | head -n 1
+}
+
+# processor ROWS: the processor time of an event, but for the system's, by `serve` and by `run`
+processor() {
+    local served idle run idle_run each
+    served="$(user events-many.txt "$1")" && idle="$(user empty.txt "$1")" || exit 1
+    run="$(user_by_run events-many.txt "$1")" && idle_run="$(user_by_run empty.txt "$1")" || exit 1
+    each="1000000 / $(wc -l <events-many.txt)"
+    row "processor time of an event in bulk, but for the system's, with $(grouped "$1") subscriptions, and by \`run\`" \
+        "$(figure '%.2f and %.2f µs, %.2f times' "($served - $idle) * $each, ($run - $idle_run) * $each, ($served - $idle) / ($run - $idle_run)")"
+}
+
+# tested FILE: the mean of the rows that its replies to COST say were tested
+tested() { awk '$1 == "COST" { rows += $4; count++ } END { printf "%.0f", rows / count }' "$1"; }
+
+# tree TEXT: how many rows a search tests once so many conditions are subscribed to, over `serve` and by `run`
+tree() {
+    local rows served=() run=()
+    for rows in $((tenth / 10)) "$tenth" "$most"; do
+        { head -n "$rows" subs.txt; cat costs.txt; } >filling.txt
+        serving 1
+        client answers "$port" 60 filling.txt out.txt
+        served+=("$(grouped "$(tested out.txt)")")
+        "$program" run schema.txt <filling.txt >out.txt || exit 1
+        run+=("$(grouped "$(tested out.txt)")")
+    done
+    row "rows that a search tests after 1,000, 10,000 and 100,000 SUBs $1, and by \`run\`" \
+        "${served[0]}, ${served[1]} and ${served[2]}; ${run[0]}, ${run[1]} and ${run[2]}"
+}
+
+# held TEXT CALLS OWN WORD..: how long another session's SUB or UNSUB takes at most beside one of these calls, of which calls.txt has
+# so many equal parts, by a session that first sends the lines of OWN
+held() {
+    local text="$1" calls="$2" own="$3" found
+    found="$(for _ in 1 2 3; do
+        serving 2 "${@:4}"
+        client held "$port" "$calls" calls.txt "$own"
+        echo "$told"
+    done | sort -n | sed -n 2p)" || exit 1
+    row "a small change beside $text of another session, with $(grouped "$most") subscriptions: the longest" "$found µs"
+}
+
+holds() {
+    local loaded=(--load "load-$most.txt")
+    for _ in {1..20}; do echo 'PUB -'; done >calls.txt
+    held 'a PUB that finds nothing' 20 empty.txt "${loaded[@]}"
+    sed 's/^SUB s/SUB t/' subs.txt | head -n 20 >calls.txt
+    cp calls.txt own.txt
+    held 'a SUB' 20 empty.txt "${loaded[@]}"
+    awk '{ print "UNSUB " $2 }' own.txt >calls.txt
+    held 'an UNSUB' 20 own.txt "${loaded[@]}"
+    for _ in {1..20}; do echo 'SEND symbol=0 price=50000 volume=999999'; done >calls.txt
+    held 'a SEND' 20 empty.txt "${loaded[@]}"
+    for _ in {1..5}; do echo "TAIL 0 $most"; done >calls.txt
+    held "a TAIL of $(grouped "$most") changes" 5 empty.txt "${loaded[@]}"
+    for _ in {1..5}; do echo DUMP; done >calls.txt
+    held 'a DUMP' 5 empty.txt "${loaded[@]}"
+    for _ in {1..5}; do echo LIST; done >calls.txt
+    held 'a LIST of all' 5 subs.txt
+    echo QUIT >calls.txt
+    held 'the leave of all' 1 subs.txt
+    # each tend earns 64, and there is one after 16 replies: so a look comes due
+    yes 'PUB -' | head -n $((5 * (most / 4 + 1000))) >calls.txt
+    held "$(grouped $((most / 4 + 1000))) PUBs that find nothing, and a look for a step," 5 empty.txt "${loaded[@]}"
+}
+
 conditions market
 script market 0 "$most" >events.txt
+for _ in 1 2 3 4; do cat events.txt; done >events-many.txt
+script market 0 500 | sed 's/^PUB/COST/' >costs.txt
 echo 'PUB -' >empty.txt
 if [ "${1-}" = --table ]; then
     for connections in "${@:2}"; do
@@ -140,7 +228,13 @@ in_bulk
 mixed "$fifth"
 mixed "$most"
 filling "like a market's"
+tree "like a market's"
+processor "$tenth"
+processor "$most"
+holds
 conditions generated
+script generated 0 500 | sed 's/^PUB/COST/' >costs.txt
 beside
 sixteenth
 filling "of the generated kind"
+tree "of the generated kind"

@@ -8,8 +8,9 @@ export JUSTMEADOW_PROGRAM
 said="$(mktemp)"
 trap 'rm -f "$said"' EXIT
 passed=0 failed=0
-for script in script cli drill serve clients build docs; do
-    bash "$top/tests/$script.sh" 2>&1 | tee "$said" | sed "s/^/$script: /"
+for script in script.sh cli.sh drill.sh serve.sh clients.sh build.sh docs.sh uncited.py; do
+    case "$script" in *.py) with=python3 ;; *) with=bash ;; esac
+    "$with" "$top/tests/$script" 2>&1 | tee "$said" | sed "s/^/${script%.*}: /"
     status=${PIPESTATUS[0]}
     # its last line of this form counts
     read -r good bad < <(awk 'match($0, /^[0-9]+ passed, [0-9]+ failed/) { good = $1; bad = $3 } END { print good + 0, bad + 0 }' "$said")

@@ -85,13 +85,15 @@ def connected(server):
 
 
 def each_reply_at_once(schema):
-    """Each reply is there before the next line is sent, and a second link waits for the one seat."""
+    """Each reply is there before the next line is sent, also where a part of that was. A second link waits for the one seat."""
     server = Server(PROGRAM, schema, 1, 2)
     first, second = server.client(), server.client()
     same("a change", first.ask("SUB a all"), "OK 1")
     same("an event", first.ask("PUB -"), "HIT 1 1 a")
     second.send(b"PUB -\n")
-    same("a leave", first.ask("QUIT"), "BYE 2")
+    first.send(b"PUB -\nLIST\nQUI")
+    same("two lines before a part of one", (first.line(), first.line()), ("HIT 1 1 a", "LIST 1 1 a"))
+    same("a leave", first.ask("T"), "BYE 2")
     same("the second link", second.line(), "HIT 2 0")
     second.finish()
     first.close()
@@ -243,6 +245,22 @@ def taken_port(schema):
         same("a port that is taken", server.end(), (4, b"", b"read fault\n"))
 
 
+def elsewhere(schema):
+    """It listens at 127.0.0.1 alone: a client of another address of this machine is refused, and uses up no link."""
+    server = Server(PROGRAM, schema, 1, 1)
+    client = server.client()
+    with socket.socket() as stranger:
+        stranger.settimeout(10)
+        try:
+            stranger.connect(("127.0.0.2", server.port))
+            sys.exit("FAILED: serve: a client of 127.0.0.2 was let in")
+        except ConnectionRefusedError:
+            pass
+    same("a client beside a stranger", client.ask("PUB -"), "HIT 0 0")
+    client.finish()
+    same("a server that a stranger called", server.end()[0], 0)
+
+
 def spent_in(server, seconds):
     """The processor time that it takes in so many seconds, in hundredths of a second."""
     before = server.ticks()
@@ -359,7 +377,11 @@ def the_stall(room):
     many = least_fill(schema, MANY, FILL_BOUND * few)
     if many > FILL_BOUND * few:
         sys.exit(f"FAILED: serve: the stall: {MANY} SUBs took over {FILL_BOUND} times the processor time of {FEW}")
-    held = hold(schema)
+    # looks for a step fall among the UNSUBs or beside them, so one try says little: of five one has to hold
+    held = HOLD_BOUND + 1
+    for _ in range(5):
+        if held > HOLD_BOUND:
+            held = hold(schema)
     if held > HOLD_BOUND:
         sys.exit(f"FAILED: serve: the stall: LFs of one client made another's UNSUB {held:.1f} times as long")
     passed += 2
@@ -379,6 +401,7 @@ def main():
         an_empty_box(schema)
         the_client(schema)
         taken_port(schema)
+        elsewhere(schema)
         half_a_line(schema)
         never_reads(schema)
         long_line(schema, 100 << 20)

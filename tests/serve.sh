@@ -22,9 +22,9 @@ call serve schema.txt 7000 1 1 --load row.txt; same 'a faulty load file' 3 '' 'l
 call serve schema.txt 7000 1 1 --load missing; same 'a missing load file' 4 '' 'read fault\n'
 
 if ! command -v python3 >/dev/null; then
-    echo 'skipped: clients over TCP: there is no python3 here'
-    echo "$passed passed, 0 failed"
-    exit
+    echo 'FAILED: clients over TCP: they need python3, and there is none here'
+    echo "$passed passed, 1 failed"
+    exit 1
 fi
 part python3 "$top/tests/serve.py" "$program"
 part python3 "$top/tests/descriptors.py" "$program"

@@ -171,12 +171,12 @@ class Sources:
     @cached_property
     def commands(self):
         """The commands that the program takes, by the table of its words."""
-        return set(re.findall(r'word = codes "(\w+)"', text_of(self.crates_folder / "be_words/specs/Words.antt")))
+        return set(re.findall(r'word = codes "(\w+)"', text_of(self.crates_folder / "be_command_line/specs/Words.antt")))
 
     @cached_property
     def requests(self):
         """The words with which a line of a session may begin."""
-        return set(re.findall(r'command \(codes "([A-Z]+)"\)', text_of(self.crates_folder / "be_transcript/specs/Readings.antt")))
+        return set(re.findall(r'command \(codes "([A-Z]+)"\)', text_of(self.crates_folder / "be_protocol/specs/Readings.antt")))
 
     @cached_property
     def script(self):

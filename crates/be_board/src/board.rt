@@ -8,10 +8,12 @@ ghost use Rattle.be_model.specs.ByIds.{rows_of, session_rows};
 ghost use Rattle.be_model.specs.Letters.{plain_letter};
 ghost use Rattle.be_model.specs.Lies.{conj_lies, event_lies};
 ghost use Rattle.be_change.specs.Entries.{entries_in};
-ghost use Rattle.be_change.specs.History.{live, hit_rows, IsWellFormed};
+ghost use Rattle.be_change.specs.History.{live, hit_rows, hits, IsWellFormed};
 ghost use Rattle.be_change.specs.Requests as asked;
 ghost use Rattle.be_change.specs.Sound.{all_lie};
 ghost use Rattle.be_change.specs.Walk.{live_rows, tail_from, IsNoteFor};
+ghost use Rattle.be_index.specs.Ids.{ids_of};
+ghost use Rattle.be_index.specs.Names.{spaced};
 ghost use Rattle.be_board.specs.State.{is_gone, LeavesLetters, Tends};
 ghost use Rattle.be_board.specs.Reads.{Looks, IsReadAt, Refuses};
 ghost use Rattle.be_board.specs.Changes.{Asked};
@@ -19,6 +21,7 @@ ghost use Rattle.be_board.specs.Letters.{IsLetterFor, Sends, RefusesSend, Posts,
 
 use crate::answers::{Answer, Sent};
 use be_base::{Name, NoRead};
+use be_index::Ids;
 use be_model::{Change, Conj, Cost, Event, Found, Letter};
 use std::alloc::Global;
 use std::sync::Arc;
@@ -60,6 +63,17 @@ pub trait Board: Drop {
         ensures found { OnOk result (found.new.rows ≡ rows_of (hit_rows (state self.new).word.known event.now)) }
         ensures refused { IfErr result (Refuses (state self.old) (state self.new)) }
         ensures none { OnErr result (found.new.rows ≡ []) };
+
+    /// Finds the ids of the live rows that the event satisfies, by rising id, and their names, each after a space, and says in which
+    /// first changes.
+    fn hits(&mut self, event: &Event, ids: &mut Ids, names: &mut Vec<u8>) -> Result<u64, NoRead>
+        requires lies { event_lies (state self.old).schema event.now ≡ true }
+        ensures looks { Looks (state self.old) (state self.new) }
+        ensures read { IfOk result (IsReadAt (state self.old) (state self.new)) }
+        ensures ids { OnOk result (ids.new.ids ≡ ids_of (hit_rows (state self.new).word.known event.now)) }
+        ensures names { OnOk result (names.new.items ≡ spaced (hits (state self.new).word.known event.now)) }
+        ensures refused { IfErr result (Refuses (state self.old) (state self.new)) }
+        ensures none { OnErr result (names.new.items ≡ []) };
 
     /// What a search for the event costs. It takes no memory.
     fn cost(&mut self, event: &Event) -> Result<(u64, Cost), NoRead>

@@ -25,7 +25,7 @@ use crate::local_copy::{LocalCopy, SESSION};
 use crate::posting::{count_addressed, make_letters};
 use be_base::{Name, NoMemory, NoRead};
 use be_change::ChangeLog;
-use be_index::Index;
+use be_index::{Ids, Index};
 use be_model::{Change, Conj, Cost, Event, Found, Letter, Row};
 use std::alloc::Global;
 use std::marker::Model;
@@ -162,6 +162,14 @@ impl<I: Index> Board for LocalBoard<I> {
         self.copy
             .read()
             .find(event, found)
+            .map_err(|_| NoRead::NoMemory)?;
+        Ok(self.count_read())
+    }
+
+    fn hits(&mut self, event: &Event, ids: &mut Ids, names: &mut Vec<u8>) -> Result<u64, NoRead> {
+        self.copy
+            .read()
+            .hits(event, ids, names)
             .map_err(|_| NoRead::NoMemory)?;
         Ok(self.count_read())
     }

@@ -5,7 +5,6 @@ use Rattle.std.proofs.lemmas.Option.{slice_get_within}
 use Rattle.std.proofs.lemmas.List.{append-nil, take_at, take-append-drop, take-append-le}
 use Rattle.std.proofs.lemmas.List.Elements.{filter-append}
 use Rattle.std.proofs.lemmas.List.Folds.{list_all-append, list_any-append}
-use Rattle.be_base.specs.Lists.{BeginsWith}
 use Rattle.be_model.specs.Schemas.{Attributes}
 use Rattle.be_model.specs.Matching.{Assignments}
 use Rattle.be_change.specs.History.{Entry, left, session_of, serial_of, is_leave_of, entries_of, has_left, live, hits, Opens, IsWellFormed, IsWellFormedAfter, MayFollow}
@@ -38,9 +37,6 @@ no_opening h e apart is = absurd (apart is)
 -- a beginning of a well formed list is well formed
 pub formed_front : (xs ys : List Entry) → IsWellFormed (xs ++ ys) → IsWellFormed xs
 formed_front xs ys w = after_front [] xs ys w
-
-pub formed_starts : (h seen : List Entry) → BeginsWith h seen → IsWellFormed h → IsWellFormed seen
-formed_starts h seen s w = formed_front seen s.0 (subst IsWellFormed s.1 w)
 
 pub formed_take : (n : ℕ) (h : List Entry) → IsWellFormed h → IsWellFormed (take n h)
 formed_take n h w = formed_front (take n h) (drop n h) (subst IsWellFormed (sym (take-append-drop n h)) w)
@@ -79,13 +75,6 @@ sound_last s h e a = record {
   follows = formed_last h e a.formed;
   lies = (and_parts (entry_lies s e) true (lies_parts s h (e ∷ []) a.lies).1).0;
 }
-
--- a beginning of a sound list is sound
-pub sound_front : (s : Attributes) (xs ys : List Entry) → Sound s (xs ++ ys) → Sound s xs
-sound_front s xs ys a = record { formed = formed_front xs ys a.formed; lies = (lies_parts s xs ys a.lies).0 }
-
-pub sound_none : (s : Attributes) → Sound s []
-sound_none s = record { formed = tt; lies = refl }
 
 pub entries_of-append : (k : ℕ) (xs ys : List Entry) → entries_of k (xs ++ ys) ≡ entries_of k xs ++ entries_of k ys
 entries_of-append k xs ys = filter-append (λ e. session_of e == k) xs ys

@@ -1,7 +1,7 @@
 -- The rows that are live after a well formed list: their names differ, each says its id, and an Unsub removes one.
-use Rattle.std.proofs.Common.{◌≡◌, ◌⊎◌, inl, inr, ℕ, ◌==◌, Bool, true, false, not, ◌&&◌, ◌||◌, cond, List, [], ◌∷◌, ◌++◌, length, Some, refl, sym, ap, ◌∙◌, subst}
+use Rattle.std.proofs.Common.{◌≡◌, ℕ, ◌==◌, Bool, true, false, not, ◌&&◌, ◌||◌, cond, List, [], ◌∷◌, ◌++◌, length, Some, refl, sym, ap, ◌∙◌, subst}
 use Rattle.std.specs.Prelude.{filter}
-use Rattle.std.proofs.lemmas.Bool.{and_parts, and_from, or_parts, or_from, or_cases, or_left, or_right, eqb-true, false_from_ne_true, both_ways, not-true, not_from_false}
+use Rattle.std.proofs.lemmas.Bool.{and_parts, and_from, or_parts, or_from, or_left, or_right, eqb-true, false_from_ne_true, both_ways, not-true, not_from_false}
 use Rattle.be_base.proofs.SameText.{equal_from_same_text, same_text_from_equal}
 use Rattle.be_model.specs.declared.changes.Row.{Row}
 use Rattle.be_model.specs.ByIds.{row_at}
@@ -153,15 +153,6 @@ found_here r l id name e is = (r.1, row_at-first r l id is, equal_from_same_text
 
 pub found_later : (r : ℕ × Row) (l : ByIds) (id : ℕ) (name : Text) → Rising (r ∷ l) → HasNameAt l id name → HasNameAt (r ∷ l) id name
 found_later r l id name a h = (h.0, row_at-later r l id h.0 a h.1, h.2)
-
--- a live name is found at an id
-pub name_found : (l : ByIds) (name : Text) → Rising l → is_live_name name l ≡ true → (id : ℕ) × HasNameAt l id name
-name_found [] name a e = absurd cc
-name_found (x ∷ xs) name a e = which (λ t. name_found xs name a.1 t) (or_cases (has_name name x) (is_live_name name xs) e)
-  where
-    which : (is_live_name name xs ≡ true → (id : ℕ) × HasNameAt xs id name) → (has_name name x ≡ true) ⊎ (is_live_name name xs ≡ true) → (id : ℕ) × HasNameAt (x ∷ xs) id name
-    which more (inl t) = (x.0, found_here x xs x.0 name t refl)
-    which more (inr t) = let later = more t in (later.0, found_later x xs later.0 name a later.1)
 
 -- a name that is found at an id is live
 pub found_live : (l : ByIds) (id : ℕ) (name : Text) → HasNameAt l id name → is_live_name name l ≡ true

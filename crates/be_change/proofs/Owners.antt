@@ -1,10 +1,10 @@
 -- Whose rows are live: those of sessions that have entries.
-use Rattle.std.proofs.Common.{◌≡◌, ◌⊎◌, inl, inr, ℕ, Bool, true, false, not, ◌&&◌, cond, List, [], ◌∷◌, length, refl, sym, ap, ◌∙◌}
+use Rattle.std.proofs.Common.{◌≡◌, ℕ, Bool, true, false, not, ◌&&◌, cond, List, [], ◌∷◌, length, refl, sym, ap, ◌∙◌}
 use Rattle.std.specs.Prelude.{filter}
 use Rattle.std.specs.List.{list_all}
-use Rattle.std.proofs.lemmas.Bool.{and_parts, and_from, or_cases, or_left, or_right}
+use Rattle.std.proofs.lemmas.Bool.{and_parts, and_from}
 use Rattle.std.proofs.lemmas.List.Folds.{list_all-append}
-use Rattle.be_change.specs.History.{Text, Entry, subscribed, unsubscribed, left, session_of, ByIds, live, after_entry, is_of, has_name, is_live_name, is_live_name_of, IsWellFormed, MayFollow}
+use Rattle.be_change.specs.History.{Entry, subscribed, unsubscribed, left, session_of, ByIds, live, after_entry, is_of, has_name, IsWellFormed, MayFollow}
 use Rattle.be_change.proofs.Grows.{live-append}
 use Rattle.be_change.proofs.Forms.{formed_induction}
 
@@ -44,14 +44,3 @@ live_owned p h w =
     (λ g e f m owned a.
     let both = and_parts (all_by p g) (all_by p (e ∷ [])) (sym (list_all-append (λ x. p (session_of x)) g (e ∷ [])) ∙ a) in
     ap (all_of p) (live-append g e) ∙ owned_after p g e m (and_parts (p (session_of e)) true both.1).0 (owned both.0))
-
--- where all rows are the session's, a live name is the session's
-pub owned_name : (k : ℕ) (name : Text) (l : ByIds) → list_all (is_of k) l ≡ true → is_live_name name l ≡ true → is_live_name_of k name l ≡ true
-owned_name k name [] o e = absurd cc
-owned_name k name (x ∷ xs) o e =
-    let both = and_parts (is_of k x) (list_all (is_of k) xs) o in
-    which (λ t. owned_name k name xs both.1 t) both.0 (or_cases (has_name name x) (is_live_name name xs) e)
-  where
-    which : (is_live_name name xs ≡ true → is_live_name_of k name xs ≡ true) → is_of k x ≡ true → (has_name name x ≡ true) ⊎ (is_live_name name xs ≡ true) → is_live_name_of k name (x ∷ xs) ≡ true
-    which more of (inl t) = or_left (is_of k x && has_name name x) (is_live_name_of k name xs) (and_from (is_of k x) (has_name name x) of t)
-    which more of (inr t) = or_right (is_of k x && has_name name x) (is_live_name_of k name xs) (more t)

@@ -4,7 +4,6 @@ use Rattle.std.specs.Prelude.{All, map}
 use Rattle.std.proofs.lemmas.List.{append-nil, get_or_at, length-map, nil_from_length}
 use Rattle.std.proofs.lemmas.List.Elements.{All-nil, All-cons}
 use Rattle.std.proofs.lemmas.Option.{slice_get-get_or}
-use Rattle.be_base.specs.Lists.{BeginsWith}
 use Rattle.be_change.specs.History.{Entry, session_of, entries_of, places_from, places_of, placed_from, placed_of}
 use Rattle.be_change.specs.Laws.{IsPlaced}
 use Rattle.be_change.proofs.Places.{append_if, places_none}
@@ -63,13 +62,3 @@ pub placed_kept : (k : ℕ) (h more : List Entry) → places_of k more ≡ [] �
 placed_kept k h more e =
     placed_of-append k h more
     ∙ (ap (λ (l : List (ℕ × Entry)). placed_of k h ++ l) (placed_none k (length h) more (places_none k 0 (length h) more e)) ∙ append-nil (placed_of k h))
-
--- a list that begins with another, and has no more entries of the session than it, has the same ones at the same places
-pub placed_same : (k : ℕ) (h seen : List Entry) → BeginsWith h seen → length (entries_of k h) ≡ length (entries_of k seen) → placed_of k h ≡ placed_of k seen
-placed_same k h seen b n =
-    let all : placed_of k h ≡ placed_of k seen ++ placed_from k (length seen) b.0 = ap (placed_of k) b.1 ∙ placed_of-append k seen b.0 in
-    let many : (l : List Entry) → length (placed_of k l) ≡ length (entries_of k l) =
-    λ l. sym (length-map (placed_of k l) (λ (p : ℕ × Entry). p.1)) ∙ ap (λ (x : List Entry). length x) (placed_from-entries k 0 l) in
-    let none : length (placed_from k (length seen) b.0) ≡ 0 =
-    omega (arith, many h, many seen, ap (λ (l : List (ℕ × Entry)). length l) all, length-append (placed_of k seen) (placed_from k (length seen) b.0)) in
-    all ∙ (ap (λ (l : List (ℕ × Entry)). placed_of k seen ++ l) (nil_from_length (placed_from k (length seen) b.0) none) ∙ append-nil (placed_of k seen))

@@ -88,14 +88,6 @@ pushed xs ys x n cap cap' old i count room same id more kept =
       ids = subst IdsArePlaces (sym now) (ids-snoc (entries_in xs) e i.ids (subst (λ (l : List Entry). HasIdAt (length l) e) (sym same) id));
     }
 
-places_from-count : (k n : ℕ) (h : List Entry) → length (places_from k n h) ≡ length (entries_of k h)
-places_from-count k n [] = refl
-places_from-count k n (x ∷ xs) = same_length_if (session_of x == k) n (places_from k (n + 1) xs) x (entries_of k xs) (places_from-count k (n + 1) xs)
-
--- a session has as many places as entries
-pub places_count : (k : ℕ) (h : List Entry) → length (places_of k h) ≡ length (entries_of k h)
-places_count k h = places_from-count k 0 h
-
 pub left-append : (k : ℕ) (h more : List Entry) → has_left k (h ++ more) ≡ (has_left k h || has_left k more)
 left-append k h more = list_any-append (is_leave_of k) h more
 

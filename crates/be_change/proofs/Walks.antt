@@ -1,5 +1,5 @@
 -- Legal walks: their parts, and the numbers that they carry.
-use Rattle.std.proofs.Common.{◌≡◌, ℕ, ◌-◌, ◌<◌, ◌≤◌, List, [], ◌∷◌, ◌++◌, length, ap, subst, refl, arith}
+use Rattle.std.proofs.Common.{◌≡◌, ℕ, ◌-◌, ◌<◌, ◌≤◌, List, [], ◌∷◌, ◌++◌, length, ap, subst, arith}
 use Rattle.std.proofs.lemmas.Option.{slice_get_within}
 use Rattle.be_model.specs.Schemas.{Attributes}
 use Rattle.be_change.specs.History.{Entry}
@@ -11,10 +11,6 @@ use Rattle.be_change.specs.Laws.{NumbersRise}
 pub legal-join : (s : Attributes) (k : ℕ) (h : List Entry) (ps qs : List Exchange) (w w1 w2 : Walk) → IsLegal s k h ps w w1 → IsLegal s k h qs w1 w2 → IsLegal s k h (ps ++ qs) w w2
 legal-join s k h [] qs w w1 w2 a b = subst (λ (x : Walk). IsLegal s k h qs x w2) a b
 legal-join s k h (p ∷ ps) qs w w1 w2 a b = (a.0, a.1, a.2, legal-join s k h ps qs a.1 w1 w2 a.3 b)
-
-pub legal-split : (s : Attributes) (k : ℕ) (h : List Entry) (ps qs : List Exchange) (w w2 : Walk) → IsLegal s k h (ps ++ qs) w w2 → (w1 : Walk) × IsLegal s k h ps w w1 × IsLegal s k h qs w1 w2
-legal-split s k h [] qs w w2 a = (w, refl, a)
-legal-split s k h (p ∷ ps) qs w w2 a = let more = legal-split s k h ps qs a.1 w2 a.3 in (more.0, (a.0, a.1, a.2, more.1), more.2)
 
 accepted_within : (k : ℕ) (h : List Entry) (w : Walk) (r : Request) (n : ℕ) → IsAcceptedAt k h w r n → n ≤ length h
 accepted_within k h w r n a = let inside : n - 1 < length h = slice_get_within h (n - 1) a.entry a.stands in omega (arith, a.later)

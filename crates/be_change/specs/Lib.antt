@@ -7,5 +7,4 @@ pub mod Box
 pub mod Made
 pub mod LiveRows
 pub mod Opening
-pub mod Alone
 pub mod Laws

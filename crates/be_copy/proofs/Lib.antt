@@ -3,5 +3,6 @@ pub mod Filed
 pub mod Firsts
 pub mod SoFar
 pub mod Kept
+mod HitIds
 mod InOrder
 mod TailChanges

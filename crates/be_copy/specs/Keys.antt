@@ -1,10 +1,9 @@
 -- The number that stands for a name in a register.
-use Rattle.std.specs.Prelude.{ℕ, ◌*◌, ◌%◌, ◌^◌, fold, bit_xor}
+use Rattle.std.specs.Prelude.{ℕ, take}
+use Rattle.std.specs.Int.{w64, from_be_bytes}
+use Rattle.sha2.specs.Sha256.{sha256}
 use Rattle.be_base.specs.Text.{Text}
-use Rattle.be_copy.specs.declared.keys.TheConstants.{KEY_START, KEY_FACTOR}
 
-abbrev pub next_key : ℕ → ℕ → ℕ
-next_key key byte = (bit_xor key byte * KEY_FACTOR) % 2 ^ 64
-
+-- the first 8 bytes of the name's digest, read as a number
 unfoldable pub name_key : Text → ℕ
-name_key name = fold next_key KEY_START name
+name_key name = from_be_bytes w64 (take 8 (sha256 name))

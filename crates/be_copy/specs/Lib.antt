@@ -4,3 +4,4 @@ pub mod Copied
 pub mod Edits
 pub mod Wanted
 pub mod Registers
+pub mod Hits

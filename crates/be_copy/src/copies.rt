@@ -84,7 +84,8 @@ impl<I: Index> Copy2<I> {
     {
         // That ids rise comes to light at the length of the list.
         let _ = self.log.len();
-        first(&self.log, &self.index, &self.register, Wanted::Named(name))
+        let wanted = Wanted::Named(name);
+        first(&self.log, &self.index, &self.register, wanted, wanted.key())
     }
 
     /// Finds the session's live rows, by rising id, and drops what was found before. The register knows where they stand, so that no

@@ -7,6 +7,7 @@
 
 mod copies;
 mod edits;
+mod hits;
 mod keys;
 mod live;
 mod places;

@@ -9,7 +9,7 @@ ghost use Rattle.be_model.specs.Lies.{row_lies};
 ghost use Rattle.be_model.specs.Rows.{id_of, KeepsRoom};
 ghost use Rattle.be_index.specs.Promise.{IsMap};
 ghost use Rattle.be_copy.specs.Registers.{IsRegister, AreOfList, IsWantedRow};
-ghost use Rattle.be_copy.specs.Wanted.{wants};
+ghost use Rattle.be_copy.specs.Wanted.{wants, key_of};
 
 use crate::register::Register;
 use crate::wanted::Wanted;
@@ -19,13 +19,15 @@ use be_index::Index;
 use be_model::{Found, Row};
 use std::sync::Arc;
 
-/// The wanted row of the lowest id.
+/// The wanted row of the lowest id. The key of the wanted rows is handed in, so that it is computed once.
 pub fn first<'a, I: Index>(
     log: &'a ChangeLog,
     index: &I,
     register: &Register,
     wanted: Wanted<'_>,
+    key: u64,
 ) -> Option<&'a Arc<Row>>
+    requires key { key ≡ key_of wanted }
     requires filed { IsRegister register.now (I.rows index.now) }
     requires listed { AreOfList log.now.list (I.rows index.now) }
     requires map { IsMap (I.rows index.now) }
@@ -33,7 +35,7 @@ pub fn first<'a, I: Index>(
     ensures there { IfSome result (λ row. IsWantedRow wanted.entry (I.rows index.now) (arc_value row.now)) }
 {
     let mut from = 0;
-    while let Some(id) = register.next(wanted, from) {
+    while let Some(id) = register.next(wanted, key, from) {
         let Some(row) = log.row(Id(id)) else {
             unreachable!();
         };
@@ -63,8 +65,9 @@ pub fn append_wanted<I: Index>(
     ensures front { BeginsWith found.new.rows found.old.rows }
     ensures room { KeepsRoom found.old found.new }
 {
+    let key = wanted.key();
     let mut from = 0;
-    while let Some(id) = register.next(wanted, from) {
+    while let Some(id) = register.next(wanted, key, from) {
         let Some(row) = log.row(Id(id)) else {
             unreachable!();
         };
@@ -142,7 +145,8 @@ pub fn remove_wanted<I: Index>(
     ensures schema { I.schema index.new ≡ I.schema index.old }
     ensures bounded { I.is_bounded index.new ≡ I.is_bounded index.old }
 {
-    while let Some(row) = first(log, index, register, wanted) {
+    let key = wanted.key();
+    while let Some(row) = first(log, index, register, wanted, key) {
         drop_row(index, register, row);
     }
 }

@@ -5,6 +5,7 @@ ghost use Rattle.be_model.specs.ByIds.{ByIds, put_by_id, without_id, has_id, row
 ghost use Rattle.be_model.specs.Rows.{id_of};
 ghost use Rattle.be_copy.specs.Places.{IsLeast};
 ghost use Rattle.be_copy.specs.Registers.{IsRegister, is_found};
+ghost use Rattle.be_copy.specs.Wanted.{key_of};
 
 use crate::keys::name_key;
 use crate::places::Places;
@@ -58,13 +59,14 @@ impl Register {
     }
 
     /// The next id, not below `from`, that stands under the session of the wanted rows, or under the number of their name.
-    pub fn next(&self, wanted: Wanted<'_>, from: u64) -> Option<u64>
+    pub fn next(&self, wanted: Wanted<'_>, key: u64, from: u64) -> Option<u64>
+        requires { key ≡ key_of wanted }
         ensures { IsLeast (is_found self.now wanted.entry) from result }
     {
         match wanted {
-            Wanted::Named(name) => self.names.next(name_key(name), from),
-            Wanted::Own(_, name) => self.names.next(name_key(name), from),
-            Wanted::Of(session) => self.sessions.next(session.0, from),
+            Wanted::Named(_) => self.names.next(key, from),
+            Wanted::Own(_, _) => self.names.next(key, from),
+            Wanted::Of(_) => self.sessions.next(key, from),
         }
     }
 }

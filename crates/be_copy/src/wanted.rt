@@ -2,8 +2,9 @@
 
 ghost use Rattle.std.specs.Prelude.{◌≡◌};
 ghost use Rattle.be_model.specs.Rows.{id_of};
-ghost use Rattle.be_copy.specs.Wanted.{wants};
+ghost use Rattle.be_copy.specs.Wanted.{wants, key_of};
 
+use crate::keys::name_key;
 use be_base::{Name, SessionNo};
 use be_model::Row;
 
@@ -16,6 +17,17 @@ pub enum Wanted<'a> {
 }
 
 impl Wanted<'_> {
+    /// The number of the wanted rows' name, or of their session.
+    pub fn key(self) -> u64
+        ensures { result ≡ key_of self.entry }
+    {
+        match self {
+            Wanted::Named(name) => name_key(name),
+            Wanted::Own(_, name) => name_key(name),
+            Wanted::Of(session) => session.0,
+        }
+    }
+
     pub fn takes(self, row: &Row) -> bool
         ensures { result ≡ wants self.entry (id_of row.now, row.now) }
     {

@@ -15,10 +15,17 @@ use Rattle.be_change.proofs.Alone.{accepted_last, present_snoc}
 use Rattle.be_core.specs.declared.acts.CoreReply.{CoreReply}
 use Rattle.be_core.specs.declared.acts.CoreReply.TheVariants.{Nothing}
 use Rattle.be_core.specs.Acts.{Deed, is_by}
-use Rattle.be_core.specs.World.{State, seen_by, having_seen, after_seeing, after_change, step, IsWorld, IsKept}
+use Rattle.be_core.specs.World.{State, seen_by, having_seen, after_seeing, after_change, step, IsWorld, is_split}
 use Rattle.be_core.specs.Sessions.{request_in, reply_in, exchange_of}
 use Rattle.be_core.proofs.Naming.{seen-own, seen-other}
 use Rattle.be_core.proofs.Outcomes.{Follows, Looked, Changed, step_outcomes}
+use Rattle.be_base.specs.Lists.{BeginsWith}
+
+-- one act keeps what a world keeps, splits nobody, and only adds to the list
+pub record IsKept (s : State) (r : State × CoreReply) : Type 0 where
+  pub world : IsWorld r.0
+  pub whole : is_split r.1 ≡ false
+  pub grows : BeginsWith r.0.list s.list
 
 -- what a session has seen, after one of them has seen n
 seen_after : (j n k m : ℕ) (s : State) → ((j == k) ≡ true → n ≤ m) → seen_by k s.seen ≤ m → seen_by k (having_seen j n s.seen) ≤ m

@@ -16,14 +16,10 @@ use Rattle.be_change.proofs.Places.{no_places}
 use Rattle.be_change.proofs.Alone.{accepted-append}
 use Rattle.be_core.specs.declared.acts.CoreReply.{CoreReply}
 use Rattle.be_core.specs.Acts.{Deed, asks, publishes, reshapes, reads, tells, leaves, is_by, AreOfSessions}
-use Rattle.be_core.specs.World.{State, beginning, seen_by, step, after_acts, replies, run, is_split, IsWorld}
+use Rattle.be_core.specs.World.{State, seen_by, step, after_acts, replies, run, is_split, IsWorld}
 use Rattle.be_core.specs.Sessions.{exchanges, EachIsLegal, replies_beside, beside_reshapes, ReshapesChangeNothing}
 use Rattle.be_core.proofs.Outcomes.{Follows}
 use Rattle.be_core.proofs.Answered.{step_kept, step_answered, exchange_in}
-
--- the state in which worlds begin
-pub beginning_is_world : IsWorld beginning
-beginning_is_world = record { formed = tt; within = omega arith; one_less = omega arith; seen = λ k. omega arith }
 
 -- of acts of sessions the first is a session's, and so are the others
 first_act : (a : Deed) (acts : List Deed) → AreOfSessions (a ∷ acts) → (is_by 0 a ≡ false) × AreOfSessions acts

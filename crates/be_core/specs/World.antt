@@ -1,7 +1,6 @@
 -- The core as plain data: what each act answers, and what it makes of the list.
-use Rattle.std.specs.Prelude.{◌≡◌, ℕ, ◌+◌, ◌≤◌, ◌==◌, ◌&&◌, ◌||◌, Bool, true, false, not, nat_lt, nat_le, List, [], ◌∷◌, ◌++◌, length, take, Option, Some, None, slice_get, if◌then◌else◌}
+use Rattle.std.specs.Prelude.{ℕ, ◌+◌, ◌≤◌, ◌==◌, ◌&&◌, ◌||◌, Bool, true, false, not, nat_lt, nat_le, List, [], ◌∷◌, ◌++◌, length, take, Option, Some, None, slice_get, if◌then◌else◌}
 use Rattle.be_base.specs.declared.names.SessionNo.{SessionNo}
-use Rattle.be_base.specs.Lists.{BeginsWith}
 use Rattle.be_model.specs.declared.changes.Row.{Row}
 use Rattle.be_model.specs.Matching.{Assignments}
 use Rattle.be_change.specs.History.{Text, Entry, subscribed, unsubscribed, left, session_of, serial_of, entries_of, has_left, ByIds, live, hits, has_name, is_of, IsWellFormed}
@@ -175,9 +174,3 @@ is_split (Other m id) = false
 is_split (Left n) = false
 is_split (Hits n names) = false
 is_split Nothing = false
-
--- one act keeps what a world keeps, splits nobody, and only adds to the list
-pub record IsKept (s : State) (r : State × CoreReply) : Type 0 where
-  pub world : IsWorld r.0
-  pub whole : is_split r.1 ≡ false
-  pub grows : BeginsWith r.0.list s.list

@@ -15,10 +15,10 @@ use Rattle.be_model.specs.Lies.{values_in, lies_in, lies_within, pred_lies, conj
 use Rattle.be_model.proofs.InSchema.{same_attribute}
 use Rattle.be_model.proofs.Ranges.{is_within-wider}
 use Rattle.be_cover.specs.Ranges.{is_in, rise_apart, IsLeast, least_in}
-use Rattle.be_cover.specs.Pieces.{is_near, pieces, narrowed}
+use Rattle.be_cover.specs.Pieces.{is_near, pieces}
 use Rattle.be_cover.specs.Covering.{hold_on, is_value, allows, least_allowed, least_apart}
 use Rattle.be_cover.proofs.Least.{one_least, least_of_same, least_in_is}
-use Rattle.be_cover.proofs.Holding.{is_in-narrowed}
+use Rattle.be_cover.proofs.Holding.{narrowed, is_in-narrowed}
 use Rattle.be_cover.proofs.Rising.{all_also, all_pieces_apart, all_pieces_near}
 
 -- a domain of a schema is within the bounds of all domains

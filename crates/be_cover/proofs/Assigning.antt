@@ -1,7 +1,7 @@
 -- Events that give values to the attributes of a schema, in order.
 use Rattle.std.proofs.Common.{◌≡◌, ℕ, zero, suc, ◌+◌, ◌-◌, ◌<◌, ◌≤◌, ℤ, Bool, true, false, eqb, ltb, ◌||◌, find, append_assoc, List, [], ◌∷◌, ◌++◌, map, All, Option, Some, None, option_map, refl, sym, ap, subst, ◌∙◌, ⊎_elim, arith}
 use Rattle.std.specs.List.{list_any, filter_map, cons_option, range_with_len}
-use Rattle.std.proofs.lemmas.Bool.{and_parts, and_from, or_parts, cases_lt, or_left, cond-true, cond-false, eq-eqb, ne_eqb, ltb-true, lt-ltb}
+use Rattle.std.proofs.lemmas.Bool.{and_parts, and_from, or_parts, cases_lt, cond-true, cond-false, eq-eqb, ne_eqb, ltb-true, lt-ltb}
 use Rattle.std.proofs.lemmas.List.{map-append, append-nil}
 use Rattle.std.proofs.lemmas.List.Elements.{All-cons, All-nil}
 use Rattle.be_base.specs.declared.names.AttrNo.{AttrNo}
@@ -118,9 +118,6 @@ is_single_event s f n h = record {
 pub attrs_next : (n m : ℕ) → n < m → attrs_from n (m - n) ≡ numbered n ∷ attrs_from (n + 1) (m - (n + 1))
 attrs_next n m h = let e : m - n ≡ suc (m - (n + 1)) = omega arith in ap (attrs_from n) e
 
-pub attrs_end : (n m : ℕ) → m ≤ n → attrs_from n (m - n) ≡ []
-attrs_end n m h = let e : m - n ≡ zero = omega arith in ap (attrs_from n) e
-
 -- a test that passes none of the attributes
 pub none_passes : (p : AttrNo → Bool) (a n : ℕ) (b : AttrNo) → list_any p (attrs_from a n) ≡ false → a ≤ b.0 → b.0 < a + n → p b ≡ false
 none_passes p a zero b h low high = absurd (omega arith)
@@ -128,15 +125,8 @@ none_passes p a (suc n) b h low high =
     let k = or_parts (p (numbered a)) (list_any p (attrs_from (a + 1) n)) h in
     ⊎_elim (λ below. none_passes p (a + 1) n b k.1 (omega arith) (omega arith)) (λ above. let e : b.0 ≡ a = omega arith in ap (λ j. p (numbered j)) e ∙ k.0) (cases_lt a b.0)
 
--- one turn of a walk over the attributes
-pub any_here : (p : AttrNo → Bool) (n m : ℕ) → n < m → p (numbered n) ≡ true → list_any p (attrs_from n (m - n)) ≡ true
-any_here p n m h k = ap (list_any p) (attrs_next n m h) ∙ or_left (p (numbered n)) (list_any p (attrs_from (n + 1) (m - (n + 1)))) k
-
 pub any_later : (p : AttrNo → Bool) (n m : ℕ) → n < m → p (numbered n) ≡ false → list_any p (attrs_from n (m - n)) ≡ list_any p (attrs_from (n + 1) (m - (n + 1)))
 any_later p n m h k = ap (list_any p) (attrs_next n m h) ∙ ap (λ b. b || list_any p (attrs_from (n + 1) (m - (n + 1)))) k
-
-pub find_here : (p : AttrNo → Bool) (n m : ℕ) → n < m → p (numbered n) ≡ true → find p (attrs_from n (m - n)) ≡ Some (numbered n)
-find_here p n m h k = ap (find p) (attrs_next n m h) ∙ cond-true (p (numbered n)) (Some (numbered n)) (find p (attrs_from (n + 1) (m - (n + 1)))) k
 
 pub find_later : (p : AttrNo → Bool) (n m : ℕ) → n < m → p (numbered n) ≡ false → find p (attrs_from n (m - n)) ≡ find p (attrs_from (n + 1) (m - (n + 1)))
 find_later p n m h k = ap (find p) (attrs_next n m h) ∙ cond-false (p (numbered n)) (Some (numbered n)) (find p (attrs_from (n + 1) (m - (n + 1)))) k
@@ -186,10 +176,6 @@ far_on f n m put h k before = record {
   whole = ap (λ e. put ++ e) (sym (given_later f n m h k)) ∙ before.whole;
   rising = rise_to (attrs_of put) (numbered n) (numbered (n + 1)) (omega arith) before.rising;
 }
-
-pub far_enough : (f : AttrNo → Option ℤ) (n m : ℕ) (put : Assignments) → m ≤ n → AsFar f n m put → put ≡ given_from f 0 m
-far_enough f n m put h before =
-    sym (append-nil put) ∙ ap (λ names. put ++ filter_map (λ b. assigned b (f b)) names) (sym (attrs_end n m h)) ∙ before.whole
 
 pub far_next : (f : AttrNo → Option ℤ) (n m : ℕ) (put next : Assignments) → n < m → next ≡ put ++ cons_option (assigned (numbered n) (f (numbered n))) [] → AsFar f n m put → AsFar f (n + 1) m next
 far_next f n m put next h is before = by_value (f (numbered n)) refl is

@@ -18,8 +18,13 @@ use Rattle.be_model.specs.Forms.{OpForm, rises}
 use Rattle.be_model.specs.Hulls.{is_on}
 use Rattle.be_model.specs.Matching.{is_among, holds}
 use Rattle.be_cover.specs.Ranges.{is_in}
-use Rattle.be_cover.specs.Pieces.{whole, gaps, before, run_after, run_ended, runs, pieces, narrowed}
+use Rattle.be_cover.specs.Pieces.{whole, gaps, before, run_after, run_ended, runs, pieces}
 use Rattle.be_cover.specs.Covering.{hold_on}
+
+-- what the predicates on the attribute leave of ranges
+abbrev pub narrowed : AttrNo → List Pred → List Range → List Range
+narrowed a [] ranges = ranges
+narrowed a (p ∷ ps) ranges = narrowed a ps (if is_on a p then flat_map (pieces p.op) ranges else ranges)
 
 pub is_in-whole : (r : Range) (v : ℤ) → is_in (whole r) v ≡ is_within r v
 is_in-whole r v = grind (arith, ints)

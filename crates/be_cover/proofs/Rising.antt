@@ -1,5 +1,5 @@
 -- The pieces of ranges rise and don't touch.
-use Rattle.std.proofs.Common.{◌≡◌, ℤ, pos, ◌+ℤ◌, ◌-ℤ◌, ◌≤ℤ◌, ◌<ℤ◌, Bool, true, false, ◌&&◌, ◌||◌, List, [], ◌∷◌, ◌++◌, All, refl, ap, ◌∙◌, arith}
+use Rattle.std.proofs.Common.{◌≡◌, ℤ, pos, ◌+ℤ◌, ◌-ℤ◌, ◌≤ℤ◌, ◌<ℤ◌, Bool, true, false, ◌&&◌, ◌||◌, List, [], ◌∷◌, ◌++◌, refl, ap, ◌∙◌, arith}
 use Rattle.std.specs.Prelude.{if◌then◌else◌}
 use Rattle.std.specs.Int.Signed.{le_z}
 use Rattle.std.specs.Ordering.{int_eq}
@@ -8,17 +8,13 @@ use Rattle.std.specs.List.{list_all, flat_map}
 use Rattle.std.proofs.lemmas.Int.{ints}
 use Rattle.std.proofs.lemmas.Bool.{and_parts, and_from}
 use Rattle.std.proofs.lemmas.List.Folds.{list_all-append}
-use Rattle.std.proofs.lemmas.List.Elements.{All-head, All-tail}
-use Rattle.be_base.specs.declared.names.AttrNo.{AttrNo}
 use Rattle.be_model.specs.declared.ops.Op.{Op}
 use Rattle.be_model.specs.declared.ops.Op.TheVariants.{Lt, Le, Eq, Ne, Ge, Gt, Between, OneOf, NoneOf}
-use Rattle.be_model.specs.declared.preds.Pred.{Pred}
 use Rattle.be_model.specs.Domains.{Range, is_within}
 use Rattle.be_model.specs.Forms.{OpForm, rises}
-use Rattle.be_model.specs.Hulls.{is_on}
 use Rattle.be_model.specs.Matching.{is_among}
 use Rattle.be_cover.specs.Ranges.{is_beyond, rise_apart}
-use Rattle.be_cover.specs.Pieces.{is_near, whole, gaps, before, run_after, run_ended, runs, pieces, narrowed}
+use Rattle.be_cover.specs.Pieces.{is_near, whole, gaps, before, run_after, run_ended, runs, pieces}
 use Rattle.be_cover.proofs.Holding.{none_below, rises-tail}
 
 -- the second range is a part of the first
@@ -122,9 +118,6 @@ above_first x y xs up h = by_test (le_z y x) refl
         absurd (cc)
     by_test false e = omega (arith, ints)
 
-equal_is : (x y : ℤ) → int_eq x y ≡ true → x ≤ℤ y
-equal_is x y h = grind (arith, ints)
-
 beyond_run : (b x : ℤ) → b <ℤ x → int_eq (x -ℤ pos 1) b ≡ false → (b +ℤ pos 1) <ℤ x
 beyond_run b x h k = grind (arith, ints)
 
@@ -220,19 +213,6 @@ all_pieces_apart op (r ∷ more) f up =
     let far = all_beyond op r more f v.1 v.0 in
     append_apart (pieces op r) rest here.apart (all_pieces_apart op more f v.1)
     (all_also (is_part r) (λ p. list_all (is_beyond p) rest) (λ p k. all_also (is_beyond r) (is_beyond p) (λ y. part_beyond r p y k) rest far) (pieces op r) here.parts)
-
-pub narrowed_apart : (a : AttrNo) (ps : List Pred) (ranges : List Range) → All (λ (p : Pred). OpForm p.op) ps → rise_apart ranges ≡ true → rise_apart (narrowed a ps ranges) ≡ true
-narrowed_apart a [] ranges f up = up
-narrowed_apart a (p ∷ ps) ranges f up =
-    let fits : Pred → Type 0 = λ q. OpForm q.op in
-    let others = All-tail fits p ps f in
-    by_test (is_on a p)
-    (narrowed_apart a ps (flat_map (pieces p.op) ranges) others (all_pieces_apart p.op ranges (All-head fits p ps f) up))
-    (narrowed_apart a ps ranges others up)
-  where
-    by_test : (b : Bool) → rise_apart (narrowed a ps (flat_map (pieces p.op) ranges)) ≡ true → rise_apart (narrowed a ps ranges) ≡ true → rise_apart (narrowed a ps (if b then flat_map (pieces p.op) ranges else ranges)) ≡ true
-    by_test true on off = on
-    by_test false on off = off
 
 near_part : (r p : Range) → is_near r ≡ true → is_part r p ≡ true → is_near p ≡ true
 near_part r p h k = grind (arith, ints)

@@ -15,11 +15,6 @@ gaps_cut xs i r h k =
     at_drop_more (λ ys. gaps ys r) xs i (pos 0) h
     ∙ cond-true (is_within r (number xs i)) (whole (r.0, number xs i -ℤ pos 1) ++ gaps (drop (i + 1) xs) (number xs i +ℤ pos 1, r.1)) (gaps (drop (i + 1) xs) r) (not-false (is_within r (number xs i)) k)
 
-pub gaps_pass : (xs : List ℤ) (i : ℕ) (r : Range) → i < length xs → not (is_within r (number xs i)) ≡ true → gaps (drop i xs) r ≡ gaps (drop (i + 1) xs) r
-gaps_pass xs i r h k =
-    at_drop_more (λ ys. gaps ys r) xs i (pos 0) h
-    ∙ cond-false (is_within r (number xs i)) (whole (r.0, number xs i -ℤ pos 1) ++ gaps (drop (i + 1) xs) (number xs i +ℤ pos 1, r.1)) (gaps (drop (i + 1) xs) r) (not-true (is_within r (number xs i)) k)
-
 pub runs_go_on : (xs : List ℤ) (i : ℕ) (r run : Range) → i < length xs → not (is_within r (number xs i)) ≡ false
     → runs (drop i xs) r run ≡ run_ended run (number xs i) ++ runs (drop (i + 1) xs) r (run_after run (number xs i))
 runs_go_on xs i r run h k =

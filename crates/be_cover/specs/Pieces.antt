@@ -2,14 +2,10 @@
 use Rattle.std.specs.Prelude.{ℤ, pos, ◌+ℤ◌, ◌-ℤ◌, ◌&&◌, Bool, List, [], ◌∷◌, ◌++◌, int_le, if◌then◌else◌}
 use Rattle.std.specs.Ordering.{int_eq}
 use Rattle.std.specs.Int.{int_max, int_min}
-use Rattle.std.specs.List.{flat_map}
 use Rattle.be_base.specs.declared.limits.TheConstants.{FIRST_INT, LAST_INT}
-use Rattle.be_base.specs.declared.names.AttrNo.{AttrNo}
 use Rattle.be_model.specs.declared.ops.Op.{Op}
 use Rattle.be_model.specs.declared.ops.Op.TheVariants.{Lt, Le, Eq, Ne, Ge, Gt, Between, OneOf, NoneOf}
-use Rattle.be_model.specs.declared.preds.Pred.{Pred}
 use Rattle.be_model.specs.Domains.{Range, is_within}
-use Rattle.be_model.specs.Hulls.{is_on}
 
 -- the bounds are those of a domain
 abbrev pub is_near : Range → Bool
@@ -52,8 +48,3 @@ pieces (Gt x) r = whole (int_max r.0 (x +ℤ pos 1), r.1)
 pieces (Between x y) r = whole (int_max r.0 x, int_min r.1 y)
 pieces (OneOf xs) r = runs xs r (before r)
 pieces (NoneOf xs) r = gaps xs r
-
--- what the predicates on the attribute leave of ranges
-abbrev pub narrowed : AttrNo → List Pred → List Range → List Range
-narrowed a [] ranges = ranges
-narrowed a (p ∷ ps) ranges = narrowed a ps (if is_on a p then flat_map (pieces p.op) ranges else ranges)

@@ -7,7 +7,7 @@ ghost use Rattle.be_model.specs.Hulls.{is_on};
 ghost use Rattle.be_model.specs.Lies.{values_in, lies_within, conj_lies};
 ghost use Rattle.be_model.specs.Schemas.{range_of};
 ghost use Rattle.be_cover.specs.Covering.{allows, has, least_allowed, least_apart};
-ghost use Rattle.be_cover.specs.Pieces.{is_near, pieces, narrowed};
+ghost use Rattle.be_cover.specs.Pieces.{is_near, pieces};
 ghost use Rattle.be_cover.specs.Ranges.{is_in, rise_apart};
 
 use crate::pieces::put_pieces;

@@ -16,17 +16,6 @@ use Rattle.be_demand.specs.Counts.{is_asked}
 abbrev pub one_if : Bool → ℕ
 one_if b = cond b 1 0
 
-pub raised : (counts : List ℕ) (i k : ℕ) → i < length counts → at_word (one_more counts i) k ≡ at_word counts k + one_if (i == k)
-raised counts i k h = by_test (i == k) refl
-  where
-    by_test : (b : Bool) → (i == k) ≡ b → at_word (one_more counts i) k ≡ at_word counts k + one_if b
-    by_test true e =
-        let same : i ≡ k = eqb-true i k e in
-        ap (λ n. at_word (one_more counts i) n) (sym same) ∙ get_or-set_same counts i (at_word counts i + 1) 0 h ∙ ap (λ n. at_word counts n + 1) same
-    by_test false e =
-        let other : k ≢ i = λ q. let t = eq-eqb i k (sym q) in absurd (cc) in
-        get_or-set_other counts i k (at_word counts i + 1) 0 other ∙ omega arith
-
 -- the item's attribute is the one that this word counts
 abbrev pub is_at : ℕ → AttrNo × List ℤ → Bool
 is_at word item = (1 + item.0.0) == word

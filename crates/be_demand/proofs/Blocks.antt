@@ -6,7 +6,7 @@ use Rattle.be_base.specs.Text.{Text}
 use Rattle.be_io.specs.Lines.{has_lf}
 use Rattle.be_io.specs.Reader.{NextLine}
 use Rattle.be_io.proofs.LfLemmas.{has_lf-append}
-use Rattle.be_transcript.specs.Replies.{with_lf}
+use Rattle.be_protocol.specs.Replies.{with_lf}
 use Rattle.be_demand.specs.Texts.{goes_on, is_whole}
 
 -- a text that begins with the lines of a reply, the last of which is this one
@@ -72,9 +72,3 @@ block_step ended bytes line after (l ∷ ls) last rest b cut =
       on = λ h. (ls, record { first = goes.1; ends = b.ends; whole = whole.1; last_whole = b.last_whole; text = k.1 });
       over = λ h. absurd (cc);
     }
-
--- a block has bytes
-pub block_some : (bytes : Text) (ls : List Text) (last rest : Text) → IsBlock bytes ls last rest → 0 < length bytes
-block_some bytes [] last rest b = omega (arith, ap length (b.text ∙ line_more last [] rest), length-append last (10 ∷ rest))
-block_some bytes (l ∷ ls) last rest b =
-    omega (arith, ap length (b.text ∙ line_more l (ls ++ last ∷ []) rest), length-append l (10 ∷ (flat_map with_lf (ls ++ last ∷ []) ++ rest)))

@@ -12,22 +12,12 @@ use Rattle.be_io.specs.Lines.{read_line}
 use Rattle.be_io.specs.Reader.{NextLine}
 use Rattle.be_model.specs.Schemas.{Attributes}
 use Rattle.be_change.specs.Requests.{Refusal, Request, refused, refusal, Exchange}
-use Rattle.be_transcript.specs.Readings.{reading}
+use Rattle.be_protocol.specs.Readings.{reading}
 use Rattle.be_demand.specs.Texts.{is_hit, HasLines, TellsFirst}
 use Rattle.be_demand.specs.Demand.{assigns, IsOver}
 use Rattle.be_demand.specs.Counts.{counts_for, count_of, adds_to, RaisedWhere, AreAtMost, HasCounted, StillCounts, IsCounting}
 use Rattle.be_demand.proofs.Adding.{one_if}
 use Rattle.be_demand.proofs.Peeling.{peel, no_replies, no_lines}
-
--- a seat that has counted nothing yet
-pub counting_new : (s : Attributes) (words : ℕ) (file transcript own : Text) → own ≡ replicate words 0 → length file ≤ FILE_BYTES → IsCounting s words file transcript file transcript own
-counting_new s words file transcript own is short =
-    let none : (word : ℕ) → at_word own word ≡ 0 = λ word. ap (λ l. at_word l word) is ∙ at_zeros words word in
-    record {
-      long = ap length is ∙ length-replicate words 0;
-      few = λ word less. omega (arith, none word);
-      counts = λ ps over. (ps, over, λ word less. omega (arith, none word));
-    }
 
 counts_as : (word : ℕ) (p : Exchange) (request : Request) (is_one : Bool) → p.0 ≡ request → is_one ≡ is_hit p.1 → counts_for word p ≡ (is_one && adds_to word request)
 counts_as zero p request is_one asked told = sym told ∙ and_true is_one
@@ -100,10 +90,6 @@ went_none of words request is_one old seat hit is belongs long = record {
       let none : at_word old.own word ≡ at_word old.own word + 0 = omega arith in
       ap (λ (s : SeatState). at_word s.own word) is ∙ (none ∙ ap (λ b. at_word old.own word + one_if (b && adds_to word request)) (sym hit));
 }
-
--- the lines that are left while some are left
-pub few_now : (s : Attributes) (words : ℕ) (file transcript lines replies own : Text) → IsCounting s words file transcript lines replies own → AreAtMost FILE_BYTES words own
-few_now s words file transcript lines replies own was word less = omega (arith, was.few word less)
 
 -- a text that isn't empty
 pub some_left : (b : Bool) (text : Text) → b ≡ (length text == 0) → b ≡ false → 0 < length text

@@ -8,9 +8,9 @@ use Rattle.be_io.specs.Reader.{NextLine}
 use Rattle.be_io.proofs.LineLemmas.{lines-ClosedLine, lines-OpenLine}
 use Rattle.be_model.specs.Schemas.{Attributes}
 use Rattle.be_change.specs.Requests.{Refusal, Request, refused, Reply, refusal, ok, held, bye, dup, none, other, hit, cost, listed, sent, notes, dumped, tailed, split, no_memory, shut, Exchange}
-use Rattle.be_transcript.specs.Readings.{reading}
-use Rattle.be_transcript.specs.Replies.{with_lf, reply_text, first_lines, last_line}
-use Rattle.be_transcript.specs.Transcript.{requests, texts}
+use Rattle.be_protocol.specs.Readings.{reading}
+use Rattle.be_protocol.specs.Replies.{with_lf, reply_text, first_lines, last_line}
+use Rattle.be_protocol.specs.Transcript.{requests, texts}
 use Rattle.be_demand.specs.Texts.{is_hit, HasLines, TellsFirst}
 use Rattle.be_demand.specs.Demand.{IsFit, IsOver}
 

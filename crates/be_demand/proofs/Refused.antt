@@ -14,11 +14,11 @@ use Rattle.be_model.specs.Matching.{Assignments}
 use Rattle.be_model.specs.Schemas.{Attributes, range_of}
 use Rattle.be_model.proofs.InSchema.{range_below}
 use Rattle.be_change.specs.Requests as asked
-use Rattle.be_session.specs.Requests.{plain_refusal, plain_request, request_lies}
-use Rattle.be_session.specs.declared.requests.Refusal.{Refusal}
-use Rattle.be_session.specs.declared.requests.Refusal.TheVariants.{Bad, Long, Attr, Dom, Twice, Many}
-use Rattle.be_session.specs.declared.requests.Request.{Request}
-use Rattle.be_session.specs.declared.requests.Request.TheVariants.{Subscribe, Unsubscribe, Publish, Costing, Listing, Sending, Fetching, Dumping, Tailing, Quit, Refused}
+use Rattle.be_protocol.specs.Requests.{plain_refusal, plain_request, request_lies}
+use Rattle.be_protocol.specs.declared.requests.Refusal.{Refusal}
+use Rattle.be_protocol.specs.declared.requests.Refusal.TheVariants.{Bad, Long, Attr, Dom, Twice, Many}
+use Rattle.be_protocol.specs.declared.requests.Request.{Request}
+use Rattle.be_protocol.specs.declared.requests.Request.TheVariants.{Subscribe, Unsubscribe, Publish, Costing, Listing, Sending, Fetching, Dumping, Tailing, Quit, Refused}
 use Rattle.be_demand.specs.Counts.{adds_to, is_asked, HaveWords, HasWords}
 use Rattle.be_demand.specs.Texts.{is_whole, HasLines}
 use Rattle.be_demand.proofs.Adding.{one_if}
@@ -54,12 +54,6 @@ twice_shown r name is named = subst ShowsLines (sym is) (λ s. one_line name (na
 pub many_shown : (r : Refusal) (count : ℕ) → r ≡ Many count → ShowsLines r
 many_shown r count is = subst ShowsLines (sym is) (λ s. one_line (decimal count) (ap not (plain_number count)))
 
-pub bad_shown : (r : Refusal) → r ≡ Bad → ShowsLines r
-bad_shown r is = subst ShowsLines (sym is) (λ s. refl)
-
-pub long_shown : (r : Refusal) → r ≡ Long → ShowsLines r
-long_shown r is = subst ShowsLines (sym is) (λ s. refl)
-
 -- the refusal that a request is
 pub refused_shown : (request : Request) (r : Refusal) → request ≡ Refused r → ShowsLines r → (s : Attributes) (t : asked.Refusal) → plain_request request ≡ asked.refused t → HasLines s (asked.refusal t)
 refused_shown request r is shown s t e =
@@ -68,20 +62,6 @@ refused_shown request r is shown s t e =
   where
     inside : (a b : asked.Refusal) → asked.refused a ≡ asked.refused b → a ≡ b
     inside a b e = cc
-
--- a request that is none tells no refusal
-pub other_shown : (request : Request) → ((r : Refusal) → request ≡ Refused r → ⊥) → (s : Attributes) (t : asked.Refusal) → plain_request request ≡ asked.refused t → HasLines s (asked.refusal t)
-other_shown (Refused r) none s t e = absurd (none r refl)
-other_shown (Subscribe x) none s t e = absurd (cc)
-other_shown (Unsubscribe x) none s t e = absurd (cc)
-other_shown (Publish x) none s t e = absurd (cc)
-other_shown (Costing x) none s t e = absurd (cc)
-other_shown Listing none s t e = absurd (cc)
-other_shown (Sending x) none s t e = absurd (cc)
-other_shown (Fetching x) none s t e = absurd (cc)
-other_shown Dumping none s t e = absurd (cc)
-other_shown (Tailing x y) none s t e = absurd (cc)
-other_shown Quit none s t e = absurd (cc)
 
 item_below : (s : Attributes) (item : AttrNo × List ℤ) → item_lies s item ≡ true → 1 + item.0.0 < 1 + length s
 item_below s item h = by_range (range_of s item.0) refl h
@@ -108,26 +88,3 @@ has_words s Dumping h = tt
 has_words s (Tailing x y) h = tt
 has_words s Quit h = tt
 has_words s (Refused r) h = tt
-
-none_at : (a : ℕ) → one_if (0 == suc a) ≡ 0
-none_at a = let none : (0 == suc a) ≡ false = grind (arith, nat_tests) in ap one_if none
-
--- a request that is no PUB counts for the first word alone
-pub counts_alone : (request : Request) → ((e : Assignments) → request ≡ Publish e → ⊥) → (word : ℕ) → one_if (0 == word) ≡ one_if (adds_to word (plain_request request))
-counts_alone request none zero = refl
-counts_alone (Publish e) none (suc a) = absurd (none e refl)
-counts_alone (Subscribe x) none (suc a) = none_at a
-counts_alone (Unsubscribe x) none (suc a) = none_at a
-counts_alone (Costing x) none (suc a) = none_at a
-counts_alone Listing none (suc a) = none_at a
-counts_alone (Sending x) none (suc a) = none_at a
-counts_alone (Fetching x) none (suc a) = none_at a
-counts_alone Dumping none (suc a) = none_at a
-counts_alone (Tailing x y) none (suc a) = none_at a
-counts_alone Quit none (suc a) = none_at a
-counts_alone (Refused r) none (suc a) = none_at a
-
--- and a PUB for its attributes too
-pub counts_event : (e : Assignments) (word : ℕ) → one_if (0 == word) + one_if (is_asked word e) ≡ one_if (adds_to word (asked.publish e))
-counts_event e zero = refl
-counts_event e (suc a) = ap (λ n. n + one_if (is_asked (suc a) e)) (none_at a) ∙ omega arith

@@ -8,7 +8,7 @@ use Rattle.be_model.specs.declared.changes.Row.{Row}
 use Rattle.be_model.specs.Schemas.{Attributes}
 use Rattle.be_change.specs.History.{Entry}
 use Rattle.be_change.specs.Requests.{Refusal, bad, long, unknown_attribute, outside_domain, given_twice, too_many, Note, Reply, refusal, notes, dumped, tailed}
-use Rattle.be_transcript.specs.Replies.{note_line, row_line, change_lines, refusal_line, last_line, first_lines, reply_text}
+use Rattle.be_protocol.specs.Replies.{note_line, row_line, change_lines, refusal_line, last_line, first_lines, reply_text}
 use Rattle.be_demand.specs.Texts.{goes_on, says_hit, is_hit, is_whole, HasLines}
 use Rattle.be_demand.proofs.Blocks.{IsBlock}
 

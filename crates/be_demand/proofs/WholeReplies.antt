@@ -16,7 +16,7 @@ use Rattle.be_change.specs.Walk.{Walk, Answers, IsLegal, IsNoteFor, beginning_at
 use Rattle.be_expr.specs.Changes.{change_text}
 use Rattle.be_expr.specs.Writing.{expr_text}
 use Rattle.be_event.specs.Writing.{event_text}
-use Rattle.be_transcript.specs.Replies.{part, number, names_text, note_line, row_line, change_lines, last_line}
+use Rattle.be_protocol.specs.Replies.{part, number, names_text, note_line, row_line, change_lines, last_line}
 use Rattle.be_demand.specs.Texts.{is_whole}
 use Rattle.be_demand.specs.Demand.{IsFit, AreFit}
 use Rattle.be_demand.specs.Whole.{names_are_whole, entry_is_whole, changes_are_whole, LegalIsFit}

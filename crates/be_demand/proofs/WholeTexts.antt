@@ -24,7 +24,7 @@ use Rattle.be_change.specs.History.{Entry, subscribed, unsubscribed, left}
 use Rattle.be_expr.specs.Changes.{head_text, change_text}
 use Rattle.be_expr.specs.Writing.{op_text, pred_text, expr_text}
 use Rattle.be_event.specs.Writing.{given_text, item_text, event_text}
-use Rattle.be_table.proofs.Bytes.{decimal_without}
+use Rattle.be_load_files.proofs.Bytes.{decimal_without}
 use Rattle.be_demand.specs.Texts.{is_whole}
 use Rattle.be_demand.specs.Whole.{words_are_whole, attribute_is_whole, names_are_whole, entry_is_whole}
 

@@ -7,8 +7,8 @@ use Rattle.be_io.specs.Lines.{lines}
 use Rattle.be_model.specs.Matching.{is_assigned}
 use Rattle.be_model.specs.Schemas.{Attributes, numbered}
 use Rattle.be_change.specs.Requests.{Request, refused, publish, Reply, refusal, Exchange}
-use Rattle.be_transcript.specs.Readings.{reading}
-use Rattle.be_transcript.specs.Transcript.{requests, texts}
+use Rattle.be_protocol.specs.Readings.{reading}
+use Rattle.be_protocol.specs.Transcript.{requests, texts}
 use Rattle.be_demand.specs.Texts.{is_hit, HasLines}
 
 abbrev pub is_answered : Exchange → Bool

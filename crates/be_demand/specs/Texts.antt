@@ -5,7 +5,7 @@ use Rattle.be_base.specs.Text.{Text}
 use Rattle.be_io.specs.Lines.{has_lf}
 use Rattle.be_model.specs.Schemas.{Attributes}
 use Rattle.be_change.specs.Requests.{Reply, hit}
-use Rattle.be_transcript.specs.Replies.{reply_lines, reply_text}
+use Rattle.be_protocol.specs.Replies.{reply_lines, reply_text}
 
 abbrev pub begins_with : Text → Text → Bool
 begins_with line front = starts_with nat_eq line front

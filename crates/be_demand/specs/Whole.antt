@@ -8,7 +8,7 @@ use Rattle.be_model.specs.declared.schemas.Domain.TheVariants.{Int, Sym}
 use Rattle.be_model.specs.Schemas.{Attributes}
 use Rattle.be_change.specs.History.{Entry, subscribed, unsubscribed, left}
 use Rattle.be_change.specs.Requests.{Exchange}
-use Rattle.be_transcript.specs.Transcript.{AreExchanges}
+use Rattle.be_protocol.specs.Transcript.{AreExchanges}
 use Rattle.be_demand.specs.Texts.{is_whole}
 use Rattle.be_demand.specs.Demand.{AreFit}
 

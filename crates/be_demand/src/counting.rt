@@ -4,9 +4,9 @@ ghost use Rattle.std.specs.Prelude.{◌≡◌, ◌+◌, ◌<◌, ◌≤◌, leng
 ghost use Rattle.be_base.specs.declared.limits.TheConstants.{FILE_BYTES, LINE_BYTES};
 ghost use Rattle.be_change.specs.Requests as asked;
 ghost use Rattle.be_heat.specs.Seats.{IsOf, new_seat};
-ghost use Rattle.be_io.specs.Lines.{read_line, without_cr};
-ghost use Rattle.be_session.specs.Requests.{Reads, plain_request, plain_refusal};
-ghost use Rattle.be_transcript.specs.Readings.{reading};
+ghost use Rattle.be_io.specs.Lines.{read_line};
+ghost use Rattle.be_protocol.specs.Requests.{Reads, plain_request, plain_refusal};
+ghost use Rattle.be_protocol.specs.Readings.{reading};
 ghost use Rattle.be_demand.specs.Counts.{RaisedWhere, AreAtMost, HaveWords, HasWords, HasCounted, adds_to, is_asked};
 ghost use Rattle.be_demand.specs.Demand.{IsOver};
 ghost use Rattle.be_demand.specs.Texts.{HasLines};
@@ -15,8 +15,9 @@ use crate::cutting::{Cut, cut_line};
 use crate::replies::tell_reply;
 use be_base::{LINE_BYTES, NoMemory};
 use be_heat::{Heat, HeatSeat};
+use be_io::without_cr;
 use be_model::{Event, Schema};
-use be_session::{Refusal, Request, read_line};
+use be_protocol::{Refusal, Request, read_line};
 use std::alloc::Global;
 
 /// Goes through a file's lines and the replies to them side by side, and counts at a seat that has counted nothing yet.
@@ -67,15 +68,6 @@ fn read_request(alloc: Global, schema: &Schema, cut: &Cut) -> Result<Request, No
     let request = read_line(alloc, schema, text)?;
     show_name(&request);
     Ok(request)
-}
-
-fn without_cr(line: &[u8]) -> &[u8]
-    ensures { result.now ≡ without_cr line.now }
-{
-    match line {
-        [before @ .., b'\r'] => before,
-        _ => line,
-    }
 }
 
 // What the type of a refused name keeps comes to light here.

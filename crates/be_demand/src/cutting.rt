@@ -1,11 +1,9 @@
 //! Lines of a text that lies in memory.
 
-ghost use Rattle.std.specs.Prelude.{◌≡◌, ◌<◌, length, false, MatchOption};
-ghost use Rattle.be_io.specs.Lines.{has_lf};
+ghost use Rattle.std.specs.Prelude.{◌<◌, length};
 ghost use Rattle.be_io.specs.Reader.{NextLine};
-ghost use Rattle.be_io.specs.Reading.{IsFirstLf};
 
-use memchr::memchr;
+use be_io::first_lf;
 
 /// The first line of a text.
 #[derive(Clone, Copy)]
@@ -36,11 +34,4 @@ pub(crate) fn cut_line(text: &[u8]) -> Cut
             ended: true,
         },
     }
-}
-
-// The place of the first LF.
-fn first_lf(bytes: &[u8]) -> Option<usize>
-    ensures { MatchOption result (has_lf bytes.now ≡ false) (IsFirstLf bytes.now) }
-{
-    memchr(b'\n', bytes)
 }

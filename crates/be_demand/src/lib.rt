@@ -3,7 +3,7 @@
 //! `count_all` reads each file's lines and the replies to them side by side, a worker a file, and counts in shared atomic words
 //! how many replies are a HIT, and for each attribute how many of these answer an event that assigns it. Its one contract: the
 //! numbers are those of the sessions' exchanges, whichever exchanges have these lines and these texts. It stands on be_heat for
-//! the words, on be_session for reading a line and on be_transcript for the texts of replies. Begin with specs/Demand.
+//! the words and on be_protocol for lines and the texts of replies. Begin with specs/Demand.
 #![tactic(auto)]
 
 mod counting;

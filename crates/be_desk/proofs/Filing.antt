@@ -1,5 +1,8 @@
 -- The register, as rows come and go.
 use Rattle.std.proofs.Common.{◌≡◌, ℕ, Bool, true, false, not, ◌&&◌, ◌||◌, cond, List, [], ◌∷◌, ◌++◌, length, filter, Option, Some, refl, sym, ap, ◌∙◌, subst}
+use Rattle.std.specs.BTreeMap.{BTreeMap, get, is_at}
+use Rattle.std.specs.Ordering.{nat_cmp}
+use Rattle.std.specs.Cmp.Lexicographic.{slice_cmp, texts_ties}
 use Rattle.std.proofs.lemmas.List.{map-append}
 use Rattle.be_model.specs.declared.changes.Row.{Row}
 use Rattle.be_model.specs.Rows.{id_of}
@@ -21,6 +24,12 @@ use Rattle.be_desk.proofs.Named.{no_id, named_snoc, named_without, named_middle,
 -- one name is found otherwise than before
 abbrev pub Renames : Text → Option ℕ → (found found' : Text → Option ℕ) → Type 0
 Renames name o found found' = (q : Text) → found' q ≡ cond (same_text name q) o (found q)
+
+-- a change of a map of names at one name
+pub renamed : (name : Text) (o : Option ℕ) (names names' : BTreeMap Text ℕ)
+    → ((q : Text) → get (slice_cmp nat_cmp) names' q ≡ cond (is_at (slice_cmp nat_cmp name) q) o (get (slice_cmp nat_cmp) names q))
+    → Renames name o (get (slice_cmp nat_cmp) names) (get (slice_cmp nat_cmp) names')
+renamed name o names names' update q = update q ∙ ap (λ (b : Bool). cond b o (get (slice_cmp nat_cmp) names q)) (sym (texts_ties name q))
 
 -- one pair is listed otherwise than before
 abbrev pub Refiles : (k id : ℕ) → Bool → (pairs pairs' : List (ℕ × ℕ)) → Type 0

@@ -21,11 +21,6 @@ named_if false x o = refl
 pub named_cons : (name : Text) (x : ℕ × Row) (xs : ByIds) → id_named name (x ∷ xs) ≡ cond (has_name name x) (Some x.0) (id_named name xs)
 named_cons name x xs = named_if (has_name name x) x (named name xs)
 
--- it is the row that a search by the name finds
-pub named_is_found : (name : Text) (m : ByIds) → named name m ≡ find (has_name name) m
-named_is_found name [] = refl
-named_is_found name (x ∷ xs) = ap (λ (o : Option (ℕ × Row)). cond (has_name name x) (Some x) o) (named_is_found name xs)
-
 -- an id that is found is that of the row, and where none is found there is no row
 pub id_found : (name : Text) (m : ByIds) (id : ℕ) → id_named name m ≡ Some id → (r : ℕ × Row) × (named name m ≡ Some r) × (r.0 ≡ id)
 id_found name m id e = by_row (named name m) refl e
@@ -33,13 +28,6 @@ id_found name m id e = by_row (named name m) refl e
     by_row : (o : Option (ℕ × Row)) → named name m ≡ o → option_map (λ (r : ℕ × Row). r.0) o ≡ Some id → (r : ℕ × Row) × (named name m ≡ Some r) × (r.0 ≡ id)
     by_row None is e = absurd cc
     by_row (Some r) is e = (r, is, cc)
-
-pub none_found : (name : Text) (m : ByIds) → id_named name m ≡ no_id → named name m ≡ None
-none_found name m e = by_row (named name m) refl e
-  where
-    by_row : (o : Option (ℕ × Row)) → named name m ≡ o → option_map (λ (r : ℕ × Row). r.0) o ≡ no_id → named name m ≡ None
-    by_row None is e = is
-    by_row (Some r) is e = absurd cc
 
 -- a name that no row has isn't found
 named_apart : (name : Text) (m : ByIds) → is_among_texts name (names_of m) ≡ false → id_named name m ≡ no_id

@@ -5,7 +5,7 @@ use Rattle.be_change.specs.History.{live}
 use Rattle.be_model.specs.declared.paths.Step.{Step}
 use Rattle.be_published.specs.States.{one_shut, one_none, one_plan}
 use Rattle.be_desk.specs.Desks.{DeskState, freed, HasHeld, HasPending}
-use Rattle.be_desk.specs.declared.patience.TheConstants.{WORK_A_TEND}
+use Rattle.be_desk.specs.declared.patience.TheConstants.{ROWS_RESHAPED, WORK_A_TEND}
 use Rattle.be_desk.specs.declared.maintained.Maintained.{Maintained}
 use Rattle.be_desk.specs.declared.maintained.Maintained.TheVariants.{Freed, Stepped, Idle, Shut, NoMemory}
 
@@ -49,14 +49,18 @@ having_tended d = record d { patience = raised WORK_A_TEND d.patience }
 abbrev pub looking : DeskState → DeskState
 looking d = record d { patience = 0 }
 
--- something is pending, or a look through all live rows was earned
+-- something is pending, or enough rows are live for a look, and a look through all of them was earned
 abbrev pub IsDue : DeskState → Type 0
-IsDue d = HasPending d ⊎ (length (live d.list) ≤ d.patience)
+IsDue d = HasPending d ⊎ ((ROWS_RESHAPED ≤ length (live d.list)) × (length (live d.list) ≤ d.patience))
+
+-- too few rows are live for a look, or more than was earned
+abbrev pub IsPutOff : DeskState → Type 0
+IsPutOff d = (length (live d.list) < ROWS_RESHAPED) ⊎ (d.patience < length (live d.list))
 
 -- what a tend makes of the desk
 abbrev pub IsTended : DeskState → DeskState → Option Maintained → Type 0
--- nothing is pending, and nothing was done. It earned, and the live rows are still more than was earned
-IsTended d d' None = (d ≡ freed d) × (d' ≡ having_tended d) × (d'.patience < length (live d.list))
+-- nothing is pending, and nothing was done. It earned, and a look is still put off
+IsTended d d' None = (d ≡ freed d) × (d' ≡ having_tended d) × IsPutOff d'
 -- it was due, and the desk was maintained: a change that was held was published, or what was earned was spent, and what is pending
 -- published before a look
 IsTended d d' (Some done) =

@@ -1,10 +1,12 @@
 -- The register: live names, each with the id of its row, and the ids of each session's live rows.
 use Rattle.std.specs.Prelude.{◌≡◌, ℕ, ◌++◌, true, false, List, [], ◌∷◌, length, Option, Some, option_map}
-use Rattle.indexmap.specs.IndexMap.{get}
+use Rattle.std.specs.BTreeMap.{get}
+use Rattle.std.specs.Ordering.{nat_cmp}
+use Rattle.std.specs.Cmp.Lexicographic.{slice_cmp}
 use Rattle.be_model.specs.declared.changes.Row.{Row}
 use Rattle.be_model.specs.ByIds.{Rising, row_at, without_id}
 use Rattle.be_model.specs.Rows.{id_of}
-use Rattle.be_change.specs.History.{Text, same_text, Entry, subscribed, unsubscribed, left, ByIds, live, is_live_name, names_of}
+use Rattle.be_change.specs.History.{Text, Entry, subscribed, unsubscribed, left, ByIds, live, is_live_name, names_of}
 use Rattle.be_change.specs.LiveRows.{all_differ}
 use Rattle.be_copy.specs.Registers.{AreFiled, session_of_row}
 use Rattle.be_core.specs.World.{named}
@@ -20,7 +22,7 @@ AreNamed found m = (name : Text) → found name ≡ id_named name m
 
 -- the register agrees with these rows
 pub record IsRegister (r : Register) (m : ByIds) : Type 0 where
-  pub names : AreNamed (get same_text r.names) m
+  pub names : AreNamed (get (slice_cmp nat_cmp) r.names) m
   pub sessions : AreFiled session_of_row r.sessions.pairs.keys m
 
 -- the row may be subscribed next

@@ -4,7 +4,7 @@ ghost use Rattle.std.specs.Prelude.{◌≡◌, ◌≤◌, ◌<◌, length, IfOk,
 ghost use Rattle.be_base.specs.Counts.{raised};
 ghost use Rattle.be_change.specs.History.{live};
 ghost use Rattle.be_desk.specs.Desks.{freed};
-ghost use Rattle.be_desk.specs.Maintained.{IsDue, IsMaintained, IsTended, OnStep};
+ghost use Rattle.be_desk.specs.Maintained.{IsDue, IsMaintained, IsPutOff, IsTended, OnStep};
 
 use crate::broom::Broom;
 use crate::desk::Desk;
@@ -32,7 +32,8 @@ pub enum Maintained {
 
 impl<T: Sheet<J>, J: Naming + BoxNames> Desk<T, J> {
     /// What a worker calls between two replies. Where something is pending, or a look for a step was earned by the changes and
-    /// tends since the last one, it maintains the desk; else it looks at nothing. It may wait for readers.
+    /// tends since the last one, and enough rows are live for one, it maintains the desk; else it looks at nothing. It may wait for
+    /// readers.
     pub fn tend<R: Wait>(&mut self, rt: &R, broom: &mut Broom) -> Option<Maintained>
         ensures broom { broom.new ≡ raised 1 broom.old }
         ensures done { IsTended self.old self.new result }
@@ -49,7 +50,7 @@ impl<T: Sheet<J>, J: Naming + BoxNames> Desk<T, J> {
     }
 
     fn is_due(&self) -> bool
-        ensures { MatchBool result (IsDue self.now) ((self.now ≡ freed self.now) × (self.now.patience < length (live self.now.list))) }
+        ensures { MatchBool result (IsDue self.now) ((self.now ≡ freed self.now) × IsPutOff self.now) }
     {
         !self.press.is_settled() || self.patience.has_earned(self.rows())
     }

@@ -9,8 +9,13 @@ use std::marker::Model;
 /// that changes earn take about a tenth of the time that the changes take.
 pub const WORK_A_CHANGE: u64 = 8;
 
-/// What a tend earns: without any change a look comes after as many tends as there are live rows, divided by 64.
+/// What a tend earns: without any change a look comes after as many tends as there are live rows, divided by 64, where
+/// these are enough for a look.
 pub const WORK_A_TEND: u64 = 64;
+
+/// A tend looks for no step where fewer rows are live: a split made in a small tree stays while it grows, and makes it dear to
+/// search.
+pub const ROWS_RESHAPED: u64 = 4096;
 
 /// What was earned since the last look. A count at the end of its type stays there.
 #[derive(Drop)]
@@ -40,11 +45,11 @@ impl Patience {
         self.credit = self.credit.saturating_add(work);
     }
 
-    /// Whether a look through so many rows was earned.
+    /// Whether so many rows are enough for a look, and a look through them was earned.
     pub fn has_earned(&self, rows: u64) -> bool
-        ensures { IsTrue result ↔ (rows ≤ self.now) }
+        ensures { IsTrue result ↔ ((ROWS_RESHAPED ≤ rows) × (rows ≤ self.now)) }
     {
-        rows <= self.credit
+        ROWS_RESHAPED <= rows && rows <= self.credit
     }
 
     pub fn spend(&mut self)

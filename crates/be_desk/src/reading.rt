@@ -6,14 +6,17 @@ ghost use Rattle.be_model.specs.Bounds.{IsWithinBound};
 ghost use Rattle.be_model.specs.ByIds.{rows_of, session_rows};
 ghost use Rattle.be_model.specs.Lies.{event_lies};
 ghost use Rattle.be_change.specs.Entries.{entries_in};
-ghost use Rattle.be_change.specs.History.{live, hit_rows};
+ghost use Rattle.be_change.specs.History.{live, hit_rows, hits};
 ghost use Rattle.be_change.specs.Sound.{all_lie, Sound};
 ghost use Rattle.be_change.specs.Walk.{live_rows, tail_from};
+ghost use Rattle.be_index.specs.Ids.{ids_of};
+ghost use Rattle.be_index.specs.Names.{spaced};
 ghost use Rattle.be_board.specs.Reads.{Looks, IsReadAt, Refuses};
 ghost use Rattle.be_desk.specs.Boards.{OnBoards};
 
 use crate::seat::Seat;
 use be_base::NoRead;
+use be_index::Ids;
 use be_mail::BoxNames;
 use be_model::{Change, Cost, Event, Found};
 use be_published::{Naming, Sheet};
@@ -32,6 +35,23 @@ impl<T: Sheet<J>, J: Naming + BoxNames> Seat<T, J> {
     {
         self.count();
         let (n, _) = self.glass.find(event, found)?;
+        Ok(n)
+    }
+
+    /// Finds the ids of the live rows that the event satisfies, by rising id, and their names, each after a space, and says in which
+    /// first changes.
+    pub fn hits(&mut self, event: &Event, ids: &mut Ids, names: &mut Vec<u8>) -> Result<u64, NoRead>
+        requires lies { event_lies J.schema event.now ≡ true }
+        ensures looks { OnBoards J.schema Looks self.old self.new }
+        ensures read { IfOk result (λ n. OnBoards J.schema (λ b b'. IsReadAt b b' n) self.old self.new) }
+        ensures ids { OnOk result (ids.new.ids ≡ ids_of (hit_rows self.new.glass.known event.now)) }
+        ensures names { OnOk result (names.new.items ≡ spaced (hits self.new.glass.known event.now)) }
+        ensures refused { IfErr result (λ why. OnBoards J.schema (λ b b'. Refuses b b' why) self.old self.new) }
+        ensures none { OnErr result (names.new.items ≡ []) }
+        ensures seat { self.new ≡ record self.old { glass = self.new.glass } }
+    {
+        self.count();
+        let n = self.glass.hits(event, ids, names)?;
         Ok(n)
     }
 

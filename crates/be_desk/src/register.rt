@@ -1,7 +1,7 @@
 //! The register of live rows: their ids, by name and by session.
 
 ghost use Rattle.std.specs.Prelude.{◌≡◌, ℕ, ◌<◌, ◌++◌, true, List, [], ◌∷◌, length, OnOk, OnErr};
-ghost use Rattle.indexmap.specs.IndexMap.{index_map_len};
+ghost use Rattle.std.specs.BTreeMap.{btree_map_len};
 ghost use Rattle.be_base.specs.Lists.{BeginsWith};
 ghost use Rattle.be_model.specs.ByIds.{ByIds};
 ghost use Rattle.be_change.specs.Entries.{entry_of};
@@ -13,14 +13,14 @@ use be_base::{Id, Name, NoMemory, SessionNo};
 use be_change::ChangeLog;
 use be_copy::Places;
 use be_model::{Change, Row};
-use indexmap::IndexMap;
 use std::alloc::Global;
+use std::collections::BTreeMap;
 
-/// Live names, each with the id of its row, and the ids of each session's live rows. A call takes the time of a look-up;
-/// `leave` that of one for each row of its session.
+/// Live names in order, each with the id of its row, and the ids of each session's live rows. A call takes the time of a look-up,
+/// whatever the names; `leave` that of one for each row of its session.
 #[derive(Drop)]
 pub struct Register {
-    names: IndexMap<Name, u64>,
+    names: BTreeMap<Name, u64>,
     sessions: Places,
 }
 
@@ -30,7 +30,7 @@ impl Register {
         ensures { IsRegister result [] }
     {
         Register {
-            names: IndexMap::new(alloc),
+            names: BTreeMap::new(alloc),
             sessions: Places::make(alloc),
         }
     }
@@ -75,7 +75,7 @@ impl Register {
     pub fn remove(&mut self, session: SessionNo, name: &Name)
         ensures { (h : List Entry) (n : ℕ) → IsWellFormed h → is_live_name_of session.0 name.now (live h) ≡ true → IsRegister self.old (live h) → IsRegister self.new (after_entry (live h) (length h) (unsubscribed session.0 n name.now)) }
     {
-        if let Some(id) = self.names.swap_remove(name) {
+        if let Some(id) = self.names.remove(name) {
             self.sessions.drop_pair(session.0, id);
         }
     }
@@ -135,9 +135,9 @@ impl Register {
     fn drop_row(&mut self, row: &Row) -> bool
         ensures rows { TakesOut row.now self.old self.new }
         ensures there { IsIn row.now self.old → result ≡ true }
-        ensures fewer { result ≡ true → index_map_len self.new.names < index_map_len self.old.names }
+        ensures fewer { result ≡ true → btree_map_len self.new.names < btree_map_len self.old.names }
     {
         self.sessions.drop_pair(row.session.0, row.id.0);
-        self.names.swap_remove(&row.name).is_some()
+        self.names.remove(&row.name).is_some()
     }
 }

@@ -6,8 +6,8 @@ use native.Mathlib.Decide.{dec_le}
 use lib.ListN.{get_elem?}
 use Rattle.atomic_table.specs.Table.{State, Me, step, keeps, stepped, Allows, Splits, Joins, Final, Seen}
 use Rattle.atomic_table.proofs.Lists.{set_else}
-use Rattle.be_tally.specs.Tallied.{Tallied}
-use Rattle.be_tally.proofs.Tallies.{total_at, total_below, keeps_step, keeps_split, keeps_join, whole}
+use Rattle.be_shared_sums.specs.Tallied.{Tallied}
+use Rattle.be_shared_sums.proofs.Tallies.{total_at, total_below, keeps_step, keeps_split, keeps_join, whole}
 use Rattle.be_door.specs.declared.views.Drawer.{Drawer}
 use Rattle.be_door.specs.Drawn.{drawer, draws, drawn, FitsDrawer, Drawn, Draws}
 

@@ -1,7 +1,7 @@
 -- The rule of drawn numbers, and what its steps tell.
 use Rattle.std.specs.Prelude.{◌≡◌, ℕ, ◌+◌, ◌-◌, ◌<◌, ◌≤◌, Bool, true, false, min, length, slice_index}
 use Rattle.atomic_table.specs.Table.{State, Me, Step}
-use Rattle.be_tally.specs.Tallied.{Tallied}
+use Rattle.be_shared_sums.specs.Tallied.{Tallied}
 use Rattle.be_door.specs.declared.views.Drawer.{Drawer}
 
 abbrev pub drawer : ℕ → ℕ → ℕ → ℕ → Drawer

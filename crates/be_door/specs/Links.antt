@@ -12,6 +12,7 @@ pub record IsUnused (link : LinkState) : Type 0 where
   pub no_write_failed : link.sink.faults ≡ 0
   pub none_refused : link.sink.refusals ≡ 0
   pub none_held : IfSome link.sink.held (λ held. held ≡ [])
+  pub none_kept_back : link.sink.kept_back ≡ 0
 
 -- nothing passed yet
 abbrev pub no_numbers : Meter

@@ -2,7 +2,7 @@
 
 ghost use Rattle.std.specs.Prelude.{◌≡◌, refl};
 ghost use Rattle.be_base.specs.Counts.{raised};
-ghost use Rattle.be_io.specs.Outside.{source_state, link_state};
+ghost use Rattle.be_io.specs.Outside.{source_state, sink_state, link_state};
 ghost use Rattle.be_door.specs.Links.{IsUnused, no_numbers};
 
 use be_io::{Failed, Link, Sink, SinkFault, Source};
@@ -81,7 +81,7 @@ impl<L: Link> Source for Metered<L> {
     ghost read_faults = { λ m. m.meter.read_faults };
 
     ghost kept_by_read = { λ m. record (L.kept_by_read m.link) {
-      sink = record { held = L.held m.link; faults = m.meter.write_faults; refusals = L.refusals m.link };
+      sink = record (sink_state L.Sink m.link) { faults = m.meter.write_faults };
     } };
 
     fn read(&mut self, buf: &mut [u8]) -> Result<usize, Failed> {
@@ -101,6 +101,8 @@ impl<L: Link> Sink for Metered<L> {
 
     ghost refusals = { λ m. L.refusals m.link };
 
+    ghost kept_back = { λ m. L.kept_back m.link };
+
     ghost kept_by_write = { λ m. record {
       source = record (source_state L.Source m.link) { faults = m.meter.read_faults; taken = m.meter.taken };
       references = (L.kept_by_read m.link).references;
@@ -112,6 +114,14 @@ impl<L: Link> Sink for Metered<L> {
             self.meter.add_write_fault();
         }
         written
+    }
+
+    fn flush(&mut self) -> Result<(), SinkFault> {
+        let flushed = self.link.flush();
+        if flushed == Err(SinkFault::Failed) {
+            self.meter.add_write_fault();
+        }
+        flushed
     }
 }
 

@@ -8,7 +8,8 @@ use be_io::{Failed, Link, Sink, SinkFault, Source};
 use std::io::{Read, Write};
 use std::net::{Net, OpenStream};
 
-/// A connection of the system. Each read and each write is one call of the system, and what is written is sent at once.
+/// A connection of the system. Each read and each write is one call of the system, and what is written is sent at once. A
+/// door gives it out with a buffer before it.
 #[derive(Drop)]
 pub struct TcpLink<R: Net> {
     stream: R::Stream,
@@ -37,7 +38,7 @@ impl<R: Net> Source for TcpLink<R> {
 
     ghost kept_by_read = { λ l. record {
       whole = None;
-      sink = record { held = None; faults = l.meter.write_faults; refusals = 0 };
+      sink = record { held = None; faults = l.meter.write_faults; refusals = 0; kept_back = 0 };
       references = [];
     } };
 
@@ -63,6 +64,8 @@ impl<R: Net> Sink for TcpLink<R> {
     // it asks for no memory, and so never answers that memory was wanting
     ghost refusals = { λ _. 0 };
 
+    ghost kept_back = { λ _. 0 };
+
     ghost kept_by_write = { λ l. record {
       source = record { left = None; faults = l.meter.read_faults; taken = l.meter.taken; whole = None };
       references = [];
@@ -76,6 +79,10 @@ impl<R: Net> Sink for TcpLink<R> {
                 Err(SinkFault::Failed)
             }
         }
+    }
+
+    fn flush(&mut self) -> Result<(), SinkFault> {
+        Ok(())
     }
 }
 

@@ -1,5 +1,5 @@
 -- Events that are built place by place.
-use Rattle.std.proofs.Common.{◌≡◌, ℕ, ℤ, zero, suc, ◌+◌, ◌<◌, ltb, ◌&&◌, Bool, true, List, [], ◌∷◌, ◌++◌, Option, Some, None, add-one, refl, sym, ap, ◌∙◌, arith}
+use Rattle.std.proofs.Common.{◌≡◌, ℕ, ℤ, zero, suc, ◌+◌, ◌<◌, ltb, ◌&&◌, Bool, true, List, [], ◌∷◌, ◌++◌, Option, Some, None, refl, ap, ◌∙◌, arith}
 use Rattle.std.specs.List.{list_all}
 use Rattle.std.specs.Option.{option_map_or}
 use Rattle.std.proofs.lemmas.Bool.{and_from, and_parts}
@@ -50,10 +50,6 @@ rise_one n a (b ∷ rest) first h below more =
     let parts = and_parts (ltb a.0 b.0) (attrs_rise (b ∷ rest)) h in
     and_from (ltb a.0 b.0) (attrs_rise (b ∷ rest ++ numbered n ∷ [])) parts.0 (more below parts.1)
 
-tail_rises : (a : AttrNo) (rest : List AttrNo) → attrs_rise (a ∷ rest) ≡ true → attrs_rise rest ≡ true
-tail_rises a [] h = refl
-tail_rises a (b ∷ rest) h = (and_parts (ltb a.0 b.0) (attrs_rise (b ∷ rest)) h).1
-
 -- rising attributes below n, with n
 rise_last : (n : ℕ) (attrs : List AttrNo) → all_below n attrs ≡ true → attrs_rise attrs ≡ true → attrs_rise (attrs ++ numbered n ∷ []) ≡ true
 rise_last n [] below h = refl
@@ -76,13 +72,6 @@ by_place-rises (suc n) values =
 pub next_rises : (n : ℕ) (values : ℕ → Option (List ℤ)) (event : Assignments) → event ≡ by_place n values → attrs_rise (attrs_of event ++ numbered n ∷ []) ≡ true
 next_rises n values event e =
     ap (λ (x : Assignments). attrs_rise (attrs_of x ++ numbered n ∷ [])) e ∙ rise_last n (attrs_of (by_place n values)) (by_place-below n values) (by_place-rises n values)
-
--- the next place, with and without values
-pub by_place-some : (n : ℕ) (values : ℕ → Option (List ℤ)) (vs : List ℤ) (event new : Assignments) → values n ≡ Some vs → event ≡ by_place n values → new ≡ event ++ (numbered n, vs) ∷ [] → new ≡ by_place (n + 1) values
-by_place-some n values vs event new is e put = put ∙ ap (λ x. x ++ (numbered n, vs) ∷ []) e ∙ sym (rw add-one (rw is refl))
-
-pub by_place-none : (n : ℕ) (values : ℕ → Option (List ℤ)) (event : Assignments) → values n ≡ None → event ≡ by_place n values → event ≡ by_place (n + 1) values
-by_place-none n values event is e = e ∙ sym (rw add-one (rw is refl))
 
 -- places with the same values
 pub by_place-same : (n : ℕ) (f g : ℕ → Option (List ℤ)) → ((place : ℕ) → place < n → f place ≡ g place) → by_place n f ≡ by_place n g

@@ -1,5 +1,5 @@
 -- A fault of an event names attributes of the schema.
-use Rattle.std.proofs.Common.{◌≡◌, ℕ, ◌<◌, Bool, true, false, cond, List, [], ◌∷◌, ◌++◌, length, find, Option, Some, None, option_map, option_and_then, Result, Ok, Err, IfErr, refl, subst, is_some}
+use Rattle.std.proofs.Common.{◌≡◌, ℕ, ◌<◌, Bool, true, false, cond, List, [], ◌∷◌, ◌++◌, length, find, Option, Some, None, option_map, option_and_then, Err, refl, subst, is_some}
 use Rattle.std.specs.List.{cons_option}
 use Rattle.std.specs.Option.{option_or}
 use Rattle.be_base.specs.Text.{Text}
@@ -88,7 +88,3 @@ known_read s text Bad r = tt
 known_read s text (Attr name) r = tt
 known_read s text (Many count) r = tt
 known_read s text NoMemory r = tt
-
-pub known_answer : (s : Attributes) (text : Text) (result : Result Assignments EventFault) → Reads result (event s text) → IfErr result (IsKnown s)
-known_answer s text (Ok e) r = tt
-known_answer s text (Err fault) r = known_read s text fault r

@@ -1,11 +1,10 @@
 -- What a scan of a text says of the event that it is.
-use Rattle.std.proofs.Common.{◌≡◌, ℕ, ℤ, zero, suc, ◌≤◌, ◌==◌, Bool, true, false, cond, List, [], ◌∷◌, length, get_or, Option, Some, None, option_map, option_and_then, IfOk, IfErr, Result, Ok, Err, codes, refl, sym, ap, ◌∙◌, arith, if◌then◌else◌}
+use Rattle.std.proofs.Common.{◌≡◌, ℕ, ℤ, zero, suc, ◌≤◌, ◌==◌, Bool, true, false, cond, List, [], ◌∷◌, length, get_or, Option, Some, None, option_map, option_and_then, Result, Ok, Err, codes, refl, sym, ap, ◌∙◌, arith, if◌then◌else◌}
 use Rattle.std.specs.List.{cons_option}
 use Rattle.std.specs.Option.{option_or}
 use Rattle.std.proofs.lemmas.Bool.{eqb-true}
 use Rattle.be_base.specs.Text.{Text, same_text}
 use Rattle.be_base.specs.Tokens.{Lexeme, word, tokens}
-use Rattle.be_base.specs.Readers.{Read}
 use Rattle.be_base.specs.declared.names.AttrNo.{AttrNo}
 use Rattle.be_model.specs.Matching.{Assignments, values_of}
 use Rattle.be_model.specs.declared.schemas.Attribute.{Attribute}
@@ -13,14 +12,13 @@ use Rattle.be_model.specs.Schemas.{Attributes, numbered, attribute_named, attrib
 use Rattle.be_model.specs.SetTexts.{has_outside, meant_values}
 use Rattle.be_model.specs.Lies.{item_lies, event_lies}
 use Rattle.be_model.proofs.SetsLie.{meant_lies, attribute_is_there}
-use Rattle.be_event.specs.Grammar.{WrittenItem, words_of, read_item, items_of, written}
-use Rattle.be_event.specs.Events.{unknown_attr, outside_domain, stands_twice, large_set, assigned, assignment, assignments, by_place, by_attribute, fault_in, judged, meaning, event, event_of, empty_event, Reads, IsKnown}
+use Rattle.be_event.specs.Grammar.{WrittenItem, words_of, items_of, written}
+use Rattle.be_event.specs.Events.{unknown_attr, outside_domain, stands_twice, large_set, assigned, assignment, assignments, by_place, by_attribute, fault_in, judged, meaning, event, event_of, empty_event, Reads}
 use Rattle.be_event.specs.Scan.{items_in, meant, Holds, AreFine, is_some_item, Scanned, Judges}
 use Rattle.be_event.specs.declared.events.EventFault.{EventFault}
 use Rattle.be_event.specs.declared.events.EventFault.TheVariants.{Bad, Attr, Dom, Twice, Many, NoMemory}
 use Rattle.be_event.specs.declared.found.Found.{Found}
 use Rattle.be_event.specs.declared.items.Source.{Source}
-use Rattle.be_event.proofs.Scans.{items_by_first}
 use Rattle.be_event.proofs.Built.{by_place-same, by_place-lies}
 
 one_word_has_no_item : (w : Text) → items_of (word w ∷ []) ≡ None
@@ -38,27 +36,6 @@ written_in : (o : Option (List Lexeme)) (items : List WrittenItem) → items_in 
 written_in None items h some = absurd (cc)
 written_in (Some ts) items h some = some_written ts items h some
 
-no_item : (items : List WrittenItem) → is_some_item items ≡ false → items ≡ []
-no_item [] h = refl
-no_item (item ∷ items) h = absurd (cc)
-
-filled : (item : WrittenItem) (o : Option (List WrittenItem)) → option_map (λ items. item ∷ items) o ≡ Some [] → ⊥
-filled item None h = cc
-filled item (Some items) h = cc
-
-item_then_some : (o : Read WrittenItem) → option_and_then (λ (r : WrittenItem × List Lexeme). option_map (λ items. r.0 ∷ items) (items_of r.1)) o ≡ Some [] → ⊥
-item_then_some None h = cc
-item_then_some (Some r) h = filled r.0 (items_of r.1) h
-
--- only where there is no token there is no item
-nothing_written : (ts : List Lexeme) → items_of ts ≡ Some [] → written ts ≡ None
-nothing_written [] h = refl
-nothing_written (t ∷ ts) h = absurd (item_then_some (read_item (t ∷ ts)) (sym (items_by_first t ts) ∙ h))
-
-nothing_in : (o : Option (List Lexeme)) → items_in o ≡ Some [] → option_and_then written o ≡ None
-nothing_in None h = absurd (cc)
-nothing_in (Some ts) h = nothing_written ts h
-
 nothing_at : (n : ℕ) → by_place n (λ place. None) ≡ []
 nothing_at zero = refl
 nothing_at (suc n) = nothing_at n
@@ -75,16 +52,6 @@ reads_empty s (Some (word w ∷ [])) h = dash s (same_text w (codes "-"))
 reads_empty s (Some (t ∷ [])) h = ap (meaning s) h
 reads_empty s (Some (word w ∷ u ∷ ts)) h = ap (meaning s) h
 reads_empty s (Some (t ∷ u ∷ ts)) h = ap (meaning s) h
-
-dash_lies : (s : Attributes) (b : Bool) → IfOk {E = EventFault} (if b then Ok [] else Err Bad) (λ (e : Assignments). event_lies s e ≡ true) × IfErr {T = Assignments} (if b then Ok [] else Err Bad) (IsKnown s)
-dash_lies s true = (refl, tt)
-dash_lies s false = (tt, tt)
-
-pub empty_lies : (s : Attributes) (o : Option (List Lexeme)) → IfOk (empty_event o) (λ (e : Assignments). event_lies s e ≡ true) × IfErr (empty_event o) (IsKnown s)
-empty_lies s None = (tt, tt)
-empty_lies s (Some []) = (tt, tt)
-empty_lies s (Some (word w ∷ [])) = dash_lies s (same_text w (codes "-"))
-empty_lies s (Some (t ∷ ts)) = (tt, tt)
 
 -- a set of an item lies in the schema
 lies_step : (s : Attributes) (o : Option (AttrNo × List ℤ)) (items : Assignments) (a : AttrNo) (vs : List ℤ) → ((i : AttrNo × List ℤ) → o ≡ Some i → item_lies s i ≡ true)
@@ -116,12 +83,6 @@ values_lie : (s : Attributes) (items : List WrittenItem) (a : AttrNo) (vs : List
 values_lie s [] a vs h = absurd (cc)
 values_lie s (item ∷ items) a vs h =
     lies_step s (assignment s item) (assignments s items) a vs (λ i e. assignment_lies s item (attribute_named s item.attr) i refl e) (values_lie s items a vs) h
-
--- blanks alone
-pub read_blank : (s : Attributes) (text : Text) (found : Found) → Scanned s text (Some found) → found.faults.some ≡ false → event s text ≡ Err Bad
-read_blank s text found k none =
-    let items = no_item k.0 (sym k.2.some ∙ none) in
-    ap (meaning s) (nothing_in (tokens text) (k.1 ∙ ap (λ (x : List WrittenItem). Some x) items))
 
 event_is : (s : Attributes) (text : Text) (found : Found) (k : Scanned s text (Some found)) → found.faults.some ≡ true → event s text ≡ meaning s (Some k.0)
 event_is s text found k some = ap (meaning s) (written_in (tokens text) k.0 k.1 (sym k.2.some ∙ some))

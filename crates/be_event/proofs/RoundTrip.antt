@@ -187,9 +187,6 @@ kept : (o : Option (List ℤ)) (i : AttrNo × List ℤ) (items : Assignments) (n
 kept None i items n = refl
 kept (Some v) i items n = refl
 
-record Compared (a n : ℕ) : Type 0 where
-  below : (a < n) ⊎ ((a ≡ n) ⊎ (n < a))
-
 compared : (a n : ℕ) → (a < n) ⊎ ((a ≡ n) ⊎ (n < a))
 compared a n = grind (arith, nat_tests)
 

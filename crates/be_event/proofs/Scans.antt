@@ -1,13 +1,12 @@
 -- The items of a text, one after the other, as far as they were scanned.
 use Rattle.std.proofs.Common.{◌≡◌, ℕ, zero, suc, ◌≤◌, ◌<◌, Bool, true, List, [], ◌∷◌, ◌++◌, length, Option, Some, None, option_map, option_and_then, refl, sym, ap, subst, ◌∙◌, arith, append_assoc, if◌then◌else◌}
-use Rattle.std.proofs.lemmas.List.{append-nil}
 use Rattle.be_base.specs.Text.{Text}
 use Rattle.be_base.specs.Tokens.{Lexeme, word, equal, tokens, put_token}
 use Rattle.be_base.specs.Readers.{Read}
 use Rattle.be_base.specs.declared.names.AttrNo.{AttrNo}
 use Rattle.be_model.specs.Schemas.{Attributes}
 use Rattle.be_event.specs.Grammar.{WrittenValues, WrittenItem, item_of, is_attr, read_given, with_attr, read_item, read_items, items_of}
-use Rattle.be_event.specs.Scan.{items_in, IsGiven, GivenBefore, Finds, Scanned}
+use Rattle.be_event.specs.Scan.{items_in, IsGiven, GivenBefore, Finds}
 use Rattle.be_event.specs.declared.found.Found.{Found}
 use Rattle.be_event.specs.declared.items.Given.{Given}
 use Rattle.be_event.proofs.Grammar.{item_shortens}
@@ -43,11 +42,6 @@ by_count (suc n) t ts e =
 pub items_by_first : (t : Lexeme) (ts : List Lexeme)
     → items_of (t ∷ ts) ≡ option_and_then (λ (r : WrittenItem × List Lexeme). option_map (λ items. r.0 ∷ items) (items_of r.1)) (read_item (t ∷ ts))
 items_by_first t ts = by_count (length (t ∷ ts)) t ts refl
-
--- tokens that begin with no item
-pub no_item_first : (t : Lexeme) (ts : List Lexeme) → read_item (t ∷ ts) ≡ None → items_of (t ∷ ts) ≡ None
-no_item_first t ts h =
-    items_by_first t ts ∙ ap (option_and_then (λ (r : WrittenItem × List Lexeme). option_map (λ items. r.0 ∷ items) (items_of r.1))) h
 
 given_then : (name : Text) (o : Read WrittenValues)
     → option_and_then (λ (r : WrittenItem × List Lexeme). option_map (λ items. r.0 ∷ items) (items_of r.1)) (option_map (with_attr name) o)
@@ -117,18 +111,3 @@ pub passed_more : (s : Attributes) (text left rest after name : Text) (attr : Op
     → Passed s text (tokens left) found → Passed s text (tokens after) found'
 passed_more s text left rest after name attr given found found' named e g note p =
     by_rest s text name (tokens left) (tokens rest) (tokens after) attr given found found' named e g note p
-
-pub passed_all : (s : Attributes) (text : Text) (o : Option (List Lexeme)) (found : Found) → o ≡ Some [] → Passed s text o found → Scanned s text (Some found)
-passed_all s text o found e p =
-    let k = subst (λ t. Passed s text t found) e p in
-    (k.0, k.1 ∙ ap (λ x. Some x) (append-nil k.0), k.2)
-
-pub passed_bad : (s : Attributes) (text : Text) (o : Option (List Lexeme)) (found : Found) → items_in o ≡ None → Passed s text o found → Scanned s text None
-passed_bad s text None found e p = p
-passed_bad s text (Some ts) found e p = p.1 ∙ ap (option_map (λ (more : List WrittenItem). p.0 ++ more)) e
-
--- neither a value nor a set stands behind an attribute's `=`
-pub none_given : (name : Text) (left o : Option (List Lexeme)) → is_attr name ≡ true → left ≡ put_token (word name) (put_token equal o) → option_and_then read_given o ≡ None → items_in left ≡ None
-none_given name left None named e g = ap items_in e
-none_given name left (Some ts) named e g =
-    ap items_in e ∙ items_by_given name ts named ∙ ap (option_and_then (λ (r : WrittenValues × List Lexeme). option_map (λ items. item_of name r.0 ∷ items) (items_of r.1))) g

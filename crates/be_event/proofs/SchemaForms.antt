@@ -1,8 +1,8 @@
 -- What the lines of a schema's text declare.
-use Rattle.std.proofs.Common.{◌≡◌, ◌⊎◌, inl, inr, ℕ, ℤ, ◌+◌, ◌<◌, ◌≤◌, leb, ltb, Bool, true, false, cond, not, ◌&&◌, ◌||◌, List, [], ◌∷◌, ◌++◌, length, is_some, Option, Some, None, option_map, option_and_then, Ok, Err, codes, refl, sym, ap, subst, ◌∙◌, arith}
+use Rattle.std.proofs.Common.{◌≡◌, ℕ, ℤ, ◌+◌, ◌<◌, ◌≤◌, leb, ltb, Bool, true, false, cond, not, ◌&&◌, ◌||◌, List, [], ◌∷◌, ◌++◌, length, is_some, Option, Some, None, option_map, option_and_then, Ok, Err, codes, refl, sym, ap, subst, ◌∙◌, arith}
 use Rattle.std.specs.List.{list_all, list_any}
 use Rattle.std.proofs.lemmas.Bool.Decides.{nat_tests}
-use Rattle.std.proofs.lemmas.List.{map-append, length-map}
+use Rattle.std.proofs.lemmas.List.{length-map}
 use Rattle.be_base.specs.Text.{Text, same_text, name_of}
 use Rattle.be_base.specs.Numbers.{int_of}
 use Rattle.be_base.proofs.NameForms.{IsName-from_name_of}
@@ -18,7 +18,7 @@ use Rattle.be_event.specs.SchemaTexts.{words, is_remark, means_nothing, int_doma
 use Rattle.be_event.specs.Declarations.{names_declared, declared_on, flaws_of, flawed, JudgesWords}
 use Rattle.be_event.specs.declared.schema_texts.Declared.{Declared}
 use Rattle.be_event.specs.declared.schema_texts.Flaws.{Flaws}
-use Rattle.be_event.specs.declared.schema_texts.Judged.TheVariants.{Nothing, Fault, Declares}
+use Rattle.be_event.specs.declared.schema_texts.Judged.TheVariants.{Declares}
 use Rattle.be_event.specs.declared.schema_texts.SchemaFault.TheVariants.{Line}
 use Rattle.be_event.specs.declared.schema_texts.SchemaKind.{SchemaKind}
 use Rattle.be_event.specs.declared.schema_texts.SchemaKind.TheVariants.{Form}
@@ -38,15 +38,6 @@ sym_by false w ws h = absurd (cc)
 pub sym_some : (ws : List Text) → is_some (sym_domain ws) ≡ true → sym_domain ws ≡ Some (Sym ws)
 sym_some [] h = absurd (cc)
 sym_some (w ∷ ws) h = sym_by (list_all (λ x. is_name (name_of x)) (w ∷ ws)) w ws h
-
-all_by : (b : Bool) (w : Text) (ws : List Text) → is_some (cond b (Some (Sym (w ∷ ws))) None) ≡ true → b ≡ true
-all_by true w ws h = refl
-all_by false w ws h = absurd (cc)
-
--- and each is a name
-pub sym_names : (ws : List Text) → is_some (sym_domain ws) ≡ true → list_all (λ x. is_name (name_of x)) ws ≡ true
-sym_names [] h = absurd (cc)
-sym_names (w ∷ ws) h = all_by (list_all (λ x. is_name (name_of x)) (w ∷ ws)) w ws h
 
 -- what is declared, where the domain has flaws to be looked at
 flawed_domain : (o : Option Domain) (f : Flaws) → Some f ≡ option_map flaws_of o → (d : Domain) × (o ≡ Some d) × (f ≡ flaws_of d)
@@ -107,10 +98,6 @@ pub says_attribute : (names ws ws' rest : List Text) (kind text name : Text) (f 
 says_attribute names ws ws' rest kind text name f a b r n h k =
     judged_is names ws ws' rest kind text name f None a b r n h k
 
--- one line after another
-pub schema_from-nothing : (n : ℕ) (s : Attributes) (line : Text) (lines : List Text) → means_nothing (words line) ≡ true → schema_from n s (line ∷ lines) ≡ schema_from (n + 1) s lines
-schema_from-nothing n s line lines h = rw h refl
-
 pub schema_from-fault : (n : ℕ) (s : Attributes) (line : Text) (lines : List Text) (kind : SchemaKind) → means_nothing (words line) ≡ false → declaration (names_of_attributes s) (words line) ≡ Err kind
     → schema_from n s (line ∷ lines) ≡ Err (Line n kind)
 schema_from-fault n s line lines kind h k = rw (h, k) refl
@@ -169,10 +156,6 @@ on_by : (b : Bool) (o : Option Attribute) (a : Attribute) → Some a ≡ cond b 
 on_by true o a h = absurd (cc)
 on_by false o a h = (refl, sym h)
 
-off_by : (b : Bool) (o : Option Attribute) → None ≡ cond b None o → (b ≡ true) ⊎ (o ≡ None)
-off_by true o h = inl refl
-off_by false o h = inr (sym h)
-
 has_bounds : (o : Option ℤ) (lo : ℤ) (d : Domain) → option_map (λ h. Int lo h) o ≡ Some d → HasWord d
 has_bounds None lo d h = absurd (cc)
 has_bounds (Some hi) lo d h = let is : Int lo hi ≡ d = cc in subst (λ (x : Domain). HasWord x) is tt
@@ -223,45 +206,6 @@ pub record Scanned (text rest : Text) (number : ℕ) (names : List Text) : Type 
   pub same : schema_from (number + 1) attributes (file_lines rest) ≡ schema_of text
   pub within : number + length rest ≤ length text
 
-pub scanned_nothing : (text : Text) (names : List Text) → names ≡ [] → Scanned text text 0 names
-scanned_nothing text names e = record { attributes = []; named = e; same = refl; within = omega arith }
-
--- the next line means nothing
-pub scanned_remark : (text rest line after : Text) (number : ℕ) (names : List Text) → file_lines rest ≡ line ∷ file_lines after → length after < length rest
-    → JudgesWords names (words line) Nothing → Scanned text rest number names → Scanned text after (number + 1) names
-scanned_remark text rest line after number names lines shorter j p =
-    record {
-      attributes = p.attributes;
-      named = p.named;
-      same = sym (schema_from-nothing (number + 1) p.attributes line (file_lines after) j) ∙ ap (λ ls. schema_from (number + 1) p.attributes ls) (sym lines) ∙ p.same;
-      within = let w = p.within in omega arith;
-    }
-
--- the next line declares an attribute
-pub scanned_declares : (text rest line after : Text) (number : ℕ) (names new : List Text) (name : Text) → file_lines rest ≡ line ∷ file_lines after → length after < length rest
-    → JudgesWords names (words line) (Declares name) → new ≡ names ++ name ∷ [] → Scanned text rest number names → Scanned text after (number + 1) new
-scanned_declares text rest line after number names new name lines shorter j put p =
-    let a = j.1 in
-    record {
-      attributes = p.attributes ++ a ∷ [];
-      named = put ∙ ap (λ n. names ++ n ∷ []) (sym j.3) ∙ ap (λ ns. ns ++ a.name ∷ []) p.named ∙ sym (map-append (λ (x : Attribute). x.name) p.attributes (a ∷ []));
-      same = sym (schema_from-declares (number + 1) p.attributes line (file_lines after) a j.0 (ap (λ ns. declaration ns (words line)) (sym p.named) ∙ j.2))
-          ∙ ap (λ ls. schema_from (number + 1) p.attributes ls) (sym lines) ∙ p.same;
-      within = let w = p.within in omega arith;
-    }
-
--- the next line has a fault
-pub scanned_fault : (text rest line after : Text) (number : ℕ) (names : List Text) (kind : SchemaKind) → file_lines rest ≡ line ∷ file_lines after
-    → JudgesWords names (words line) (Fault kind) → Scanned text rest number names → schema_of text ≡ Err (Line (number + 1) kind)
-scanned_fault text rest line after number names kind lines j p =
-    sym p.same ∙ ap (λ ls. schema_from (number + 1) p.attributes ls) lines
-    ∙ schema_from-fault (number + 1) p.attributes line (file_lines after) kind j.0 (ap (λ ns. declaration ns (words line)) (sym p.named) ∙ j.1)
-
--- no line is left
-pub scanned_all : (text rest : Text) (number : ℕ) (names : List Text) → length rest ≡ 0 → Scanned text rest number names → (s : Attributes) × (schema_of text ≡ Ok s)
-scanned_all text [] number names e p = (p.attributes, sym p.same)
-scanned_all text (b ∷ rest) number names e p = absurd (omega arith)
-
 room_by : (names : List Text) (o : Option Attribute) (a : Attribute) → judge names o ≡ Ok a → length names < 256
 room_by names None a h = absurd (cc)
 room_by names (Some x) a h =
@@ -279,25 +223,8 @@ pub record Put (text rest : Text) (s : Attributes) : Type 0 where
   pub form : IsSchema s
   pub same : schema_from number s (file_lines rest) ≡ schema_of text
 
-pub put_nothing : (text : Text) (s : Attributes) → s ≡ [] → Put text text s
-put_nothing text s e = record { number = 1; form = rw e (record { few = omega arith; differ = refl; unreserved = refl; domains = refl }); same = rw e refl }
-
 next_is : (text rest line after : Text) (s whole : Attributes) (p : Put text rest s) → file_lines rest ≡ line ∷ file_lines after → schema_of text ≡ Ok whole → schema_from p.number s (line ∷ file_lines after) ≡ Ok whole
 next_is text rest line after s whole p lines ok = ap (λ ls. schema_from p.number s ls) (sym lines) ∙ p.same ∙ ok
-
-form_fault : (n : ℕ) (s whole : Attributes) (line : Text) (lines : List Text) (b : Bool) → means_nothing (words line) ≡ b → declared (words line) ≡ None → schema_from n s (line ∷ lines) ≡ Ok whole → b ≡ true
-form_fault n s whole line lines true e d h = refl
-form_fault n s whole line lines false e d h = let k = schema_from-fault n s line lines Form e (rw d refl) in absurd (cc)
-
--- the next line declares nothing, and so it means nothing
-pub put_none : (text rest line after : Text) (s whole : Attributes) → file_lines rest ≡ line ∷ file_lines after → schema_of text ≡ Ok whole → None ≡ declared_on (words line) → Put text rest s → Put text after s
-put_none text rest line after s whole lines ok d p =
-    let nothing : means_nothing (words line) ≡ true =
-    elim (off_by (means_nothing (words line)) (declared (words line)) d) [
-      | inl e ↦ e
-      | inr e ↦ form_fault p.number s whole line (file_lines after) (means_nothing (words line)) refl e (next_is text rest line after s whole p lines ok)
-    ] in
-    record { number = p.number + 1; form = p.form; same = sym (schema_from-nothing p.number s line (file_lines after) nothing) ∙ ap (λ ls. schema_from p.number s ls) (sym lines) ∙ p.same }
 
 unflawed : (n : ℕ) (s whole : Attributes) (line : Text) (lines : List Text) (a : Attribute) (o : Option SchemaKind) → means_nothing (words line) ≡ false → declared (words line) ≡ Some a
     → kind_of (names_of_attributes s) a ≡ o → schema_from n s (line ∷ lines) ≡ Ok whole → o ≡ None
@@ -329,7 +256,3 @@ put_next text rest line after s whole new a lines ok d put p =
           ∙ sym (schema_from-declares p.number s line (file_lines after) a k.0 (ap (judge (names_of_attributes s)) k.1 ∙ ap (judged a) none))
           ∙ ap (λ ls. schema_from p.number s ls) (sym lines) ∙ p.same;
     }
-
-pub put_all : (text rest : Text) (s : Attributes) → length rest ≡ 0 → Put text rest s → schema_of text ≡ Ok s
-put_all text [] s e p = sym p.same
-put_all text (b ∷ rest) s e p = absurd (omega arith)

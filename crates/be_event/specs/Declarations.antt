@@ -1,5 +1,6 @@
 -- What a scan of a schema's text keeps of its lines.
 use Rattle.std.specs.Prelude.{◌≡◌, ◌||◌, true, false, List, length, map, codes, Option, None, nat_le, Result, Ok, Err, if◌then◌else◌}
+use Rattle.be_base.specs.declared.limits.TheConstants.{ATTRIBUTES}
 use Rattle.be_base.specs.Text.{Text}
 use Rattle.be_model.specs.declared.schemas.Attribute.{Attribute}
 use Rattle.be_model.specs.declared.schemas.Domain.{Domain}
@@ -48,4 +49,4 @@ flaws_of d = record { repeats = repeats d; range = is_out_of_range d; many = has
 -- the first kind of fault of an attribute of this name that comes after these names, where its domain has these flaws
 abbrev pub flawed : List Text → Text → Flaws → Option SchemaKind
 flawed names name f =
-    first_kind (is_among_texts name reserved_words) (is_among_texts name names || f.repeats) f.range (nat_le 256 (length names) || f.many)
+    first_kind (is_among_texts name reserved_words) (is_among_texts name names || f.repeats) f.range (nat_le ATTRIBUTES (length names) || f.many)

@@ -3,6 +3,7 @@ use Rattle.std.specs.Prelude.{◌≡◌, ℕ, ℤ, ◌<◌, Bool, true, false, L
 use Rattle.be_base.specs.Text.{Text}
 use Rattle.be_base.specs.Tokens.{Lexeme, word, equal, tokens, put_token}
 use Rattle.be_base.specs.Sets.{read_values}
+use Rattle.be_base.specs.declared.limits.TheConstants.{ATTRIBUTES}
 use Rattle.be_base.specs.declared.names.AttrNo.{AttrNo}
 use Rattle.be_model.specs.Matching.{Assignments, values_of}
 use Rattle.be_model.specs.Schemas.{Attributes, numbered}
@@ -63,10 +64,10 @@ HoldsAt s a source values = (is_some source ≡ is_some values) × (meant s a so
 -- the table has a source for the set of each attribute
 abbrev pub Holds : Attributes → List (Option Source) → Assignments → Type 0
 Holds s sources items =
-    (length sources ≡ 256) × ((place : ℕ) → place < 256 → HoldsAt s (numbered place) (get_or sources place None) (values_of items (numbered place)))
+    (length sources ≡ ATTRIBUTES) × ((place : ℕ) → place < ATTRIBUTES → HoldsAt s (numbered place) (get_or sources place None) (values_of items (numbered place)))
 
 abbrev pub AreFine : Attributes → List (Option Source) → Type 0
-AreFine s sources = (place : ℕ) → place < 256 → IsFine s (numbered place) (get_or sources place None)
+AreFine s sources = (place : ℕ) → place < ATTRIBUTES → IsFine s (numbered place) (get_or sources place None)
 
 abbrev pub is_some_item : List WrittenItem → Bool
 is_some_item [] = false

@@ -1,6 +1,7 @@
 -- The texts of schemas.
 use Rattle.std.specs.Prelude.{◌≡◌, ℕ, ◌+◌, ◌==◌, ◌||◌, not, Bool, true, false, List, [], ◌∷◌, ◌++◌, length, nat_le, nat_lt, Option, Some, None, option_map, option_and_then, Result, Ok, Err, codes, if◌then◌else◌}
 use Rattle.std.specs.List.{list_all}
+use Rattle.be_base.specs.declared.limits.TheConstants.{ATTRIBUTES, SYMBOLS}
 use Rattle.be_base.specs.Text.{Text, same_text, name_of}
 use Rattle.be_base.specs.Numbers.{int_of}
 use Rattle.be_base.specs.Tokens.{is_blank}
@@ -70,7 +71,7 @@ is_out_of_range (Sym words) = false
 
 abbrev pub has_many : Domain → Bool
 has_many (Int lo hi) = false
-has_many (Sym words) = nat_lt 4096 (length words)
+has_many (Sym words) = nat_lt SYMBOLS (length words)
 
 -- the first kind that applies
 abbrev pub first_kind : Bool → Bool → Bool → Bool → Option SchemaKind
@@ -84,7 +85,7 @@ first_kind reserved twice range many =
 abbrev pub kind_of : List Text → Attribute → Option SchemaKind
 kind_of names a =
     first_kind (is_among_texts a.name reserved_words) (is_among_texts a.name names || repeats a.domain) (is_out_of_range a.domain)
-    (nat_le 256 (length names) || has_many a.domain)
+    (nat_le ATTRIBUTES (length names) || has_many a.domain)
 
 abbrev pub judged : Attribute → Option SchemaKind → Result Attribute SchemaKind
 judged a None = Ok a

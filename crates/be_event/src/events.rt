@@ -1,6 +1,7 @@
 //! The texts of events.
 
 ghost use Rattle.std.specs.Prelude.{◌≡◌, ◌≤◌, None, true, length, get_or, IfOk, IfErr};
+ghost use Rattle.be_base.specs.declared.limits.TheConstants.{ATTRIBUTES};
 ghost use Rattle.be_base.specs.Tokens.{tokens};
 ghost use Rattle.be_model.specs.Lies.{event_lies};
 ghost use Rattle.be_model.specs.Schemas.{numbered};
@@ -9,7 +10,7 @@ ghost use Rattle.be_event.specs.Scan.{meant, AreFine, Scanned};
 
 use crate::found::Found;
 use crate::items::{NextItem, Source, next_item, read_source, scan_given};
-use be_base::{AttrNo, Name, NoMemory, is_end, read_word};
+use be_base::{ATTRIBUTES, AttrNo, Name, NoMemory, is_end, read_word};
 use be_model::{Event, Schema};
 use std::alloc::Global;
 use thiserror::Error;
@@ -96,11 +97,11 @@ fn scan<'a>(schema: &Schema, text: &'a [u8]) -> Option<Found<'a>>
 fn build(
     alloc: Global,
     schema: &Schema,
-    sources: [Option<Source<'_>>; 256],
+    sources: [Option<Source<'_>>; ATTRIBUTES],
 ) -> Result<Event, NoMemory>
     requires { AreFine schema.now sources }
     ensures built { IfOk result (λ e. e ≡ by_place (length schema.now) (λ place. meant schema.now (numbered place) (get_or sources.entry place None))) }
-    ensures few { length schema.now ≤ 256 }
+    ensures few { length schema.now ≤ ATTRIBUTES }
 {
     let mut event = Event::make(alloc);
     for place in 0..schema.count() {

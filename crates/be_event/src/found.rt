@@ -1,13 +1,14 @@
 //! What is found among the items of an event's text.
 
 ghost use Rattle.std.specs.Prelude.{◌≡◌, ◌∷◌, ◌++◌, ◌<◌, [], List, Some, None, nat_lt, if◌then◌else◌, IfSome};
+ghost use Rattle.be_base.specs.declared.limits.TheConstants.{ATTRIBUTES};
 ghost use Rattle.be_model.specs.Schemas.{Attributes, attribute_named};
 ghost use Rattle.be_event.specs.Grammar.{WrittenValues, WrittenItem, item_of};
 ghost use Rattle.be_event.specs.Scan.{IsGiven, Finds, Judges};
 
 use crate::events::EventFault;
 use crate::items::{Given, Source};
-use be_base::{AttrNo, Name, SET_VALUES};
+use be_base::{ATTRIBUTES, AttrNo, Name, SET_VALUES};
 use be_model::Met;
 
 /// The first fault of each kind among the items of a text, and whether there is an item.
@@ -45,7 +46,7 @@ impl Faults {
 #[derive(Drop)]
 pub struct Found<'a> {
     pub faults: Faults,
-    pub sources: [Option<Source<'a>>; 256],
+    pub sources: [Option<Source<'a>>; ATTRIBUTES],
 }
 
 impl<'a> Found<'a> {
@@ -61,13 +62,13 @@ impl<'a> Found<'a> {
         };
         Found {
             faults,
-            sources: [None; 256],
+            sources: [None; ATTRIBUTES],
         }
     }
 
     /// Adds what one more item says.
     pub fn note(&mut self, name: &Name, attr: Option<AttrNo>, given: Given<'a>)
-        requires { IfSome attr (λ a. a.0 < 256) }
+        requires { IfSome attr (λ a. a.0 < ATTRIBUTES) }
         ensures { (s : Attributes) (items : List WrittenItem) (values : WrittenValues) → attr ≡ attribute_named s name.now → IsGiven s attr given.entry values → Finds s items self.old → Finds s (items ++ item_of name.now values ∷ []) self.new }
     {
         self.faults.some = true;

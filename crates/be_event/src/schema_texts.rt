@@ -91,7 +91,7 @@ struct LineFault {
 fn check(alloc: Global, text: &[u8]) -> Result<(), LineFault>
     ensures { Checks result (schema_of text.now) }
 {
-    let mut names = ArrayVec::<Declared, 256>::new();
+    let mut names = ArrayVec::<Declared, ATTRIBUTES>::new();
     let mut number = 0;
     let mut rest = text;
     while !rest.is_empty() {

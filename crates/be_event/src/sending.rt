@@ -3,6 +3,8 @@
 ghost use Rattle.std.specs.Prelude.{◌≡◌, ◌≢◌, ◌+◌, ◌≤◌, ◌∷◌, ◌++◌, [], true, length, IfSome};
 ghost use Rattle.std.specs.Option.{IfNone};
 ghost use Rattle.be_base.specs.Sets.{set_text};
+ghost use Rattle.be_base.specs.declared.limits.TheConstants.{NAME_BYTES};
+ghost use Rattle.be_event.specs.declared.sending.TheConstants.{PIECE_BYTES};
 ghost use Rattle.be_io.specs.Outside.{sink_state};
 ghost use Rattle.be_io.specs.Sink.{Wrote};
 ghost use Rattle.be_model.specs.Domains.{bounds_of, is_within};
@@ -12,13 +14,15 @@ ghost use Rattle.be_model.specs.Texts.{value_text};
 ghost use Rattle.be_event.specs.Writing.{item_text, event_text};
 
 use arrayvec::ArrayString;
-use be_base::AttrNo;
+use be_base::{AttrNo, NAME_BYTES};
 use be_io::{Sink, SinkFault, write_all};
 use be_model::{Domain, Event, Schema, Values};
 use itoa::Buffer;
 
-// A mark, a name, `=` and a value.
-type Piece = ArrayString<130>;
+// A mark, a name, `=` and a value, which takes no more than a name.
+const PIECE_BYTES: usize = 2 * NAME_BYTES + 2;
+
+type Piece = ArrayString<PIECE_BYTES>;
 
 /// Writes the canonical text of an event, an item at a time. It takes no memory but what the sink takes.
 pub fn send_event<K: Sink>(schema: &Schema, e: &Event, sink: &mut K) -> Result<(), SinkFault>
@@ -118,7 +122,7 @@ fn send_value<K: Sink>(
 
 // Puts the text of a value last.
 fn push_value(piece: &mut Piece, domain: &Domain, value: &i64)
-    requires room { length piece.old.bytes + 64 ≤ 130 }
+    requires room { length piece.old.bytes + NAME_BYTES ≤ PIECE_BYTES }
     requires valid { is_domain domain.now ≡ true }
     requires within { is_within (bounds_of domain.now) value.now ≡ true }
     ensures { piece.new.bytes ≡ piece.old.bytes ++ value_text domain.now value.now }
@@ -137,7 +141,7 @@ fn push_value(piece: &mut Piece, domain: &Domain, value: &i64)
 }
 
 fn push(piece: &mut Piece, text: &str)
-    requires { length piece.old.bytes + length text.now ≤ 130 }
+    requires { length piece.old.bytes + length text.now ≤ PIECE_BYTES }
     ensures { piece.new.bytes ≡ piece.old.bytes ++ text.now }
 {
     match piece.try_push_str(text) {

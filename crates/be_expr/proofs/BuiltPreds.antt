@@ -39,12 +39,6 @@ fine_parts s p h =
     let inner = and_parts (not (is_unknown s p)) (not (is_outside s p)) outer.0 in
     (not-true (is_unknown s p) inner.0, not-true (is_outside s p) inner.1, not-true (has_many_values p) outer.1)
 
-pub fine_has_attr : (s : Attributes) (name : Text) (o : Read WrittenOp) → FinePred s (option_map (with_attr name) o) → None ≡ attribute_named s name → ⊥
-fine_has_attr s name None h none = h
-fine_has_attr s name (Some r) h none =
-    let unknown = (fine_parts s (record { attr = name; op = r.0 }) h).0 in
-    let differ : true ≡ false = ap (λ (o : Option AttrNo). is_none o) none ∙ unknown in cc
-
 few_values : (n : ℕ) → nat_lt 64 n ≡ false → n ≤ 64
 few_values n h = grind (arith, nat_tests)
 

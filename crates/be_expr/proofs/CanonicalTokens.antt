@@ -36,7 +36,7 @@ set_lexed : (value : ℤ → Text) (vs : List ℤ) (rest : Text) (us : List Lexe
 set_lexed value [] rest us form words e = absurd (omega (arith, form.some))
 set_lexed value (v ∷ vs) rest us form words e = set_then value v vs rest us words e
 
-IsWord-in : IsWord (codes "in")
+pub IsWord-in : IsWord (codes "in")
 unfolding is_word_byte
 IsWord-in = record { some = omega arith; bytes = refl }
 
@@ -44,11 +44,11 @@ IsWord-not : IsWord (codes "not")
 unfolding is_word_byte
 IsWord-not = record { some = omega arith; bytes = refl }
 
-IsWord-and : IsWord (codes "and")
+pub IsWord-and : IsWord (codes "and")
 unfolding is_word_byte
 IsWord-and = record { some = omega arith; bytes = refl }
 
-IsWord-between : IsWord (codes "between")
+pub IsWord-between : IsWord (codes "between")
 unfolding is_word_byte
 IsWord-between = record { some = omega arith; bytes = refl }
 

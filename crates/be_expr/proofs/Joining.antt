@@ -115,9 +115,6 @@ pub preds_step : {X Y : Type 0} (f : WrittenPred → X) (h : List WrittenPred �
 preds_step f h k o x left end each p q =
     ap (option_map h) (preds_by_first o) ∙ mapped_then f h k (option_and_then read_pred o) x left end each p q
 
-pub no_preds_step : (o : Option (List Lexeme)) → option_and_then read_pred o ≡ None → option_and_then preds_in o ≡ None
-no_preds_step o h = preds_by_first o ∙ ap (option_and_then preds_then) h
-
 -- the predicates that are left
 abbrev pub preds_left : Option (Bor Text) → Option (List WrittenPred)
 preds_left None = Some []

@@ -1,5 +1,5 @@
 -- A fault of a condition names attributes of the schema.
-use Rattle.std.proofs.Common.{◌≡◌, List, length, map, find, subst, IfErr, Option, Some, None, option_map, option_and_then, Result, Ok, Err, refl, cond, true, false, Bool, nat_lt}
+use Rattle.std.proofs.Common.{◌≡◌, List, length, map, find, subst, Option, Some, None, option_map, option_and_then, Err, refl, cond, true, false, Bool, nat_lt}
 use Rattle.std.specs.Option.{option_or}
 use Rattle.be_base.specs.Text.{Text}
 use Rattle.be_base.specs.Tokens.{tokens}
@@ -59,7 +59,3 @@ known_read s text Bad r = tt
 known_read s text (Attr name) r = tt
 known_read s text (Many count) r = tt
 known_read s text NoMemory r = tt
-
-pub known_answer : (s : Attributes) (text : Text) (result : Result (List Pred) ExprFault) → Reads result (expression s text) → IfErr result (IsKnown s)
-known_answer s text (Ok conj) r = tt
-known_answer s text (Err fault) r = known_read s text fault r

@@ -39,10 +39,6 @@ pub word_first : (s : Attributes) (w : Text) (o rest : Option (List Lexeme)) →
     → named s o ≡ naming (name_of w) (condition s rest)
 word_first s w o rest h = by_words s o ∙ ap (λ (r : Read Text). option_map_or (word_then s) r (Err Bad)) (sym h) ∙ behind s w rest
 
--- a text that begins with no word
-pub no_word_first : (s : Attributes) (o : Option (List Lexeme)) → None ≡ option_and_then read_word o → named s o ≡ Err Bad
-no_word_first s o h = by_words s o ∙ ap (λ (r : Read Text). option_map_or (word_then s) r (Err Bad)) (sym h)
-
 -- a fault of the condition is the fault, where the name has none
 pub fault_behind : (name : Text) (fault : ExprFault) (read : Result (List Pred) ExprFault) → Reads (Err fault) read → Reads (Err fault) (naming (Ok name) read)
 fault_behind name Bad read e = ap (naming (Ok name)) e

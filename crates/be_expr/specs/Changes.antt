@@ -1,9 +1,10 @@
 -- The texts of changes.
-use Rattle.std.specs.Prelude.{◌≡◌, ℕ, ◌<◌, ◌^◌, Bool, true, false, List, [], ◌∷◌, ◌++◌, Option, Some, Result, Ok, Err, codes, decimal, if◌then◌else◌}
+use Rattle.std.specs.Prelude.{◌≡◌, ℕ, ◌<◌, Bool, true, false, List, [], ◌∷◌, ◌++◌, Option, Some, Result, Ok, Err, codes, decimal, if◌then◌else◌}
 use Rattle.std.specs.Option.{option_map_or}
 use Rattle.be_base.specs.Text.{Text, same_text, name_of, IsName}
 use Rattle.be_base.specs.Numbers.{count_of}
 use Rattle.be_base.specs.Tokens.{Lexeme, word, tokens}
+use Rattle.be_base.specs.declared.limits.TheConstants.{COUNT_END}
 use Rattle.be_base.specs.declared.names.NameFault.{NameFault}
 use Rattle.be_model.specs.declared.preds.Pred.{Pred}
 use Rattle.be_model.specs.declared.changes.Row.{Row}
@@ -80,11 +81,11 @@ is_row_free (subscribed k n row) = false
 is_row_free (unsubscribed k n name) = true
 is_row_free (left k n) = true
 
--- the numbers are below 2^63, and a Sub's row has this id and is of the change's session
+-- the numbers are below the end of counts, and a Sub's row has this id and is of the change's session
 abbrev pub IsNumbered : ℕ → Entry → Type 0
-IsNumbered id (subscribed k n row) = (k < 2 ^ 63) × (n < 2 ^ 63) × (row.id.0 ≡ id) × (row.session.0 ≡ k)
-IsNumbered id (unsubscribed k n name) = (k < 2 ^ 63) × (n < 2 ^ 63)
-IsNumbered id (left k n) = (k < 2 ^ 63) × (n < 2 ^ 63)
+IsNumbered id (subscribed k n row) = (k < COUNT_END) × (n < COUNT_END) × (row.id.0 ≡ id) × (row.session.0 ≡ k)
+IsNumbered id (unsubscribed k n name) = (k < COUNT_END) × (n < COUNT_END)
+IsNumbered id (left k n) = (k < COUNT_END) × (n < COUNT_END)
 
 -- the text is read as the change, where the numbers allow it
 abbrev pub IsReadBack : Attributes → Text → Entry → Type 0

@@ -23,10 +23,6 @@ abbrev pub joined_faults : Faults → Faults → Faults
 joined_faults f g =
     record { preds = f.preds + g.preds; unknown = option_or f.unknown g.unknown; outside = option_or f.outside g.outside; large_set = option_or f.large_set g.large_set }
 
--- what is met in predicates, behind what was met before
-abbrev pub faults_behind : Attributes → Faults → List WrittenPred → Faults
-faults_behind s f ps = joined_faults f (faults_of s ps)
-
 -- the first fault in the order of the kinds
 abbrev pub first_fault : Faults → Option ExprFault
 first_fault f =

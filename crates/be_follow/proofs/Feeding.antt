@@ -21,7 +21,7 @@ use Rattle.be_change.specs.Sound.{all_lie}
 use Rattle.be_change.proofs.Forms.{formed_front, formed_last}
 use Rattle.be_expr.specs.Changes.{change_text, change_of, change, IsNumbered}
 use Rattle.be_expr.proofs.ChangesRead.{changes_are_read}
-use Rattle.be_transcript.specs.Replies.{number, part, change_lines, with_lf}
+use Rattle.be_protocol.specs.Replies.{number, part, change_lines, with_lf}
 use Rattle.be_follow.specs.declared.faults.FeedKind.{FeedKind}
 use Rattle.be_follow.specs.Feeds.{PlainSaid, at, faulty, placed, change_at, said_of, said, Fed, none_fed, TakesLineAt, TakesLine, TakesLines, after_line, Chooses, Judges}
 use Rattle.be_follow.specs.Laws.{IsWritten, FeedsAreFollowed}

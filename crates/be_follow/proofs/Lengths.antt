@@ -33,7 +33,7 @@ use Rattle.be_model.proofs.InSchema.{attribute_of_range, IsSound, range_sound, r
 use Rattle.be_change.specs.History.{Entry, subscribed, unsubscribed, left}
 use Rattle.be_expr.specs.Changes.{head_text, change_text}
 use Rattle.be_expr.specs.Writing.{op_text, pred_text, expr_text}
-use Rattle.be_transcript.specs.Replies.{number, part}
+use Rattle.be_protocol.specs.Replies.{number, part}
 use Rattle.be_follow.specs.Laws.{IsWritten}
 
 -- the words of a domain are short, and there is none past them

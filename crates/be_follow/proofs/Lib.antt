@@ -8,4 +8,5 @@ pub mod Lengths
 pub mod Feeding
 pub mod OneMeaning
 pub mod Answering
+pub mod Handing
 pub mod Reading

@@ -8,23 +8,23 @@ use Rattle.be_model.specs.Lies.{event_lies}
 use Rattle.be_model.specs.Schemas.{Attributes}
 use Rattle.be_change.specs.History.{Entry, hits}
 use Rattle.be_change.specs.Requests.{Request, refused, publish, quit, bad, long, Reply, refusal, hit, bye, no_memory}
-use Rattle.be_transcript.specs.Readings.{Command, command, commanded_by, of_event, alone}
-use Rattle.be_session.specs.Requests.{plain_refusal, TakesMemory}
+use Rattle.be_protocol.specs.Readings.{Command, command, commanded_by, of_event, alone}
+use Rattle.be_protocol.specs.Requests.{plain_refusal, TakesMemory}
 use Rattle.be_follow.specs.declared.asking.Ask.{Ask}
 use Rattle.be_follow.specs.declared.asking.Ask.TheVariants.{Publish, Quit, Refused}
 
 -- the commands of a follower's lines
-abbrev pub commands : List Command
-commands = command (codes "PUB") (of_event publish) ∷ command (codes "QUIT") (λ s. alone quit) ∷ []
+abbrev pub follower_commands : List Command
+follower_commands = command (codes "PUB") (of_event publish) ∷ command (codes "QUIT") (λ s. alone quit) ∷ []
 
 -- every other line asks nothing, whatever else is wrong with it
-abbrev pub request_of : Attributes → Option (List Lexeme) → Request
-request_of s (Some (word name ∷ ts)) = commanded_by commands s name (Some ts)
-request_of s _ = refused bad
+abbrev pub asked_of : Attributes → Option (List Lexeme) → Request
+asked_of s (Some (word name ∷ ts)) = commanded_by follower_commands s name (Some ts)
+asked_of s _ = refused bad
 
 -- what a line asks for, or why it asks nothing
 abbrev pub asked : Attributes → line.TextLine → Request
-asked s (line.text bytes) = request_of s (tokens bytes)
+asked s (line.text bytes) = asked_of s (tokens bytes)
 asked s (line.long n) = refused long
 
 -- the reply that a request is due over a list. Memory may be wanting to a PUB

@@ -9,7 +9,7 @@ use Rattle.be_model.specs.Texts.{NamesAreNames}
 use Rattle.be_change.specs.History.{Entry, session_of, serial_of, IsWellFormed}
 use Rattle.be_change.specs.Sound.{all_lie}
 use Rattle.be_expr.specs.Changes.{IsFormed}
-use Rattle.be_transcript.specs.Replies.{change_lines, with_lf}
+use Rattle.be_protocol.specs.Replies.{change_lines, with_lf}
 use Rattle.be_follow.specs.Feeds.{Fed, Means}
 
 -- a leader's feed: for each place of its list, in order, a line with the change there

@@ -1,11 +1,11 @@
 -- The promise of a follower that answers events: for each way in which it may end, what was read, what was written and which call
 -- failed. The list stays as it is.
-use Rattle.std.specs.Prelude.{◌≡◌, ℕ, ◌++◌, ◌⊎◌, Bool, true, List, [], ◌∷◌, map, All, Option, Some, None, Result, Ok, Err, if◌then◌else◌}
+use Rattle.std.specs.Prelude.{◌≡◌, ℕ, ◌≤◌, ◌++◌, ◌⊎◌, Bool, true, false, List, [], ◌∷◌, map, All, Option, Some, None, Result, Ok, Err, if◌then◌else◌}
 use Rattle.std.specs.List.{list_all}
 use Rattle.be_base.specs.Counts.{HasRisen, HasRisenBy, RisesBy}
 use Rattle.be_base.specs.declared.limits.TheConstants.{SOURCE_BYTES}
 use Rattle.be_io.specs.Told.{WhereTold, HoldsMore}
-use Rattle.be_io.specs.Lines.{TextLine}
+use Rattle.be_io.specs.Lines.{TextLine, has_lf}
 use Rattle.be_io.specs.Outside.{LinkState}
 use Rattle.be_io.specs.Reader.{ReaderState}
 use Rattle.be_io.specs.Sink.{SinkState}
@@ -13,16 +13,16 @@ use Rattle.be_io.specs.declared.faults.SinkFault.{SinkFault}
 use Rattle.be_model.specs.Schemas.{Attributes}
 use Rattle.be_change.specs.History.{Entry}
 use Rattle.be_change.specs.Requests.{Request, Reply, Exchange}
-use Rattle.be_transcript.specs.LinesRead.{ReadToEnd, ReadInPart, ReadFirstLines}
-use Rattle.be_transcript.specs.Replies.{reply_text}
-use Rattle.be_transcript.specs.Transcript.{requests, texts, IsCutText}
+use Rattle.be_protocol.specs.LinesRead.{ReadToEnd, ReadInPart, ReadFirstLines}
+use Rattle.be_protocol.specs.Replies.{reply_text}
+use Rattle.be_protocol.specs.Transcript.{requests, texts, OutputBroke}
 use Rattle.be_board.specs.Local.{opened_state}
 use Rattle.be_session.specs.declared.serve.SessionEnd.{SessionEnd}
 use Rattle.be_session.specs.declared.serve.SessionEnd.TheVariants as ends
 use Rattle.be_session.specs.Ends.{end_after, goes_on, EndsBy, end_of}
 use Rattle.be_session.specs.Served.{NoReadFailed, NoWriteFailed}
 use Rattle.be_session.specs.Steps.{RefusedOnce, WroteInPart}
-use Rattle.be_session.specs.Turns.{TurnState, IsReading, TookLine, TookEnd, TookBreak, LinesGoOn}
+use Rattle.be_session.specs.Turns.{TurnState, IsReading, TookLine, TookEnd, TookBreak, is_due, HandsOn, LinesGoOn}
 use Rattle.be_follow.specs.Asked.{asked, IsDue}
 
 -- each exchange has the reply that is due
@@ -38,7 +38,7 @@ pub record Replied (s : Attributes) (h : List Entry) (lines : List TextLine) (en
   pub written : HoldsMore before.held after.held (texts s exchanges)
   pub ends : EndsBy end exchanges
 
--- each of these lines was answered, but that the reply to the last one is cut short
+-- each of these lines was answered, but that the output broke off at the reply to the last one
 pub record RepliedInPart (s : Attributes) (h : List Entry) (lines : List TextLine) (before after : SinkState) : Type 0 where
   pub exchanges : List Exchange
   pub last : Exchange
@@ -46,7 +46,7 @@ pub record RepliedInPart (s : Attributes) (h : List Entry) (lines : List TextLin
   pub due : AreDue h (exchanges ++ last ∷ [])
   pub out : List ℕ
   pub written : HoldsMore before.held after.held out
-  pub cut : IsCutText s exchanges last out
+  pub broke : OutputBroke s exchanges last out after.kept_back
   pub ends : EndsBy None exchanges
 
 -- the input was read to its end, and all its lines were answered
@@ -72,12 +72,12 @@ pub record BrokeOff (s : Attributes) (h : List Entry) (before after : LinkState)
   pub writes : NoWriteFailed before after
   pub replied : Replied s h lines None before.sink after.sink
 
--- the output broke off within a reply, and no later line has one
+-- the output broke off at a reply, and no later line has one
 pub record CutShort (s : Attributes) (h : List Entry) (before after : LinkState) : Type 0 where
   pub lines : List TextLine
   pub read : ReadFirstLines before.source.left after.source.left lines
   pub reads : NoReadFailed before after
-  -- a write failed, or memory was wanting to one, and not both
+  -- a write or a flush failed, or memory was wanting to one, and not both
   pub once : RefusedOnce before.sink after.sink
   pub replied : RepliedInPart s h lines before.sink after.sink
 
@@ -141,6 +141,17 @@ Turned s h before after (Some ends.Spent) =
     TookBreak before after × (after.link.sink ≡ before.link.sink) × (after.reader.taken ≡ SOURCE_BYTES) × (after.link.source.faults ≡ before.link.source.faults)
 Turned s h before after end = AnswersLine s h before after end
 
+-- how the reading goes on where an answer ended it so or didn't, once what was written was handed on or the sink refused that
+abbrev pub end_then : Option SessionEnd → Result (Unit {0}) SinkFault → Option SessionEnd
+end_then end (Ok _) = end
+end_then end (Err fault) = Some (end_of fault)
+
+-- a turn did this, and what was written was handed on where that was due
+abbrev pub TurnTaken : Attributes → List Entry → TurnState → TurnState → Option SessionEnd → Type 0
+TurnTaken s h before after end =
+    (written : SinkState) × (answered : Option SessionEnd) × Turned s h before (record after { link = record after.link { sink = written } }) answered
+    × (handed : Result (Unit {0}) SinkFault) × HandsOn (is_due (has_lf after.reader.unread) answered) written after.link.sink handed × (end ≡ end_then answered handed)
+
 -- these lines were answered, and the reading goes on
 pub record IsServing (s : Attributes) (h : List Entry) (link : LinkState) (now : TurnState) : Type 0 where
   pub ps : List Exchange
@@ -151,6 +162,7 @@ pub record IsServing (s : Attributes) (h : List Entry) (link : LinkState) (now :
   pub written : HoldsMore link.sink.held now.link.sink.held (texts s ps)
   pub quiet : now.link.sink.faults ≡ link.sink.faults
   pub unrefused : now.link.sink.refusals ≡ link.sink.refusals
+  pub handed : has_lf now.reader.unread ≡ false → now.link.sink.kept_back ≤ link.sink.kept_back
   pub sound : now.link.source.faults ≡ link.source.faults
   pub taken : RisesBy now.reader.taken link.source.taken now.link.source.taken
   pub reads : IsReading now.reader

@@ -3,12 +3,12 @@
 ghost use Rattle.std.specs.Prelude.{◌≡◌, true, IfOk};
 ghost use Rattle.be_io.specs.Lines as line;
 ghost use Rattle.be_model.specs.Schemas.{Attributes};
-ghost use Rattle.be_session.specs.Requests.{plain_request, request_lies};
+ghost use Rattle.be_protocol.specs.Requests.{plain_request, request_lies};
 ghost use Rattle.be_follow.specs.Asked.{asked, answered, is_command, plain_ask, ask_lies, ReadsAsk};
 
 use be_base::{NoMemory, Scan, Token, next_token};
 use be_model::{Event, Schema};
-use be_session::{Refusal, Request, read_line};
+use be_protocol::{Refusal, Request, read_line};
 use std::alloc::Global;
 
 /// What a line asks for.

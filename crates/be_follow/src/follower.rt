@@ -1,9 +1,8 @@
 //! A follower: what it has taken of a feed, and what it finds.
 
-ghost use Rattle.std.specs.Prelude.{◌≡◌, ℕ, ◌<◌, ◌≤◌, ◌++◌, ◌∷◌, [], List, length, take, true, false, None, Some, IfSome, IfOk, IfErr, OnOk, OnErr, MatchOption};
+ghost use Rattle.std.specs.Prelude.{◌≡◌, ℕ, ◌<◌, ◌≤◌, ◌++◌, ◌∷◌, [], List, length, take, true, false, None, Some, IfSome, IfOk, IfErr, OnOk, OnErr};
 ghost use Rattle.std.specs.Arc.{arc_value};
 ghost use Rattle.be_io.specs.Lines.{has_lf};
-ghost use Rattle.be_io.specs.Reading.{IsFirstLf};
 ghost use Rattle.be_model.specs.ByIds.{rows_of};
 ghost use Rattle.be_model.specs.Lies.{event_lies};
 ghost use Rattle.be_change.specs.History.{hit_rows, IsWellFormed};
@@ -16,8 +15,8 @@ use crate::followed::Followed;
 use crate::saying::{Said, read_said};
 use be_base::{FEED_LINE_BYTES, NoMemory};
 use be_index::Index;
+use be_io::first_lf;
 use be_model::{Event, Found, Schema};
-use memchr::memchr;
 use std::alloc::Global;
 use std::marker::Model;
 use std::sync::Arc;
@@ -203,11 +202,4 @@ impl<I: Index> Follower<I> {
     {
         self.followed.find(event, found)
     }
-}
-
-// The place of the first LF.
-fn first_lf(bytes: &[u8]) -> Option<usize>
-    ensures { MatchOption result (has_lf bytes.now ≡ false) (IsFirstLf bytes.now) }
-{
-    memchr(b'\n', bytes)
 }

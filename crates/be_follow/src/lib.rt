@@ -1,8 +1,8 @@
 //! A follower: a copy of a leader's list of changes, made from the leader's own words for it.
 //!
 //! Its contract: the list is what all bytes that were taken mean, however they were cut, up to the first faulty line; over a
-//! leader's bytes it is a beginning of the leader's list. It stands on be_copy, on be_expr for the texts of changes and on
-//! be_session for replies. Begin with specs/Feeds, then specs/Followers.
+//! leader's bytes it is a beginning of the leader's list. It stands on be_copy, on be_expr for the texts of changes, on
+//! be_protocol for lines and replies and on be_session for how a session ends. Begin with specs/Feeds, then specs/Followers.
 #![tactic(auto)]
 
 mod asking;

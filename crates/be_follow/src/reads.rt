@@ -9,12 +9,12 @@ ghost use Rattle.be_model.specs.Matching.{Assignments};
 ghost use Rattle.be_model.specs.Schemas.{Attributes};
 ghost use Rattle.be_change.specs.History.{Entry, hits};
 ghost use Rattle.be_change.specs.Requests as asked;
-ghost use Rattle.be_transcript.specs.Replies.{reply_text};
-ghost use Rattle.be_session.specs.Requests.{plain_refusal};
+ghost use Rattle.be_protocol.specs.Replies.{reply_text};
+ghost use Rattle.be_protocol.specs.Requests.{plain_refusal};
 ghost use Rattle.be_session.specs.Served.{TakesWithin, KeepsBeside};
 ghost use Rattle.be_session.specs.Turns.{IsReading, TakesAlike};
 ghost use Rattle.be_follow.specs.Asked.{asked, plain_ask, ask_lies};
-ghost use Rattle.be_follow.specs.Reads.{ReadsEnd, Answers, Turned, reading_over, end_by};
+ghost use Rattle.be_follow.specs.Reads.{ReadsEnd, Answers, Turned, TurnTaken, reading_over, end_by, end_then};
 
 use crate::asking::{Ask, read_ask};
 use crate::follower::Follower;
@@ -22,7 +22,8 @@ use be_base::{LINE_BYTES, NoMemory};
 use be_index::Index;
 use be_io::{Line, LineFault, LineReader, Link, Sink, SinkFault, write_all};
 use be_model::{Event, Found};
-use be_session::{Naming, Refusal, SessionEnd, Short, say, write_names};
+use be_protocol::{Naming, Refusal, Short, say, write_names};
+use be_session::{SessionEnd, hand_over};
 use std::alloc::Global;
 
 // What was found for a reply, and its text.
@@ -71,10 +72,41 @@ pub fn serve_reads<I: Index, L: Link>(follower: &Follower<I>, link: &mut L) -> S
     };
     let mut room = Room::make(follower.alloc());
     'lines: loop {
-        match take_turn(follower, &mut room, &mut reader, link) {
+        match next_turn(follower, &mut room, &mut reader, link) {
             None => {}
             Some(end) => return end,
         }
+    }
+}
+
+// Takes a turn and hands on what was written, before a read that may wait and at the end.
+fn next_turn<I: Index, L: Link>(
+    follower: &Follower<I>,
+    room: &mut Room,
+    reader: &mut LineReader,
+    link: &mut L,
+) -> Option<SessionEnd>
+    requires reads { IsReading reader.old }
+    ensures turned { TurnTaken follower.now.schema follower.now.fed.list
+        (reading_over reader.old (link_state L.Source L.Sink link.old))
+        (reading_over reader.new (link_state L.Source L.Sink link.new)) result }
+    ensures alike { TakesAlike reader.old.taken reader.new.taken (L.taken link.old) (L.taken link.new) }
+    ensures progress { result ≡ None → length reader.new.unread + reader.old.taken < length reader.old.unread + reader.new.taken }
+    ensures bound { reader.new.taken ≤ SOURCE_BYTES }
+    ensures beside { KeepsBeside (L.kept_by_read link.old) (L.kept_by_read link.new) }
+{
+    let answered = take_turn(follower, room, reader, link);
+    end_then(answered, hand_over(link, reader.has_line(), answered))
+}
+
+// How an answer ends the reading, once what was written was handed on.
+fn end_then(answered: Option<SessionEnd>, handed: Result<(), SinkFault>) -> Option<SessionEnd>
+    ensures { result ≡ end_then answered handed }
+{
+    match handed {
+        Ok(()) => answered,
+        Err(SinkFault::Failed) => Some(SessionEnd::WriteFault),
+        Err(SinkFault::NoMemory) => Some(SessionEnd::NoMemory),
     }
 }
 

@@ -1,17 +1,15 @@
 -- Each step of counted words keeps the rule.
 use Rattle.std.proofs.Common.{◌≡◌, ◌⊎◌, inl, inr, ⊎_elim, ℕ, zero, suc, ◌+◌, ◌-◌, ◌*◌, ◌%◌, ◌^◌, ◌≤◌, ◌<◌, List, [], ◌∷◌, length, replicate, sym, refl, ap, ◌∙◌, subst, arith, length-set}
-use Rattle.std.proofs.lemmas.List.{length-replicate}
-use mathlib.Core.Option.{none, some, some-injective, some-ne-none}
-use lib.ListN.{get_elem?}
-use Rattle.atomic_table.specs.Table.{Me, step, keeps, stepped, opening, Allows, Splits, Joins, Final, Seen}
+use mathlib.Core.Option.{none}
+use Rattle.atomic_table.specs.Table.{Me, step, keeps, stepped, Allows, Splits, Joins, Final, Seen}
 use Rattle.atomic_table.proofs.Lists.{set_else}
 use Rattle.be_base.specs.declared.limits.TheConstants.{SEATS}
-use Rattle.be_tally.specs.Tallied.{Tallied}
-use Rattle.be_tally.proofs.Tallies.{total_within, keeps_step, keeps_split, keeps_join, whole}
+use Rattle.be_shared_sums.specs.Tallied.{Tallied}
+use Rattle.be_shared_sums.proofs.Tallies.{total_within, keeps_step, keeps_split, keeps_join, whole}
 use Rattle.be_heat.specs.declared.limits.TheConstants.{SEAT_ADDS}
 use Rattle.be_heat.specs.declared.rule.Size.{Size}
 use Rattle.be_heat.specs.Seats.{at_word, one_more}
-use Rattle.be_heat.specs.Counted.{HandState, hand, first_hand, FitsHand, Counted, HasAdded, one_less, one_share, added, both}
+use Rattle.be_heat.specs.Counted.{HandState, hand, FitsHand, Counted, HasAdded, one_less, one_share, added, both}
 
 pub at_added : (xs ys : List ℕ) (word : ℕ) → at_word (added xs ys) word ≡ at_word xs word + at_word ys word
 at_added [] ys word = omega arith
@@ -47,17 +45,6 @@ one_or (suc i) (suc k) = ⊎_elim (λ t. inl (ap suc t.0, t.1)) (λ t. inr t) (o
 module _ (size : Size) where
   abbrev Sums : (ℕ → ℕ) → List HandState → Type 0
   Sums sums views = Tallied (λ (v : HandState). v.share) (λ word v. at_word v.counts word) FitsHand size.seats sums views
-
-  -- a table whose words are all 0
-  pub opens : (words : List ℕ) → words ≡ replicate size.words 0 → Counted size (opening words [] (first_hand size))
-  opens words is = record {
-    long = ap length is ∙ length-replicate size.words 0;
-    tallied = record { shared = omega arith; summed = λ word. omega (arith, ap (λ l. at_word l word) is); each = fits };
-  }
-    where
-      fits : (id : ℕ) (v : HandState) → get_elem? (first_hand size ∷ []) id ≡ some v → FitsHand v
-      fits zero v e word = let z = at_zeros size.words word in let s = ap (λ (u : HandState). at_word u.counts word) (some-injective _ v e) in omega arith
-      fits (suc id) v e word = absurd (some-ne-none v (sym e))
 
   -- each word stays far below its type's end
   few : (word : ℕ) (sums : ℕ → ℕ) (views : List HandState) → Sums sums views → sums word ≤ SEAT_ADDS * size.seats

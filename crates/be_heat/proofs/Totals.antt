@@ -2,7 +2,6 @@
 use Rattle.std.proofs.Common.{◌≡◌, ◌≢◌, ℕ, zero, suc, ◌+◌, ◌<◌, List, [], ◌∷◌, ◌++◌, map, set, length, replicate, sym, refl, ap, ◌∙◌, subst, arith, get_or-set_same, lt_of_not-le}
 use Rattle.std.specs.List.{range_with_len}
 use Rattle.std.proofs.lemmas.List.{replicate_more}
-use Rattle.std.proofs.lemmas.List.FromFn.{get_or-map-range_with_len}
 use Rattle.std.proofs.lemmas.List.Sums.{sum_by-cons, sum_by_push}
 use mathlib.Core.Logic.{dite}
 use native.Mathlib.Decide.{ℕ_discrete}
@@ -70,7 +69,3 @@ pub are_totals : (seats : List SeatState) (words : ℕ) (found : List ℕ) → l
 are_totals seats words found long each =
     let from : (k : ℕ) → k ≡ 0 + k = λ k. omega arith in
     counted_from (total_of seats) found 0 (λ k less. each k (omega (arith, long)) ∙ ap (total_of seats) (from k)) ∙ ap (λ n. map (total_of seats) (range_with_len 0 n)) long
-
--- the total of a word, as the close gives it
-pub total_at : (seats : List SeatState) (words word : ℕ) → word < words → at_word (totals words seats) word ≡ total_of seats word
-total_at seats words word less = get_or-map-range_with_len (total_of seats) 0 words word word 0 less (omega arith)

@@ -3,7 +3,7 @@ use Rattle.std.specs.Prelude.{◌≡◌, ℕ, ◌+◌, ◌-◌, ◌*◌, ◌<◌
 use Rattle.atomic_table.specs.Table.{State, Me, Step}
 use Rattle.atomic_table.specs.Seated.{TableId}
 use Rattle.be_base.specs.declared.limits.TheConstants.{SEATS}
-use Rattle.be_tally.specs.Tallied.{Tallied}
+use Rattle.be_shared_sums.specs.Tallied.{Tallied}
 use Rattle.be_heat.specs.declared.limits.TheConstants.{SEAT_ADDS}
 use Rattle.be_heat.specs.declared.rule.Size.{Size}
 use Rattle.be_heat.specs.Seats.{at_word, one_more}

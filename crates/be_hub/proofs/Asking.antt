@@ -1,5 +1,5 @@
 -- What the desk answers, as the board of the seat's session says it.
-use Rattle.std.proofs.Common.{◌≡◌, ℕ, ◌≤◌, map, refl, sym, ap, subst, arith}
+use Rattle.std.proofs.Common.{ℕ, ◌≤◌, map, refl, sym, ap, subst, arith}
 use Rattle.be_base.specs.Counts.{last_count}
 use Rattle.be_model.specs.Schemas.{Attributes}
 use Rattle.be_change.specs.History.{IsWellFormed}

@@ -1,10 +1,10 @@
 -- All links of a door, served and closed.
-use Rattle.std.proofs.Common.{◌≡◌, ℕ, zero, suc, ◌+◌, ◌*◌, ◌/◌, ◌<◌, ◌≤◌, Bool, true, false, ◌||◌, List, [], ◌∷◌, length, map, max, fold, sum_by, Some, None, slice_get, refl, sym, ap, ◌∙◌, subst, arith}
+use Rattle.std.proofs.Common.{◌≡◌, ℕ, zero, suc, ◌+◌, ◌*◌, ◌/◌, ◌<◌, ◌≤◌, Bool, true, false, ◌||◌, List, [], ◌∷◌, ◌++◌, length, map, max, fold, sum_by, Some, None, slice_get, refl, sym, ap, ◌∙◌, subst, arith}
 use Rattle.std.specs.Prelude.{if◌then◌else◌, find}
-use Rattle.std.specs.List.{All, Any, Contains, list_any, range_with_len}
+use Rattle.std.specs.List.{All, Any, Contains, list_any, flat_map, range_with_len}
 use Rattle.std.proofs.Math.Nat.{mul-div_cancel}
-use Rattle.std.proofs.lemmas.List.{length-map}
-use Rattle.std.proofs.lemmas.List.Concat.{length-flat_map}
+use Rattle.std.proofs.lemmas.List.{length-map, nil_from_length}
+use Rattle.std.proofs.lemmas.List.Concat.{length-flat_map, flat_map-cons}
 use Rattle.std.proofs.lemmas.List.Elements.{All-cons, All-contains, All-head, All-map, All-nil, All-tail}
 use Rattle.std.proofs.lemmas.List.FromFn.{length-range_with_len}
 use Rattle.std.proofs.lemmas.List.Sums.{sum_by-cons}
@@ -12,7 +12,6 @@ use Rattle.std.proofs.lemmas.Option.{slice_get-get_or, slice_get_within}
 use Rattle.atomic_table.specs.Seated.{TableId}
 use Rattle.be_base.specs.Counts.{raised, HasRisen}
 use Rattle.be_base.specs.declared.limits.TheConstants.{SEATS}
-use Rattle.be_base.specs.declared.names.SessionNo.{SessionNo}
 use Rattle.be_io.specs.Outside.{LinkState}
 use Rattle.be_model.specs.Schemas.{Attributes}
 use Rattle.be_change.specs.History.{Entry, session_of, IsWellFormed}
@@ -27,15 +26,15 @@ use Rattle.be_session.specs.declared.serve.SessionEnd.{SessionEnd}
 use Rattle.be_session.specs.declared.serve.SessionEnd.TheVariants.{Eof, Quit, ReadFault, WriteFault, Spent, Split, NoMemory}
 use Rattle.be_hub.specs.Closing.{KeepsAll}
 use Rattle.be_hub.specs.Files.{lacks_memory, is_split_end}
-use Rattle.be_hub.specs.Links.{MayStart, session_at, IsCounted, IsOfLink, SeatVisit, LinkServed, WorkerServed}
-use Rattle.be_hub.specs.Serving.{IsLegalLink, IsKeptLink, AreApart, LinksAreServed}
+use Rattle.be_hub.specs.Links.{MayStart, session_at, IsCounted, IsOfLink, SeatVisit, WorkerServed}
+use Rattle.be_hub.specs.Serving.{IsLegalLink, ServedLink, IsServedLink, AreApart, session_and_link, told_of, AreKept, LinksAreServed}
 use Rattle.be_hub.specs.Settling.{IsUnbroken, CountsSplits}
 use Rattle.be_hub.proofs.Ends.{there, at_its_place}
-use Rattle.be_hub.proofs.Pairs.{get_map, one_at}
+use Rattle.be_hub.proofs.Pairs.{get_map, one_at, map_at}
+use Rattle.be_hub.proofs.Choices.{AreChosen, choose, maps_same, flat_maps_same, sums_alike}
 use Rattle.be_hub.proofs.LinksLegal.{legal_link}
 use Rattle.be_hub.proofs.Places.{all_from_places, any_at, at_of_all, flat_differs, flat_has, in_flat, EachDiffers}
 use Rattle.be_hub.proofs.FilesClosed.{seat_at, there_mapped}
-use Rattle.be_hub.proofs.Visits.{kept_end, kept_served, kept_session}
 
 same_number : (q i j a : ℕ) → 0 < q → a + i * q ≡ a + j * q → i ≡ j
 same_number q i j a some same =
@@ -100,6 +99,13 @@ module _ {L : Type 0} where
       some_raised a b some le = omega (arith, some, le)
   counted_in cs i c Spent at is = let r = in_most (λ (x : CountState L). x.most) cs 0 i c at in omega (arith, is, r)
 
+abbrev pair : ℕ → LinkState → ℕ × LinkState
+pair a x = (a, x)
+
+-- a visit as what was served
+abbrev pub served_link : SeatVisit → ServedLink
+served_link v = record { session = v.entered.session; link = v.link; end = v.end }
+
 module _ {L : Type 0} (told : L → LinkState) {E : Type 0} (seat_in : E → SeatState) (count_in : E → CountState L) (ends_in : E → List SessionEnd) (calls_in : E → ℕ) (s : Attributes) (boxes : List TableId) (opening : List Entry) (door : DoorState L)
     (ends : List E) (seats : List SeatState) (first : seats ≡ map (first_seat opening boxes) (range_with_len 0 (length boxes))) (count : length ends ≡ length boxes)
     (served : (i : ℕ) (seat : SeatState) (end : E) → slice_get seats i ≡ Some seat → slice_get ends i ≡ Some end → WorkerServed told s boxes door seat (seat_in end) (count_in end) (ends_in end) (calls_in end))
@@ -132,58 +138,85 @@ module _ {L : Type 0} (told : L → LinkState) {E : Type 0} (seat_in : E → Sea
       ended = All-map (λ (c : CountState L). c.ended ≡ true) count_in ends (all_from_places (λ e. (count_in e).ended ≡ true) ends (λ i e at. (served_at i e at).ended));
     }
 
-    -- the worker of a count
-    worker_of : (j : ℕ) (c : CountState L) → slice_get counts j ≡ Some c → (e : E) × (slice_get ends j ≡ Some e) × (count_in e ≡ c)
-    worker_of j c at = get_map count_in ends j c at
+    -- the links that were served at a place
+    abbrev visits_at : (j : ℕ) (e : E) → slice_get ends j ≡ Some e → List SeatVisit
+    visits_at j e at = (served_at j e at).links.visits
 
-    -- a kept link's visit, with the end of its session
-    link_of : (j : ℕ) (e : E) (k : ℕ) (x : SessionNo × L) → slice_get ends j ≡ Some e → slice_get (count_in e).kept k ≡ Some x
-        → (v : SeatVisit) × (slice_get (ends_in e) k ≡ Some v.end) × (v.link ≡ told x.1) × LinkServed s boxes x.0.0 (first_seat opening boxes j) (seat_in e) v
-    link_of j e k x at kept =
-        let l = (served_at j e at).links in
-        let first = first_seat opening boxes j in
-        let found = l.kept k x kept in (
-          found.visit,
-          kept_end told s boxes first (seat_in e) (count_in e) (ends_in e) (calls_in e) l k x kept,
-          found.link,
-          kept_served told s boxes first (seat_in e) (count_in e) (ends_in e) (calls_in e) l k x kept,
-        )
+    abbrev IsListOf : ℕ → E → List ServedLink → Type 0
+    IsListOf j e ls = (at : slice_get ends j ≡ Some e) × (ls ≡ map served_link (visits_at j e at))
 
-    -- its session is that of its place
-    session_of_link : (j : ℕ) (e : E) (k : ℕ) (x : SessionNo × L) → slice_get ends j ≡ Some e → slice_get (count_in e).kept k ≡ Some x → x.0.0 ≡ session_at (length boxes) (first_seat opening boxes j).session k
-    session_of_link j e k x at kept = kept_session told s boxes (first_seat opening boxes j) (seat_in e) (count_in e) (ends_in e) (calls_in e) (served_at j e at).links k x kept
+    lists : (lss : List (List ServedLink)) × (length lss ≡ length ends) × AreChosen IsListOf ends lss
+    lists = choose IsListOf ends (λ j e at. (map served_link (visits_at j e at), (at, refl)))
 
-    kept_apart : 0 < length boxes → AreApart told (all_kept counts)
-    kept_apart some = flat_differs (λ (c : CountState L). c.kept) (λ (x : SessionNo × L). x.0.0) (seat_of (length boxes)) counts 0 each
+    -- all links that were served, by workers and then in their order
+    abbrev all_served : List ServedLink
+    all_served = flat_map (λ (ls : List ServedLink). ls) lists.0
+
+    list_at : (j : ℕ) (e : E) → slice_get ends j ≡ Some e → (ls : List ServedLink) × (slice_get lists.0 j ≡ Some ls) × IsListOf j e ls
+    list_at j e at =
+        let found = there lists.0 j (omega (arith, slice_get_within ends j e at, lists.1)) in
+        let of = lists.2 j found.0 found.1 in
+        (found.0, found.1, subst (λ (x : E). IsListOf j x found.0) (one_at ends j of.0 e of.1 at) of.2)
+
+    -- the visit of a link in the list of a place
+    visit_in : (j : ℕ) (e : E) (ls : List ServedLink) (k : ℕ) (x : ServedLink) → (is : IsListOf j e ls) → slice_get ls k ≡ Some x
+        → (v : SeatVisit) × (slice_get (visits_at j e is.0) k ≡ Some v) × (served_link v ≡ x)
+    visit_in j e ls k x is at = get_map served_link (visits_at j e is.0) k x (subst (λ l. slice_get l k ≡ Some x) is.1 at)
+
+    session_in : (j : ℕ) (e : E) (ls : List ServedLink) (k : ℕ) (x : ServedLink) → IsListOf j e ls → slice_get ls k ≡ Some x → x.session ≡ session_at (length boxes) (first_seat opening boxes j).session k
+    session_in j e ls k x is at =
+        let v = visit_in j e ls k x is at in
+        ap (λ (l : ServedLink). l.session) (sym v.2) ∙ ((served_at j e is.0).links.served k v.0 v.1).session_is
+
+    seat_in_list : (j : ℕ) (e : E) (ls : List ServedLink) (k : ℕ) (x : ServedLink) → IsListOf j e ls → slice_get ls k ≡ Some x → seat_of (length boxes) x.session ≡ j
+    seat_in_list j e ls k x is at =
+        let v = visit_in j e ls k x is at in
+        ap (seat_of (length boxes)) (session_in j e ls k x is at) ∙ (((served_at j e is.0).links.served k v.0 v.1).seat_is ∙ seats_at j e is.0)
+
+    are_apart : 0 < length boxes → AreApart all_served
+    are_apart some = flat_differs (λ (ls : List ServedLink). ls) (λ (x : ServedLink). x.session) (seat_of (length boxes)) lists.0 0 each
       where
         from_zero : (j : ℕ) → j ≡ 0 + j
         from_zero j = omega arith
 
-        each : EachDiffers (λ (c : CountState L). c.kept) (λ (x : SessionNo × L). x.0.0) (seat_of (length boxes)) 0 counts
-        each j c at =
-            let e = worker_of j c at in (
+        each : EachDiffers (λ (ls : List ServedLink). ls) (λ (x : ServedLink). x.session) (seat_of (length boxes)) 0 lists.0
+        each j ls at =
+            let of = lists.2 j ls at in (
               (λ i k x y at_x at_y same.
-                  let here = subst (λ (d : CountState L). slice_get d.kept i ≡ Some x) (sym e.2) at_x in
-                  let there = subst (λ (d : CountState L). slice_get d.kept k ≡ Some y) (sym e.2) at_y in
-                  same_number (length boxes) i k (first_seat opening boxes j).session some (sym (session_of_link j e.0 i x e.1 here) ∙ (same ∙ session_of_link j e.0 k y e.1 there))),
-              (λ k x at_x.
-                  let here = subst (λ (d : CountState L). slice_get d.kept k ≡ Some x) (sym e.2) at_x in
-                  (link_of j e.0 k x e.1 here).3.seat_is ∙ (seats_at j e.0 e.1 ∙ from_zero j)),
+                  same_number (length boxes) i k (first_seat opening boxes j).session some (sym (session_in j of.0 ls i x of.2 at_x) ∙ (same ∙ session_in j of.0 ls k y of.2 at_y))),
+              (λ k x at_x. seat_in_list j of.0 ls k x of.2 at_x ∙ from_zero j),
             )
+
+    many_in : (j : ℕ) (e : E) (ls : List ServedLink) → IsListOf j e ls → length ls ≡ (count_in e).given
+    many_in j e ls is =
+        let w = served_at j e is.0 in
+        let v = visits_at j e is.0 in
+        ap (λ l. length l) is.1 ∙ (length-map v served_link ∙ (sym (length-map v (λ (x : SeatVisit). x.end)) ∙ (ap (λ l. length l) (sym w.links.ends_are) ∙ (sym w.links.back ∙ sym w.all_back))))
+
+    -- as many were served as were given out
+    many_served : length all_served ≡ (with_counts no_sums counts).given
+    many_served =
+        from_none (length-flat_map (λ (ls : List ServedLink). ls) lists.0
+        ∙ (sums_alike (λ (ls : List ServedLink). length ls) (λ (e : E). (count_in e).given) lists.0 ends lists.1 (λ j ls e at_ls at. many_in j e ls (list_is j e ls at_ls at))
+        ∙ sums_mapped ends))
+      where
+        from_none : {a b : ℕ} → a ≡ b → a ≡ 0 + b
+        from_none {a} {b} is = omega (arith, is)
+
+        sums_mapped : (es : List E) → sum_by (λ (e : E). (count_in e).given) es ≡ sum_by (λ (c : CountState L). c.given) (map count_in es)
+        sums_mapped [] = refl
+        sums_mapped (e ∷ es) = let r = sums_mapped es in omega (arith, r, sum_by-cons (λ (d : E). (count_in d).given) e es, sum_by-cons (λ (c : CountState L). c.given) (count_in e) (map count_in es))
+
+        list_is : (j : ℕ) (e : E) (ls : List ServedLink) → slice_get lists.0 j ≡ Some ls → slice_get ends j ≡ Some e → IsListOf j e ls
+        list_is j e ls at_ls at = let of = lists.2 j ls at_ls in subst (λ (x : E). IsListOf j x ls) (one_at ends j of.0 e of.1 at) of.2
 
     module _ (h : List Entry) (back : List SeatState) (shuts : Bool) (links : ℕ) (keeps : Bool) (some : 0 < length boxes) (kept_seats : All (IsKeptSeat boxes) back) (is : back ≡ map seat_in ends)
         (quiet : shuts ≡ false → All (λ e. (seat_in e).glass.shuts ≡ 0) ends) (unbroken : All (λ e. All IsUnbroken (ends_in e)) ends)
         (formed : IsWellFormed h) (keeps_all : All (KeepsAll boxes h) back) (recorded : AreRecorded (length h) h back) (opened : IsOpened opening h) (door_keeps : keeps ≡ door.keeps)
         (none_refused : (with_counts no_sums counts).refused ≡ 0) (all_links : (with_counts no_sums counts).given + (with_counts no_sums counts).failed ≡ links)
       where
-        -- of a door that keeps its links each worker kept what it gave back
-        many_kept : (j : ℕ) (e : E) → slice_get ends j ≡ Some e → keeps ≡ true → length (count_in e).kept ≡ (count_in e).back
-        many_kept j e at keeping =
-            let w = served_at j e at in
-            w.sound.kept ∙ ap (λ b. if b then (count_in e).back else 0) (w.is_of.1 ∙ (sym door_keeps ∙ keeping))
-
-        in_sessions : keeps ≡ true → (place : ℕ) (e : Entry) → length opening ≤ place → slice_get h place ≡ Some e → Any (λ (x : SessionNo × L). x.0.0 ≡ session_of e) (all_kept counts)
-        in_sessions keeping p e le at =
+        in_sessions : (place : ℕ) (e : Entry) → length opening ≤ place → slice_get h place ≡ Some e → Any (λ (x : ServedLink). x.session ≡ session_of e) all_served
+        in_sessions p e le at =
             let found = recorded p e (slice_get_within h p e at) at (opened.behind p e le at) in
             let stands : slice_get back found.0 ≡ Some found.1 = slice_get-get_or back found.0 found.1 found.2 ∙ ap (λ (x : SeatState). Some x) found.3 in
             let end = get_map seat_in ends found.0 found.1 (subst (λ (l : List SeatState). slice_get l found.0 ≡ Some found.1) is stands) in
@@ -192,38 +225,70 @@ module _ {L : Type 0} (told : L → LinkState) {E : Type 0} (seat_in : E → Sea
             let of : IsOfLink (length boxes) (first_seat opening boxes found.0).session (length (ends_in end.0)) (p, e) =
             All-contains (IsOfLink (length boxes) (first_seat opening boxes found.0).session (length (ends_in end.0))) own.0 (p, e) own.2
             (subst (λ (l : List (ℕ × Entry)). Contains l (p, e)) own.1 (subst (λ (x : SeatState). Contains x.own (p, e)) (sym end.2) found.4)) in
-            let x = there (count_in end.0).kept of.0 (omega (arith, of.1, many_kept found.0 end.0 end.1 keeping, w.links.back)) in
-            let placed = flat_has (λ (c : CountState L). c.kept) counts found.0 (count_in end.0) of.0 x.0 (there_count found.0 end.0 end.1) x.1 in
-            any_at (λ (y : SessionNo × L). y.0.0 ≡ session_of e) (all_kept counts) placed.0 x.0 placed.1 (session_of_link found.0 end.0 of.0 x.0 end.1 x.1 ∙ sym of.2)
-          where
-            there_count : (j : ℕ) (e : E) → slice_get ends j ≡ Some e → slice_get counts j ≡ Some (count_in e)
-            there_count j e at =
-                let t = there counts j (omega (arith, slice_get_within ends j e at, length-map ends count_in)) in
-                let k = get_map count_in ends j t.0 t.1 in
-                t.1 ∙ ap (λ (c : CountState L). Some c) (sym k.2 ∙ ap count_in (one_at ends j k.0 e k.1 at))
+            let list = list_at found.0 end.0 end.1 in
+            let x = there list.0 of.0 (omega (arith, of.1, many_in found.0 end.0 list.0 list.2, w.links.back, w.all_back)) in
+            let placed = flat_has (λ (ls : List ServedLink). ls) lists.0 found.0 list.0 of.0 x.0 list.1 x.1 in
+            any_at (λ (y : ServedLink). y.session ≡ session_of e) all_served placed.0 x.0 placed.1 (session_in found.0 end.0 list.0 of.0 x.0 list.2 x.1 ∙ sym of.2)
 
-        is_kept_link : (i : ℕ) (x : SessionNo × L) → slice_get (all_kept counts) i ≡ Some x → IsKeptLink told s (length opening) h shuts (with_counts no_sums counts) x
-        is_kept_link i x at =
-            let f = in_flat (λ (c : CountState L). c.kept) counts i x at in
-            let e = worker_of f.0 f.1 f.3 in
-            let w = served_at f.0 e.0 e.1 in
-            let l = link_of f.0 e.0 f.2 x e.1 (subst (λ (d : CountState L). slice_get d.kept f.2 ≡ Some x) (sym e.2) f.4) in
-            let seat_back : slice_get back f.0 ≡ Some (seat_in e.0) = there_mapped seat_in ends back is f.0 e.0 e.1 in
-            let legal = legal_link s boxes (length opening) h shuts x.0.0 (first_seat opening boxes f.0) (seat_in e.0) l.0 l.3 (at_of_all (KeepsAll boxes h) back f.0 (seat_in e.0) keeps_all seat_back)
-            (omega arith) (λ none. at_of_all (λ e. (seat_in e).glass.shuts ≡ 0) ends f.0 e.0 (quiet none) e.1)
-            (at_of_all IsUnbroken (ends_in e.0) f.2 l.0.end (at_of_all (λ e. All IsUnbroken (ends_in e)) ends f.0 e.0 unbroken e.1) l.1) in
-            record {
-              end = l.0.end;
-              legal = subst (λ link. IsLegalLink s x.0.0 (length opening) h shuts link l.0.end) l.2 legal;
-              counted = counted_in counts f.0 f.1 l.0.end f.3
-                  (subst (λ (c : CountState L). IsCounted (sums_of c) l.0.end) e.2 (at_of_all (IsCounted (sums_of (count_in e.0))) (ends_in e.0) f.2 l.0.end w.links.counted l.1));
-            }
+        is_served_link : (i : ℕ) (x : ServedLink) → slice_get all_served i ≡ Some x → IsServedLink s (length opening) h shuts (with_counts no_sums counts) x
+        is_served_link i x at =
+            let f = in_flat (λ (ls : List ServedLink). ls) lists.0 i x at in
+            let of = lists.2 f.0 f.1 f.3 in
+            let w = served_at f.0 of.0 of.2.0 in
+            let v = visit_in f.0 of.0 f.1 f.2 x of.2 f.4 in
+            let k = session_at (length boxes) (first_seat opening boxes f.0).session f.2 in
+            let l = w.links.served f.2 v.0 v.1 in
+            let end_at : slice_get (ends_in of.0) f.2 ≡ Some v.0.end = subst (λ es. slice_get es f.2 ≡ Some v.0.end) (sym w.links.ends_are) (map_at (λ (v : SeatVisit). v.end) w.links.visits f.2 v.0 v.1) in
+            let seat_back : slice_get back f.0 ≡ Some (seat_in of.0) = there_mapped seat_in ends back is f.0 of.0 of.1 in
+            let legal = legal_link s boxes (length opening) h shuts k (first_seat opening boxes f.0) (seat_in of.0) v.0 l (at_of_all (KeepsAll boxes h) back f.0 (seat_in of.0) keeps_all seat_back)
+            (omega arith) (λ none. at_of_all (λ e. (seat_in e).glass.shuts ≡ 0) ends f.0 of.0 (quiet none) of.1)
+            (at_of_all IsUnbroken (ends_in of.0) f.2 v.0.end (at_of_all (λ e. All IsUnbroken (ends_in e)) ends f.0 of.0 unbroken of.1) end_at) in
+            let count_at = map_at count_in ends f.0 of.0 of.1 in
+            subst (IsServedLink s (length opening) h shuts (with_counts no_sums counts)) v.2 (record {
+              somebody = subst (λ n. 0 < n) (sym l.session_is) l.somebody;
+              legal = subst (λ n. IsLegalLink s n (length opening) h shuts v.0.link v.0.end) (sym l.session_is) legal;
+              counted = counted_in counts f.0 (count_in of.0) v.0.end count_at (at_of_all (IsCounted (sums_of (count_in of.0))) (ends_in of.0) f.2 v.0.end w.links.counted end_at);
+            })
+
+        -- what a worker kept are the links that it served
+        kept_same : (j : ℕ) (e : E) (ls : List ServedLink) → keeps ≡ true → IsListOf j e ls → map (told_of told) (count_in e).kept ≡ map session_and_link ls
+        kept_same j e ls keeping of =
+            let w = served_at j e of.0 in
+            let all : length (count_in e).kept ≡ (count_in e).back = w.sound.kept ∙ ap (λ b. if b then (count_in e).back else 0) (w.is_of.1 ∙ (sym door_keeps ∙ keeping)) in
+            maps_same (told_of told) session_and_link (count_in e).kept ls (all ∙ (sym w.all_back ∙ sym (many_in j e ls of)))
+            (λ k x y at_x at_y.
+            let v = visit_in j e ls k y of at_y in
+            let kept = w.links.kept k x at_x in
+            let same = one_at w.links.visits k kept.visit v.0 kept.there v.1 in
+            pair_same (sym kept.session ∙ (ap (λ (z : SeatVisit). z.entered.session) same ∙ ap (λ (l : ServedLink). l.session) v.2))
+            (sym kept.link ∙ (ap (λ (z : SeatVisit). z.link) same ∙ ap (λ (l : ServedLink). l.link) v.2)))
+          where
+            pair_same : {a b : ℕ} {x y : LinkState} → a ≡ b → x ≡ y → pair a x ≡ pair b y
+            pair_same {a} {b} {x} {y} p q = ap (λ n. pair n x) p ∙ ap (pair b) q
+
+        none_kept : keeps ≡ false → (es : List E) → ((j : ℕ) (e : E) → slice_get es j ≡ Some e → length (count_in e).kept ≡ 0) → all_kept (map count_in es) ≡ []
+        none_kept off [] each = refl
+        none_kept off (e ∷ es) each =
+            flat_map-cons (λ (c : CountState L). c.kept) (count_in e) (map count_in es)
+            ∙ (ap (λ l. l ++ all_kept (map count_in es)) (nil_from_length (count_in e).kept (each 0 e refl)) ∙ none_kept off es (λ j d at. each (suc j) d at))
+
+        are_kept : (b : Bool) → keeps ≡ b → AreKept told b (all_kept counts) all_served
+        are_kept true on = kept_mapped ∙ flat_maps_same (λ (e : E). (count_in e).kept) (λ (ls : List ServedLink). ls) (told_of told) session_and_link ends lists.0 (sym lists.1)
+            (λ j e ls at at_ls. let of = lists.2 j ls at_ls in kept_same j e ls on (subst (λ (x : E). IsListOf j x ls) (one_at ends j of.0 e of.1 at) of.2))
+          where
+            kept_mapped : map (told_of told) (all_kept counts) ≡ map (told_of told) (flat_map (λ (e : E). (count_in e).kept) ends)
+            kept_mapped = ap (map (told_of told)) (flat_mapped ends)
+              where
+                flat_mapped : (es : List E) → all_kept (map count_in es) ≡ flat_map (λ (e : E). (count_in e).kept) es
+                flat_mapped [] = refl
+                flat_mapped (e ∷ es) =
+                    flat_map-cons (λ (c : CountState L). c.kept) (count_in e) (map count_in es) ∙ (ap (λ l. (count_in e).kept ++ l) (flat_mapped es) ∙ sym (flat_map-cons (λ (d : E). (count_in d).kept) e es))
+        are_kept false off = none_kept off ends (λ j e at. let w = served_at j e at in w.sound.kept ∙ ap (λ b. if b then (count_in e).back else 0) (w.is_of.1 ∙ (sym door_keeps ∙ off)))
 
         pub links_are_served : LinksAreServed told s opening h shuts links (with_counts no_sums counts) keeps (all_kept counts)
         links_are_served = record {
           formed = formed;
           begins = opened.begins;
-          somebody = opened.behind;
           back = ap (λ n. 0 + n) (sums_same (λ (c : CountState L). c.back) (λ (c : CountState L). c.given) counts
               (All-map (λ (c : CountState L). c.back ≡ c.given) count_in ends (all_from_places (λ e. (count_in e).back ≡ (count_in e).given) ends (λ i e at. sym (served_at i e at).all_back))));
           all = all_links;
@@ -232,19 +297,16 @@ module _ {L : Type 0} (told : L → LinkState) {E : Type 0} (seat_in : E → Sea
               (some_of (λ (c : CountState L). c.failed) (λ (c : CountState L). c.read_faults) counts
               (All-map (λ (c : CountState L). 0 < c.failed → 0 < c.read_faults) count_in ends (all_from_places (λ e. 0 < (count_in e).failed → 0 < (count_in e).read_faults) ends (λ i e at. (served_at i e at).links.failed)))
               (plus_none _ some_failed));
-          count = λ keeping. length-flat_map (λ (c : CountState L). c.kept) counts
-              ∙ from_none (sums_same (λ (c : CountState L). length c.kept) (λ (c : CountState L). c.given) counts
-              (All-map (λ (c : CountState L). length c.kept ≡ c.given) count_in ends (all_from_places (λ e. length (count_in e).kept ≡ (count_in e).given) ends (λ i e at. many_kept i e at keeping ∙ sym (served_at i e at).all_back))));
-          apart = kept_apart some;
+          served = all_served;
+          count = many_served;
+          apart = are_apart some;
+          each = all_from_places (IsServedLink s (length opening) h shuts (with_counts no_sums counts)) all_served is_served_link;
           sessions = in_sessions;
-          each = all_from_places (IsKeptLink told s (length opening) h shuts (with_counts no_sums counts)) (all_kept counts) is_kept_link;
+          kept_are = are_kept keeps refl;
         }
           where
             some_raised : (n : ℕ) → 0 < n → 0 < raised n 0
             some_raised n some = omega (arith, some)
-
-            from_none : {a b : ℕ} → a ≡ b → a ≡ 0 + b
-            from_none {a} {b} is = omega (arith, is)
 
             plus_none : (n : ℕ) → 0 < 0 + n → 0 < n
             plus_none n some = omega (arith, some)

@@ -1,7 +1,6 @@
 -- What was made of a door, from its listen on.
 use Rattle.std.proofs.Common.{◌≡◌, ℕ, ◌+◌, inl, inr, List, sum_by, sym, ap, ◌∙◌, subst, arith}
 use Rattle.be_base.specs.Counts.{raised, HasRisenBy}
-use Rattle.be_io.specs.declared.faults.ListenFault.TheVariants as listen
 use Rattle.be_door.specs.Counts.{CountState, with_counts, all_kept}
 use Rattle.be_door.specs.Door.{DoorState, after_try, after_listen, after_settle}
 use Rattle.be_door.specs.Sums.{no_sums}
@@ -19,16 +18,6 @@ same_count : (a b : ℕ) → b ≡ a → HasRisenBy 0 a b
 same_count a b is = omega (arith, is)
 
 module _ {L : Type 0} (d d₁ d₂ : DoorState L) (port links workers : ℕ) where
-  pub tried : d₁ ≡ after_try d port → IsTried d d₁ port
-  tried is = record {
-    tries = ap (λ (x : DoorState L). x.tries) is;
-    port_is = ap (λ (x : DoorState L). x.port) is;
-    listens = inl (ap (λ (x : DoorState L). x.listens) is);
-    keeps = ap (λ (x : DoorState L). x.keeps) is;
-    read_faults = same_count d.read_faults d₁.read_faults (ap (λ (x : DoorState L). x.read_faults) is);
-    write_faults = same_count d.write_faults d₁.write_faults (ap (λ (x : DoorState L). x.write_faults) is);
-  }
-
   module _ (is : d₁ ≡ after_listen d d₁.«open» port links workers) where
     pub listened : IsTried d d₁ port
     listened = record {

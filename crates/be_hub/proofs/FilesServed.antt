@@ -59,14 +59,14 @@ file_served P s s' file seat seat' tends out end before after b b' schema is was
 abbrev pub told : MemSourceState → MemSinkState → LinkState
 told source sink = record {
   source = record { left = Some source.left; faults = 0; taken = source.taken; whole = Some source.whole };
-  sink = record { held = Some sink.held; faults = 0; refusals = sink.refusals };
+  sink = record { held = Some sink.held; faults = 0; refusals = sink.refusals; kept_back = 0 };
 }
 
 pub link_is : (source : MemSourceState) (sink : MemSinkState) (file : List ℕ) → source ≡ new_file file → sink.held ≡ [] → sink.refusals ≡ 0 → told source sink ≡ file_link file
 link_is source sink file is held refusals =
     ap (λ (x : MemSourceState). told x sink) is ∙ (λ i. record {
       source = record { left = Some file; faults = 0; taken = 0; whole = Some file };
-      sink = record { held = Some (held i); faults = 0; refusals = refusals i };
+      sink = record { held = Some (held i); faults = 0; refusals = refusals i; kept_back = 0 };
     })
 
 pub few_taken : (source source' : MemSourceState) → IsQuietSource source → source ≡ source' → source'.taken ≤ FILE_BYTES

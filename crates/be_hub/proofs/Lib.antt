@@ -2,6 +2,7 @@ mod AtBoard
 mod Asking
 mod FilesServed
 pub mod Pairs
+pub mod Choices
 pub mod Closing
 pub mod Ends
 mod Transcripts

@@ -14,10 +14,10 @@ use Rattle.be_model.specs.Schemas.{Attributes}
 use Rattle.be_change.specs.History.{Entry, placed_of}
 use Rattle.be_change.specs.Requests.{Exchange}
 use Rattle.be_mail.specs.Letters.{letter_in}
-use Rattle.be_transcript.specs.LinesRead.{ReadToEnd, ReadInPart, ReadFirstLines}
-use Rattle.be_transcript.specs.Readings.{reading}
-use Rattle.be_transcript.specs.Runs.{HasNoQuit, EndsWithQuit}
-use Rattle.be_transcript.specs.Transcript.{requests, texts, IsCutText}
+use Rattle.be_protocol.specs.LinesRead.{ReadToEnd, ReadInPart, ReadFirstLines}
+use Rattle.be_protocol.specs.Readings.{reading}
+use Rattle.be_protocol.specs.Runs.{HasNoQuit, EndsWithQuit}
+use Rattle.be_protocol.specs.Transcript.{requests, texts, OutputBroke}
 use Rattle.be_board.specs.State.{BoardState}
 use Rattle.be_board.specs.Word.{Keeps, own_of, IsDelivered}
 use Rattle.be_desk.specs.Boards.{board_of}
@@ -57,27 +57,29 @@ told_cut (Some out) t P is p = subst P (sym is) p
 
 whole_from : (Read : List TextLine → Type 0) (s : Attributes) (z : ℕ) (h : List Entry) (shuts : Bool) (lines : List TextLine) (end : Option SessionEnd) (before after : SinkState) (b b' : BoardState)
     → Read lines → (r : Replied s lines end before after b b') → list_all plain r.exchanges ≡ true → IfSome before.held (λ held. held ≡ [])
-    → Keeps h b'.word → z ≤ length b.word.known → (shuts ≡ false → b'.counts.shuts ≡ 0) → AnsweredWhole Read s b.word.session z h shuts after.held
-whole_from Read s z h shuts lines end before after b b' read r whole empty keeps within quiet = record {
+    → before.kept_back ≡ 0 → after.kept_back ≤ before.kept_back
+    → Keeps h b'.word → z ≤ length b.word.known → (shuts ≡ false → b'.counts.shuts ≡ 0) → AnsweredWhole Read s b.word.session z h shuts after
+whole_from Read s z h shuts lines end before after b b' read r whole empty none handed keeps within quiet = record {
   lines = lines;
   read = read;
   exchanges = r.exchanges;
   legal = (r.borne h z keeps within).0;
   text = told_text before.held after.held (texts s r.exchanges) empty r.written;
+  handed = omega (arith, none, handed);
   whole = whole;
   refused = shuts_only shuts r.exchanges b.counts.shuts b'.counts.shuts r.tied.shuts quiet;
 }
 
 part_from : (Read : List TextLine → Type 0) (s : Attributes) (z : ℕ) (h : List Entry) (shuts : Bool) (lines : List TextLine) (before after : SinkState) (b b' : BoardState)
     → Read lines → (r : RepliedInPart s lines before after b b') → IfSome before.held (λ held. held ≡ [])
-    → Keeps h b'.word → z ≤ length b.word.known → (shuts ≡ false → b'.counts.shuts ≡ 0) → AnsweredInPart Read s b.word.session z h shuts after.held
+    → Keeps h b'.word → z ≤ length b.word.known → (shuts ≡ false → b'.counts.shuts ≡ 0) → AnsweredInPart Read s b.word.session z h shuts after
 part_from Read s z h shuts lines before after b b' read r empty keeps within quiet = record {
   lines = lines;
   read = read;
   exchanges = r.exchanges;
   last = r.last;
   legal = (r.borne h z keeps within).0;
-  text = told_cut after.held r.out (IsCutText s r.exchanges r.last) (told_text before.held after.held r.out empty r.written) r.cut;
+  text = told_cut after.held r.out (λ out. OutputBroke s r.exchanges r.last out after.kept_back) (told_text before.held after.held r.out empty r.written) r.broke;
   refused = shuts_only shuts (r.exchanges ++ r.last ∷ []) b.counts.shuts b'.counts.shuts r.tied.shuts quiet;
 }
 
@@ -112,24 +114,24 @@ module _ (s : Attributes) (boxes : List TableId) (z : ℕ) (h : List Entry) (shu
     by_end Eof e u =
         whole_from (λ lines. ReadToEnd link.source.whole link.source.left lines × HasNoQuit s lines) s z h shuts e.lines None o.unused.sink link.sink (board_of s o.calls visit.entered) (board_of s o.calls' visit.left)
         (subst (λ w. ReadToEnd w link.source.left e.lines) all_given e.read, has_no_quit s e.lines e.replied.exchanges e.replied.asked e.replied.ends)
-        e.replied (all_plain e.replied.exchanges e.replied.ends) o.is_unused.none_held kept told none_shut
+        e.replied (all_plain e.replied.exchanges e.replied.ends) o.is_unused.none_held o.is_unused.none_kept_back e.writes.handed kept told none_shut
     by_end Quit e u =
         let r = e.replied in
         let asked = subst (λ (ps : List Exchange). requests ps ≡ map (reading s) e.lines) r.ends.2 r.asked in
         whole_from (λ lines. ReadFirstLines link.source.whole link.source.left lines × EndsWithQuit s lines) s z h shuts e.lines (Some Quit) o.unused.sink link.sink (board_of s o.calls visit.entered) (board_of s o.calls' visit.left)
         (subst (λ w. ReadFirstLines w link.source.left e.lines) all_given e.read, quits_at s e.lines r.ends.0 r.ends.1 asked r.ends.3 r.ends.4)
-        r (subst (λ (ps : List Exchange). list_all plain ps ≡ true) (sym r.ends.2) (all_plain_last r.ends.0 r.ends.1 r.ends.3 r.ends.4)) o.is_unused.none_held kept told none_shut
+        r (subst (λ (ps : List Exchange). list_all plain ps ≡ true) (sym r.ends.2) (all_plain_last r.ends.0 r.ends.1 r.ends.3 r.ends.4)) o.is_unused.none_held o.is_unused.none_kept_back e.writes.handed kept told none_shut
     by_end ReadFault e u = (
       some_risen o.unused.source.faults link.source.faults e.0,
       whole_from (λ lines. ReadInPart link.source.whole link.source.left lines × HasNoQuit s lines) s z h shuts e.1.lines None o.unused.sink link.sink (board_of s o.calls visit.entered) (board_of s o.calls' visit.left)
           (subst (λ w. ReadInPart w link.source.left e.1.lines) all_given e.1.read, has_no_quit s e.1.lines e.1.replied.exchanges e.1.replied.asked e.1.replied.ends)
-          e.1.replied (all_plain e.1.replied.exchanges e.1.replied.ends) o.is_unused.none_held kept told none_shut,
+          e.1.replied (all_plain e.1.replied.exchanges e.1.replied.ends) o.is_unused.none_held o.is_unused.none_kept_back e.1.writes.handed kept told none_shut,
     )
     by_end Spent e u = (
       most_risen o.unused.source.taken link.source.taken e.0,
       whole_from (λ lines. ReadInPart link.source.whole link.source.left lines × HasNoQuit s lines) s z h shuts e.2.lines None o.unused.sink link.sink (board_of s o.calls visit.entered) (board_of s o.calls' visit.left)
           (subst (λ w. ReadInPart w link.source.left e.2.lines) all_given e.2.read, has_no_quit s e.2.lines e.2.replied.exchanges e.2.replied.asked e.2.replied.ends)
-          e.2.replied (all_plain e.2.replied.exchanges e.2.replied.ends) o.is_unused.none_held kept told none_shut,
+          e.2.replied (all_plain e.2.replied.exchanges e.2.replied.ends) o.is_unused.none_held o.is_unused.none_kept_back e.2.writes.handed kept told none_shut,
     )
     by_end WriteFault e u = (
       some_risen o.unused.sink.faults link.sink.faults e.0,

@@ -12,9 +12,9 @@ use Rattle.be_io.specs.Sink.{SinkState}
 use Rattle.be_model.specs.Schemas.{Attributes}
 use Rattle.be_change.specs.History.{Entry, session_of}
 use Rattle.be_change.specs.Requests.{Request, Reply, refusal, ok, held, bye, dup, none, other, hit, cost, listed, sent, notes, dumped, tailed, split, no_memory, shut, Exchange}
-use Rattle.be_transcript.specs.LinesRead.{ReadToEnd, ReadFirstLines}
-use Rattle.be_transcript.specs.Readings.{reading}
-use Rattle.be_transcript.specs.Transcript.{requests, texts}
+use Rattle.be_protocol.specs.LinesRead.{ReadToEnd, ReadFirstLines}
+use Rattle.be_protocol.specs.Readings.{reading}
+use Rattle.be_protocol.specs.Transcript.{requests, texts}
 use Rattle.be_board.specs.State.{BoardState}
 use Rattle.be_board.specs.Word.{Keeps}
 use Rattle.be_desk.specs.Boards.{board_of}

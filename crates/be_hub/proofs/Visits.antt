@@ -1,11 +1,10 @@
 -- The visits to one seat, one after another.
-use Rattle.std.proofs.Common.{◌≡◌, ℕ, ◌-◌, ◌<◌, ◌≤◌, true, List, [], ◌∷◌, ◌++◌, length, Some, slice_get, refl, sym, ap, ◌∙◌, subst, arith}
+use Rattle.std.proofs.Common.{◌≡◌, ℕ, ◌-◌, ◌<◌, ◌≤◌, true, List, [], ◌∷◌, ◌++◌, length, refl, sym, ap, ◌∙◌, subst, arith}
 use Rattle.std.specs.List.{All}
 use Rattle.std.proofs.lemmas.List.{length-map}
 use Rattle.std.proofs.lemmas.List.Elements.{All-head, All-tail}
 use Rattle.std.proofs.lemmas.List.Sums.{sum_by-cons}
 use Rattle.atomic_table.specs.Seated.{TableId}
-use Rattle.be_base.specs.declared.names.SessionNo.{SessionNo}
 use Rattle.be_io.specs.Outside.{LinkState}
 use Rattle.be_model.specs.Schemas.{Attributes}
 use Rattle.be_desk.specs.Boards.{put_count}
@@ -15,7 +14,6 @@ use Rattle.be_door.specs.Door.{DoorState, IsOf}
 use Rattle.be_session.specs.declared.serve.SessionEnd.{SessionEnd}
 use Rattle.be_hub.specs.Links.{session_at, SeatVisit, EntersNext, FollowLeft, FollowOn, LinkServed, added_between, AddUp, AddUpWith, CountsAddUp, LinksServed, WorkerServed}
 use Rattle.be_hub.proofs.Entered.{glass_same, splits_same, fulls_same, puts_same, empties_grow}
-use Rattle.be_hub.proofs.Pairs.{map_at}
 use Rattle.be_hub.proofs.Places.{all_from_places}
 
 -- one more visit follows on
@@ -96,20 +94,3 @@ module _ {L : Type 0} (told : L → LinkState) (s : Attributes) (boxes : List Ta
     is_of = is_of;
     sound = sound;
   }
-
-  module _ (i : ℕ) (kept : SessionNo × L) (at : slice_get c.kept i ≡ Some kept) where
-    abbrev pub visit_of : SeatVisit
-    visit_of = (l.kept i kept at).visit
-
-    pub kept_session : kept.0.0 ≡ session_at (length boxes) first.session i
-    kept_session = let k = l.kept i kept at in sym k.session ∙ (l.served i k.visit k.there).session_is
-
-    pub kept_end : slice_get ends i ≡ Some visit_of.end
-    kept_end =
-        let k = l.kept i kept at in
-        subst (λ es. slice_get es i ≡ Some k.visit.end) (sym l.ends_are) (map_at (λ (v : SeatVisit). v.end) l.visits i k.visit k.there)
-
-    pub kept_served : LinkServed s boxes kept.0.0 first last visit_of
-    kept_served =
-        let k = l.kept i kept at in
-        subst (λ n. LinkServed s boxes n first last k.visit) (sym kept_session) (l.served i k.visit k.there)

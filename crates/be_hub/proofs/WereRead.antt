@@ -1,5 +1,5 @@
 -- Where no link has a fault, all were read.
-use Rattle.std.proofs.Common.{◌≡◌, ℕ, zero, suc, ◌+◌, ◌<◌, inr, Bool, false, List, length, ap, ◌∙◌, arith}
+use Rattle.std.proofs.Common.{◌≡◌, ℕ, zero, suc, ◌+◌, ◌<◌, inr, Bool, false, List, length, ap, ◌∙◌, subst, arith}
 use Rattle.std.proofs.lemmas.List.Elements.{All-weaker}
 use Rattle.be_base.specs.declared.names.SessionNo.{SessionNo}
 use Rattle.be_io.specs.Outside.{LinkState}
@@ -12,7 +12,7 @@ use Rattle.be_hub.specs.Files.{IsRead}
 use Rattle.be_hub.specs.Links.{IsCounted}
 use Rattle.be_base.specs.Counts.{raised, HasRisenBy}
 use Rattle.be_door.specs.Door.{DoorState}
-use Rattle.be_hub.specs.Serving.{IsLegalLink, IsKeptLink, AreFaultless, LinksAreServed, WereRead, served_door, IsTried}
+use Rattle.be_hub.specs.Serving.{IsLegalLink, ServedLink, IsServedLink, AreFaultless, LinksAreServed, WereRead, served_door, IsTried}
 
 read_by : (s : Attributes) (k z : ℕ) (h : List Entry) (shuts : Bool) (link : LinkState) (sums : Sums) (end : SessionEnd) → IsLegalLink s k z h shuts link end → IsCounted sums end → AreFaultless sums → IsRead end
 read_by s k z h shuts link sums Eof l c none = tt
@@ -23,20 +23,20 @@ read_by s k z h shuts link sums Spent l c none = absurd (omega (arith, c, none.2
 read_by s k z h shuts link sums (Split i j) l c none = absurd l
 read_by s k z h shuts link sums NoMemory l c none = absurd l
 
-pub were_read : {L : Type 0} (told : L → LinkState) (s : Attributes) (opening h : List Entry) (links : ℕ) (sums : Sums) (keeps : Bool) (kept : List (SessionNo × L)) → LinksAreServed told s opening h false links sums keeps kept → AreFaultless sums
-    → WereRead told s opening h links sums kept
-were_read {L} told s opening h links sums keeps kept l none =
-    let all : sums.given ≡ links = none_failed sums.given sums.failed links l.all (λ some. absurd (omega (arith, l.failed some, none.0))) in
-    record {
-      given = all;
-      back = l.back ∙ all;
-      each = All-weaker (IsKeptLink told s (length opening) h false sums) (λ (x : SessionNo × L). (end : SessionEnd) × IsRead end × IsLegalLink s x.0.0 (length opening) h false (told x.1) end)
-          (λ x k. (k.end, read_by s x.0.0 (length opening) h false (told x.1) sums k.end k.legal k.counted none, k.legal)) kept l.each;
-    }
-  where
-    none_failed : (a b c : ℕ) → a + b ≡ c → (0 < b → ⊥) → a ≡ c
-    none_failed a zero c is never = omega (arith, is)
-    none_failed a (suc b) c is never = absurd (never (omega arith))
+module _ {L : Type 0} (told : L → LinkState) (s : Attributes) (opening h : List Entry) (shuts : Bool) (links : ℕ) (sums : Sums) (keeps : Bool) (kept : List (SessionNo × L)) where
+  pub were_read : (l : LinksAreServed told s opening h shuts links sums keeps kept) → shuts ≡ false → AreFaultless sums → WereRead s opening h links sums l.served
+  were_read l is none =
+      let all : sums.given ≡ links = none_failed sums.given sums.failed links l.all (λ some. absurd (omega (arith, l.failed some, none.0))) in
+      record {
+        given = all;
+        back = l.back ∙ all;
+        each = All-weaker (IsServedLink s (length opening) h shuts sums) (λ (x : ServedLink). IsRead x.end × IsLegalLink s x.session (length opening) h false x.link x.end)
+            (λ x k. (read_by s x.session (length opening) h shuts x.link sums x.end k.legal k.counted none, subst (λ b. IsLegalLink s x.session (length opening) h b x.link x.end) is k.legal)) l.served l.each;
+      }
+    where
+      none_failed : (a b c : ℕ) → a + b ≡ c → (0 < b → ⊥) → a ≡ c
+      none_failed a zero c is never = omega (arith, is)
+      none_failed a (suc b) c is never = absurd (never (omega arith))
 
 -- a door that was settled was tried
 pub served_tried : {L : Type 0} (door door' : DoorState L) (port links workers : ℕ) (sums : Sums) (kept : List (SessionNo × L)) → door' ≡ served_door door port links workers sums kept → IsTried door door' port

@@ -12,7 +12,7 @@ use Rattle.be_desk.specs.Boards.{board_of}
 abbrev pub file_link : List ℕ → LinkState
 file_link file = record {
   source = record { left = Some file; faults = 0; taken = 0; whole = Some file };
-  sink = record { held = Some []; faults = 0; refusals = 0 };
+  sink = record { held = Some []; faults = 0; refusals = 0; kept_back = 0 };
 }
 
 -- no read and no write of a file fails, and none gives more than a source may

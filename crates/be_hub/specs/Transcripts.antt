@@ -7,8 +7,8 @@ use Rattle.be_io.specs.Lines.{TextLine, lines}
 use Rattle.be_model.specs.Schemas.{Attributes}
 use Rattle.be_change.specs.History.{Entry, session_of, IsWellFormed}
 use Rattle.be_change.specs.Requests.{Exchange}
-use Rattle.be_transcript.specs.Runs.{HasNoQuit, EndsWithQuit}
-use Rattle.be_transcript.specs.Transcript.{AreExchanges, texts}
+use Rattle.be_protocol.specs.Runs.{HasNoQuit, EndsWithQuit}
+use Rattle.be_protocol.specs.Transcript.{AreExchanges, texts}
 use Rattle.be_session.specs.Tied.{is_shut, is_split}
 
 -- these are all lines of the file, none of which is a QUIT, or those up to the first QUIT

@@ -10,6 +10,7 @@ use crate::hub::Hub;
 use be_base::{Name, NoRead};
 use be_board::{Answer, Board, Sent};
 use be_desk::{Ask, Broom, Seat};
+use be_index::Ids;
 use be_mail::{BoxNames, Post};
 use be_model::{Change, Conj, Cost, Event, Found, Letter};
 use be_published::{Naming, Sheet};
@@ -101,6 +102,10 @@ impl<'a, T: Sheet<J>, J: Naming + BoxNames, S: Post, R: Wait> Board for DeskBoar
 
     fn find(&mut self, event: &Event, found: &mut Found) -> Result<u64, NoRead> {
         self.seat.find(event, found)
+    }
+
+    fn hits(&mut self, event: &Event, ids: &mut Ids, names: &mut Vec<u8>) -> Result<u64, NoRead> {
+        self.seat.hits(event, ids, names)
     }
 
     fn cost(&mut self, event: &Event) -> Result<(u64, Cost), NoRead> {

@@ -97,11 +97,17 @@ impl Sink for Transcript {
 
     ghost refusals = { λ s. s.refusals };
 
+    ghost kept_back = { λ _. 0 };
+
     fn write(&mut self, bytes: &[u8]) -> Result<usize, SinkFault> {
         match self.inner.write(bytes) {
             Ok(count) => Ok(count),
             Err(SinkFault::NoMemory) => Err(SinkFault::NoMemory),
             Err(SinkFault::Failed) => unreachable!(),
         }
+    }
+
+    fn flush(&mut self) -> Result<(), SinkFault> {
+        Ok(())
     }
 }

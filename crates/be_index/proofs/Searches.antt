@@ -17,20 +17,6 @@ use Rattle.be_model.specs.ByIds.{ByIds, rows_of, PutsEach}
 use Rattle.be_model.specs.Matching.{Assignments, is_met, is_assigned, values_of, satisfies, satisfied}
 use Rattle.be_index.specs.Rows.{plain_cost}
 
--- what was put, and what is still to be put, one row further
-pub put_step : (p : Row → Bool) (found put : List Row) (x : Row) (xs all : List Row) → found ++ filter p (x ∷ xs) ≡ all → put ≡ found ++ filter p (x ∷ []) → put ++ filter p xs ≡ all
-put_step p found put x xs all h k =
-    ap (λ (l : List Row). l ++ filter p xs) k ∙ append_assoc found (filter p (x ∷ [])) (filter p xs) ∙ ap (λ (l : List Row). found ++ l) (sym (filter-append p (x ∷ []) xs)) ∙ h
-
--- where a row is wanted of those to come, some are wanted of all
-pub some_wanted : (p : Row → Bool) (was found : List Row) (x : Row) (xs all : List Row) → found ++ filter p (x ∷ xs) ≡ was ++ filter p all → BeginsWith found was → 0 < length (filter p (x ∷ [])) → 0 < length (filter p all)
-some_wanted p was found x xs all h front l =
-    omega (arith, ap length h, length-append found (filter p (x ∷ xs)), length-append was (filter p all), ap length (filter-append p (x ∷ []) xs), length-append (filter p (x ∷ [])) (filter p xs), BeginsWith-length found was front)
-
-pub on_refusal : {A B : Type 0} (r : Result A B) (P : Type 0) → P → OnErr r P
-on_refusal (Ok x) P h = tt
-on_refusal (Err x) P h = h
-
 -- rows that are put in their order
 pub puts_all : (wanted before after : List Row) → after ≡ before ++ wanted → PutsEach wanted before after
 puts_all wanted before after h = record { found = wanted; put = h; exact = IsPermutation-refl wanted }
@@ -67,10 +53,6 @@ few_satisfied e (row ∷ rows) = omega (arith, sum_by-cons (λ (x : Row). cond (
 -- one visit, and a test of each covered row, are within the bound
 pub plain_bound : (s : Attributes) (e : Assignments) (m : ByIds) → IsWithinBound s e (rows_of m) (plain_cost e m)
 plain_bound s e m = record { some = omega arith; visits = omega arith; found = few_satisfied e (rows_of m); tested = omega arith }
-
--- a covered row more
-pub count_step : (p : Row → Bool) (n : ℕ) (x : Row) (xs all : List Row) → n + count_by p (x ∷ xs) ≡ count_by p all → n + cond (p x) 1 0 + count_by p xs ≡ count_by p all
-count_step p n x xs all h = omega (arith, sum_by-cons (λ (y : Row). cond (p y) 1 0) x xs)
 
 -- what was put under one name is put under another
 pub ok_puts : {A B : Type 0} (r : Result A B) (wanted named before after : List Row) → named ≡ wanted → OnOk r (after ≡ before ++ named) → OnOk r (PutsEach wanted before after)

@@ -1,2 +1,5 @@
+pub mod Ids
+pub mod Names
+pub mod Puts
 pub mod Promise
 pub mod Rows

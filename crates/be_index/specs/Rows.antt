@@ -1,5 +1,5 @@
 -- The plain index as contracts see it.
-use Rattle.std.specs.Prelude.{◌==◌, Bool, true}
+use Rattle.std.specs.Prelude.{◌==◌, Bool, true, List, filter, map}
 use Rattle.std.specs.List.{count_by}
 use Rattle.be_model.specs.declared.costs.Cost.{Cost}
 use Rattle.be_model.specs.declared.changes.Row.{Row}
@@ -28,3 +28,7 @@ abbrev pub is_wanted : Wanted → Row → Bool
 is_wanted (SatisfiedBy event) row = satisfies event.now row.conj
 is_wanted (Of session) row = row.session.0 == session.0
 is_wanted All row = true
+
+-- what is put of these rows where a search wants them
+abbrev pub wanted_of : {X : Type 0} → (Row → X) → Wanted → List Row → List X
+wanted_of of wanted rows = map of (filter (is_wanted wanted) rows)

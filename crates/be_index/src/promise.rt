@@ -5,18 +5,20 @@ ghost use Rattle.std.specs.Arc.{arc_value};
 ghost use Rattle.std.specs.Bool.{OnTrue, OnFalse};
 ghost use Rattle.be_base.specs.declared.limits.TheConstants.{LOG_CHANGES};
 ghost use Rattle.be_model.specs.Bounds.{IsWithinBound};
-ghost use Rattle.be_model.specs.ByIds.{put_by_id, without_id, has_id, row_at, rows_of, session_rows, PutsEach, FindsIn};
+ghost use Rattle.be_model.specs.ByIds.{put_by_id, without_id, has_id, row_at, rows_of, session_rows, PutsEach};
 ghost use Rattle.be_model.specs.Lies.{row_lies, event_lies};
-ghost use Rattle.be_model.specs.Matching.{FindsSome};
+ghost use Rattle.be_model.specs.Matching.{satisfied};
 ghost use Rattle.be_model.specs.Rows.{id_of, KeepsRoom};
 ghost use Rattle.be_model.specs.Kinds.{is_merge};
+ghost use Rattle.be_index.specs.Puts.{KeepsPlaces, PutsHits};
 ghost use Rattle.be_index.specs.Promise.{IsMap};
 
+use crate::hits::Hits;
 use be_base::{NoMemory, SessionNo};
 use be_model::{Cost, Event, Found, Row, Step, StepDone};
 use std::sync::Arc;
 
-/// Rows of one schema by their ids. A search may be refused a further reference to a row, however much room there is.
+/// Rows of one schema by their ids.
 pub trait Index: Drop {
     ghost use Rattle.std.specs.Prelude.{Bool, Option};
     ghost use Rattle.be_model.specs.declared.costs.Cost.{Cost};
@@ -72,18 +74,17 @@ pub trait Index: Drop {
         ensures schema { schema self.new ≡ schema self.old }
         ensures bounded { is_bounded self.new ≡ is_bounded self.old };
 
-    /// Appends the rows that the event satisfies, in any order.
-    fn find(&self, event: &Event, found: &mut Found) -> Result<Cost, NoMemory>
+    /// Puts the rows that the event satisfies, in any order.
+    fn find<C: Hits>(&self, event: &Event, found: &mut C) -> Result<Cost, NoMemory>
         requires { event_lies (schema self.now) event.now ≡ true }
-        ensures found { OnOk result (FindsIn event.now (rows self.now) found.old.rows found.new.rows) }
+        ensures found { OnOk result (PutsHits C.item_of event.now (rows self.now) (C.held found.old) (C.held found.new)) }
         ensures cost { IfOk result (λ cost. cost ≡ cost_of self.now event.now) }
         ensures bound { IfOk result (λ cost. is_bounded self.now ≡ true → IsWithinBound (schema self.now) event.now (rows_of (rows self.now)) cost) }
-        // It is refused only where there is something to find.
-        ensures some { OnErr result (FindsSome event.now (rows_of (rows self.now))) }
-        ensures refused { OnErr result (found.new.rows ≡ found.old.rows) }
-        ensures room { OnErr result (found.old.spare ≤ found.new.spare) }
+        // It is refused only where it finds more rows than can surely be put.
+        ensures some { OnErr result ((C.held found.old).sure < length (satisfied event.now (rows_of (rows self.now)))) }
+        ensures refused { OnErr result ((C.held found.new).items ≡ (C.held found.old).items) }
         // Each found row takes up no more than its own place.
-        ensures kept { OnOk result (KeepsRoom found.old found.new) };
+        ensures kept { KeepsPlaces (C.held found.old) (C.held found.new) };
 
     /// What a search for the event costs. It takes no memory.
     fn cost(&self, event: &Event) -> Cost

@@ -1,15 +1,16 @@
 //! The plain index: rows in an ordered map, of which a search tests each.
 
-ghost use Rattle.std.specs.Prelude.{◌≡◌, ◌↔◌, ◌++◌, ◌<◌, [], ◌∷◌, false, filter, length, Some, OnOk, OnErr, IfErr, IsTrue};
+ghost use Rattle.std.specs.Prelude.{◌≡◌, ◌↔◌, ◌<◌, [], ◌∷◌, false, length, Some, OnOk, OnErr, IfErr, IsTrue};
 ghost use Rattle.std.specs.List.{count_by};
 ghost use Rattle.std.specs.Bool.{OnTrue, OnFalse};
 ghost use Rattle.std.specs.Arc.{arc_value};
-ghost use Rattle.be_base.specs.Lists.{BeginsWith};
 ghost use Rattle.be_model.specs.Bounds.{is_covered};
 ghost use Rattle.be_model.specs.ByIds.{map_in, put_by_id, without_id, has_id, rows_of, row_at, Rising};
-ghost use Rattle.be_model.specs.Rows.{KeepsRoom, id_of};
-ghost use Rattle.be_index.specs.Rows.{is_wanted};
+ghost use Rattle.be_model.specs.Rows.{id_of};
+ghost use Rattle.be_index.specs.Puts.{Adds, Grows, KeepsPlaces};
+ghost use Rattle.be_index.specs.Rows.{wanted_of};
 
+use crate::hits::Hits;
 use crate::promise::Index;
 use crate::wanted::Wanted;
 use be_base::{NoMemory, SessionNo};
@@ -86,7 +87,7 @@ impl Index for ListIndex {
         drop_row(&mut self.rows, row)
     }
 
-    fn find(&self, event: &Event, found: &mut Found) -> Result<Cost, NoMemory> {
+    fn find<C: Hits>(&self, event: &Event, found: &mut C) -> Result<Cost, NoMemory> {
         put_rows(&self.rows, Wanted::SatisfiedBy(event), found)?;
         Ok(self.cost(event))
     }
@@ -155,37 +156,36 @@ fn has_row(rows: &BTreeMap<u64, Arc<Row>>, row: &Row) -> bool
     }
 }
 
-// Appends the wanted rows, or none.
-fn put_rows(
+// Puts the wanted rows, or none.
+fn put_rows<C: Hits>(
     rows: &BTreeMap<u64, Arc<Row>>,
     wanted: Wanted<'_>,
-    found: &mut Found,
+    found: &mut C,
 ) -> Result<(), NoMemory>
-    ensures put { OnOk result (found.new.rows ≡ found.old.rows ++ filter (is_wanted wanted.entry) (rows_of (map_in rows.now.entries))) }
-    ensures some { OnErr result (0 < length (filter (is_wanted wanted.entry) (rows_of (map_in rows.now.entries)))) }
-    ensures refused { OnErr result (found.new.rows ≡ found.old.rows) }
-    ensures room { KeepsRoom found.old found.new }
+    ensures put { OnOk result (Adds (C.held found.old) (C.held found.new) (wanted_of C.item_of wanted.entry (rows_of (map_in rows.now.entries)))) }
+    ensures some { OnErr result ((C.held found.old).sure < length (wanted_of C.item_of wanted.entry (rows_of (map_in rows.now.entries)))) }
+    ensures refused { OnErr result ((C.held found.new).items ≡ (C.held found.old).items) }
+    ensures room { KeepsPlaces (C.held found.old) (C.held found.new) }
 {
-    let before = found.len();
+    let before = found.count();
     match push_rows(rows, wanted, found) {
         Ok(()) => Ok(()),
         Err(NoMemory) => {
-            found.cut(before);
+            found.keep(before);
             Err(NoMemory)
         }
     }
 }
 
-// Appends the wanted rows, or some of them.
-fn push_rows(
+// Puts the wanted rows, or some of them.
+fn push_rows<C: Hits>(
     rows: &BTreeMap<u64, Arc<Row>>,
     wanted: Wanted<'_>,
-    found: &mut Found,
+    found: &mut C,
 ) -> Result<(), NoMemory>
-    ensures put { OnOk result (found.new.rows ≡ found.old.rows ++ filter (is_wanted wanted.entry) (rows_of (map_in rows.now.entries))) }
-    ensures some { OnErr result (0 < length (filter (is_wanted wanted.entry) (rows_of (map_in rows.now.entries)))) }
-    ensures front { BeginsWith found.new.rows found.old.rows }
-    ensures room { KeepsRoom found.old found.new }
+    ensures put { OnOk result (Adds (C.held found.old) (C.held found.new) (wanted_of C.item_of wanted.entry (rows_of (map_in rows.now.entries)))) }
+    ensures some { OnErr result ((C.held found.old).sure < length (wanted_of C.item_of wanted.entry (rows_of (map_in rows.now.entries)))) }
+    ensures grown { Grows (C.held found.old) (C.held found.new) }
 {
     for (_, row) in rows {
         push_wanted(row, wanted, found)?;
@@ -193,16 +193,14 @@ fn push_rows(
     Ok(())
 }
 
-// Appends the row where it is wanted.
-fn push_wanted(row: &Arc<Row>, wanted: Wanted<'_>, found: &mut Found) -> Result<(), NoMemory>
-    ensures put { OnOk result (found.new.rows ≡ found.old.rows ++ filter (is_wanted wanted.entry) (arc_value row.now ∷ [])) }
-    ensures some { OnErr result (0 < length (filter (is_wanted wanted.entry) (arc_value row.now ∷ []))) }
-    ensures front { BeginsWith found.new.rows found.old.rows }
-    ensures room { KeepsRoom found.old found.new }
+// Puts the row where it is wanted.
+fn push_wanted<C: Hits>(row: &Arc<Row>, wanted: Wanted<'_>, found: &mut C) -> Result<(), NoMemory>
+    ensures put { OnOk result (Adds (C.held found.old) (C.held found.new) (wanted_of C.item_of wanted.entry (arc_value row.now ∷ []))) }
+    ensures some { OnErr result ((C.held found.old).sure < length (wanted_of C.item_of wanted.entry (arc_value row.now ∷ []))) }
+    ensures grown { Grows (C.held found.old) (C.held found.new) }
 {
     if wanted.takes(row) {
-        found.reserve(1)?;
-        found.push_again(row)?;
+        found.put(row)?;
     }
     Ok(())
 }

@@ -1,10 +1,8 @@
 -- Rows at places of a leaf.
-use Rattle.std.proofs.Common.{◌≡◌, ◌<◌, ◌≤◌, ◌+◌, ◌-◌, ℕ, zero, suc, Bool, true, false, not, cond, leb, ◌&&◌, ◌||◌, List, [], ◌∷◌, ◌++◌, length, take, slice_get, get_or, Some, refl, sym, ap, ◌∙◌, arith}
-use Rattle.std.specs.List.{list_all, filter, remove, count_by}
+use Rattle.std.proofs.Common.{◌≡◌, ◌<◌, ◌≤◌, ◌+◌, ◌-◌, ℕ, zero, suc, Bool, true, false, not, cond, leb, ◌&&◌, ◌||◌, List, [], ◌∷◌, ◌++◌, length, take, slice_get, Some, refl, sym, ap, ◌∙◌, arith}
+use Rattle.std.specs.List.{list_all, filter, remove}
 use Rattle.std.proofs.lemmas.Bool.{and_parts, and_from, not-true, or_left, or_right, le-leb, lt-leb}
 use Rattle.std.proofs.lemmas.List.{append-nil}
-use Rattle.std.proofs.lemmas.List.Sums.{sum_by_more}
-use Rattle.std.proofs.lemmas.Option.{slice_get_within}
 use Rattle.be_base.specs.declared.limits.TheConstants.{LEAF_ROWS}
 use Rattle.be_model.specs.declared.changes.Row.{Row}
 use Rattle.be_model.specs.Schemas.{Attributes}
@@ -104,11 +102,6 @@ all_moved p was rest to i l h m n =
       left = sym (filter_whole (λ y. not (p y)) rest none) ∙ n;
       moved = sym (append-nil to) ∙ ap (λ q. to ++ q) (sym (filter_empty p rest none)) ∙ m;
     }
-
-got : (xs : List Row) (i : ℕ) (x : Row) → slice_get xs i ≡ Some x → x ≡ get_or xs i x
-got [] i x h = absurd (cc)
-got (y ∷ ys) zero x h = cc
-got (y ∷ ys) (suc i) x h = got ys i x h
 
 pub some_same : {x y : Row} → Some x ≡ Some y → x ≡ y
 some_same h = cc

@@ -2,7 +2,7 @@
 use Rattle.std.proofs.Common.{◌≡◌, ◌<◌, ◌+◌, ◌-◌, ℕ, Bool, true, false, not, cond, leb, ltb, ◌&&◌, ◌||◌, List, [], ◌∷◌, ◌++◌, length, take, slice_get, None, Some, Result, Ok, Err, OnErr, IfErr, refl, sym, ap, ◌∙◌, subst, arith, length-append}
 use Rattle.std.specs.Prelude.{IsPermutation}
 use Rattle.std.specs.List.{list_all, list_any, filter}
-use Rattle.std.proofs.lemmas.Bool.{and_parts, and_from, not-true, not-false, or_parts}
+use Rattle.std.proofs.lemmas.Bool.{and_parts, and_from, not-false}
 use Rattle.std.proofs.lemmas.List.Sorted.{length_permutation}
 use Rattle.std.specs.Arc.{arc_value}
 use Rattle.std.specs.declared.sync.Arc.{Arc}
@@ -16,7 +16,7 @@ use Rattle.be_model.specs.Lies.{row_lies}
 use Rattle.be_model.specs.Rows.{id_of}
 use Rattle.be_model.specs.Schemas.{Attributes, IsSchema}
 use Rattle.be_shape.specs.Plain.{Plain, node, no_part, no_half, rows_below, leaf_of, with_row}
-use Rattle.be_shape.specs.Shape.{Known, is_stuck, may_stand}
+use Rattle.be_shape.specs.Shape.{Known, may_stand}
 use Rattle.be_shape.specs.Paths.{child}
 use Rattle.be_shape.specs.Children.{known_below, is_open, may_pass, with_child, with_leaf}
 use Rattle.be_shape.proofs.Children.{rows_are}
@@ -38,10 +38,6 @@ row_lie s (row ∷ rows) h =
 
 pub leaf_may : (s : Attributes) (n : Plain) → list_all (may_stand s) (rows_below n) ≡ true → list_all (may_stand s) (leaf_of n) ≡ true
 leaf_may s n h = all_front (may_stand s) (leaf_of n) _ (ap (list_all (may_stand s)) (sym (rows_are n)) ∙ h)
-
--- a leaf that isn't settled has more than 16 rows, and not all are stuck
-pub not_settled : (s : Attributes) (k : Known) (leaf : List Row) → not (settles s k leaf) ≡ true → (leb (length leaf) LEAF_ROWS ≡ false) × (list_all (is_stuck s k) leaf ≡ false)
-not_settled s k leaf h = or_parts (leb (length leaf) LEAF_ROWS) (list_all (is_stuck s k) leaf) (not-true (settles s k leaf) h)
 
 -- some row passes, and lies in the schema
 one_passes : (s : Attributes) (p : Row → Bool) (rows : List Row) → list_all (row_lies s) rows ≡ true → list_any p rows ≡ true → (row : Row) × (row_lies s row ≡ true) × (p row ≡ true)

@@ -6,3 +6,4 @@ pub mod BufferLemmas
 pub mod ReadingLemmas
 pub mod LineLemmas
 pub mod FileLineLemmas
+pub mod GatheredLemmas

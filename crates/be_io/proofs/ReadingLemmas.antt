@@ -193,3 +193,9 @@ IsReading-broken {old} {b} {before} {middle} {after} {skipped} reading after_is 
 pub IsReading-unbroken : {old b : ReaderState} {before middle : Option (List ℕ)} {skipped : ℕ} → IsReading old b before middle skipped (length b.unread) → has_lf old.unread ≡ false
 IsReading-unbroken {old} {b} {before} {middle} {skipped} reading =
     (or_parts (has_lf old.unread) (has_lf reading.given) (sym (has_lf-append old.unread reading.given) ∙ ap has_lf reading.parts ∙ has_lf-none reading.begun b.unread reading.passed (IsReading-none old b before middle skipped reading))).0
+
+-- no read follows where a whole line was there already
+pub IsReading-ahead : {old b : ReaderState} {before middle : Option (List ℕ)} {skipped : ℕ} {P : Type 0} → IsReading old b before middle skipped (length b.unread) → has_lf old.unread ≡ true → P
+IsReading-ahead {old} {b} {before} {middle} {skipped} {P} reading ahead =
+    let none : has_lf old.unread ≡ false = IsReading-unbroken reading in
+    absurd cc

@@ -11,10 +11,6 @@ use Rattle.be_io.specs.declared.faults.SinkFault.{SinkFault}
 use Rattle.be_io.specs.declared.faults.SinkFault.TheVariants.{Failed, NoMemory}
 use Rattle.be_io.proofs.ToldLemmas.{HoldsMore-nil, HoldsMore-append}
 
--- nothing was written
-pub Wrote-nil : (sink : SinkState) → Wrote sink sink [] (Ok tt)
-Wrote-nil sink = (HoldsMore-nil sink.held, refl, refl)
-
 TookPart-append : (before middle after : SinkState) (front back : List ℕ) → HoldsMore before.held middle.held front → TookPart middle after back → TookPart before after (front ++ back)
 TookPart-append before middle after front back first (k, fewer, second) = (
   length front + k,

@@ -13,3 +13,4 @@ pub mod Reading
 pub mod Buffer
 pub mod LineReader
 pub mod Shelf
+pub mod Gathered

@@ -15,7 +15,12 @@ source_state of source =
 
 abbrev pub sink_state : {K : Type 0} → Sink K → K → SinkState
 sink_state of sink =
-    record { held = of.held sink; faults = of.write_faults sink; refusals = of.refusals sink }
+    record {
+      held = of.held sink;
+      faults = of.write_faults sink;
+      refusals = of.refusals sink;
+      kept_back = of.kept_back sink;
+    }
 
 -- a link is a source and a sink. A run's input and output are two objects, whose states be_server joins
 pub record LinkState : Type 0 where

@@ -29,7 +29,8 @@ pub fn means_nothing(line: &[u8]) -> bool
     }
 }
 
-fn without_cr(line: &[u8]) -> &[u8]
+/// The line without a CR at its end. A line that no LF ended keeps its CR, so this isn't for such a line.
+pub fn without_cr(line: &[u8]) -> &[u8]
     ensures { result.now ≡ without_cr line.now }
 {
     match line {

@@ -81,6 +81,13 @@ impl LineReader {
         &self.buffer.used()[..self.text_len]
     }
 
+    /// Whether a whole line, with its LF, was read ahead. Then the next line is given without a read.
+    pub fn has_line(&self) -> bool
+        ensures { result ≡ has_lf self.now.unread }
+    {
+        self.lf_from(0).is_some()
+    }
+
     /// Reads the next line.
     pub fn next<S: Source>(&mut self, src: &mut S) -> Result<Line, LineFault>
         ensures limit { self.new.limit ≡ self.old.limit }
@@ -111,6 +118,10 @@ impl LineReader {
         ensures spent_at { self.old.stopped ≡ None → self.old.ended ≡ false → self.old.taken ≡ SOURCE_BYTES
             → has_lf self.old.unread ≡ false → result ≡ Err LineFault.Spent }
         ensures unbroken { self.old.stopped ≡ None → OnErr result (has_lf self.old.unread ≡ false) }
+
+        // A line that was read ahead is given without a read, and isn't the last one.
+        ensures ahead { has_lf self.old.unread ≡ true → src.new ≡ src.old }
+        ensures last { self.new.ended ≡ true → has_lf self.old.unread ≡ false }
 
         ensures taken { RisesBy (self.new.taken - self.old.taken) (S.taken src.old) (S.taken src.new) }
         ensures beside { S.kept_by_read src.new ≡ S.kept_by_read src.old }
@@ -149,6 +160,8 @@ impl LineReader {
             → (self.new.taken ≡ SOURCE_BYTES) × (S.read_faults src.new ≡ S.read_faults src.old) }
         ensures spent_at { self.old.taken ≡ SOURCE_BYTES → has_lf self.old.unread ≡ false → result ≡ Err LineFault.Spent }
         ensures unbroken { OnErr result (has_lf self.old.unread ≡ false) }
+        ensures ahead { has_lf self.old.unread ≡ true → src.new ≡ src.old }
+        ensures last { self.new.ended ≡ true → has_lf self.old.unread ≡ false }
         ensures taken { RisesBy (self.new.taken - self.old.taken) (S.taken src.old) (S.taken src.new) }
         ensures beside { S.kept_by_read src.new ≡ S.kept_by_read src.old }
         ensures grows { self.old.taken ≤ self.new.taken }
@@ -308,7 +321,7 @@ impl LineReader {
 }
 
 /// The place of the first LF.
-pub(crate) fn first_lf(bytes: &[u8]) -> Option<usize>
+pub fn first_lf(bytes: &[u8]) -> Option<usize>
     ensures { MatchOption result (has_lf bytes.now ≡ false) (IsFirstLf bytes.now) }
 {
     memchr(b'\n', bytes)

@@ -7,8 +7,8 @@ use crate::faults::{Failed, SinkFault};
 use crate::sink::Sink;
 use crate::source::Source;
 
-/// Something that gives bytes and takes bytes. A read leaves what it holds and the counts of its writes as they were,
-/// and a write leaves what it has left and the counts of its reads.
+/// Something that gives bytes and takes bytes. A read leaves what it holds and keeps back and the counts of its writes as
+/// they were, and a write or a flush leaves what it has left and the counts of its reads.
 pub trait Link: Source + Sink {
     ghost reads_leave_the_sink: { (link : Self) → (Self.kept_by_read link).sink ≡ sink_state Self.Sink link };
 
@@ -49,6 +49,8 @@ impl<S: Source, K: Sink> Sink for Pair<S, K> {
 
     ghost refusals = { λ pair. K.refusals pair.sink };
 
+    ghost kept_back = { λ pair. K.kept_back pair.sink };
+
     ghost kept_by_write = { λ pair. record {
       source = source_state S.Source pair.source;
       references = (S.kept_by_read pair.source).references ++ (K.kept_by_write pair.sink).references;
@@ -56,6 +58,10 @@ impl<S: Source, K: Sink> Sink for Pair<S, K> {
 
     fn write(&mut self, bytes: &[u8]) -> Result<usize, SinkFault> {
         self.sink.write(bytes)
+    }
+
+    fn flush(&mut self) -> Result<(), SinkFault> {
+        self.sink.flush()
     }
 }
 
@@ -90,9 +96,15 @@ impl<K: Sink> Sink for &mut K {
 
     ghost refusals = { λ sink. K.refusals sink.now };
 
+    ghost kept_back = { λ sink. K.kept_back sink.now };
+
     ghost kept_by_write = { λ sink. record (K.kept_by_write sink.now) { references = sink.ghost_name ∷ [] } };
 
     fn write(&mut self, bytes: &[u8]) -> Result<usize, SinkFault> {
         Sink::write(&mut **self, bytes)
+    }
+
+    fn flush(&mut self) -> Result<(), SinkFault> {
+        Sink::flush(&mut **self)
     }
 }

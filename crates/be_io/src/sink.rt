@@ -1,6 +1,6 @@
 //! Sinks of bytes.
 
-ghost use Rattle.std.specs.Prelude.{◌≡◌, ◌↔◌, ℕ, ◌<◌, ◌≤◌, ◌++◌, List, [], length, take, Option, Some, Err, IsTrue, IfOk, OnOk, OnErr};
+ghost use Rattle.std.specs.Prelude.{◌≡◌, ◌↔◌, ℕ, ◌+◌, ◌<◌, ◌≤◌, ◌++◌, List, [], length, take, Option, Some, Ok, Err, IsTrue, IfOk, OnOk, OnErr};
 ghost use Rattle.std.specs.List.Sorted.{IsStrictlyIncreasing};
 ghost use Rattle.be_io.specs.Counts.{HasRisen};
 ghost use Rattle.be_io.specs.Told.{HoldsMore};
@@ -24,7 +24,10 @@ pub trait Sink {
     // how many of its calls were refused for want of memory
     ghost refusals: { Self → ℕ };
 
-    // what no write changes: what stands behind it, and the source that is one object with it
+    // how many of the bytes that it took aren't handed on yet
+    ghost kept_back: { Self → ℕ };
+
+    // what no write and no flush changes: what stands behind it, and the source that is one object with it
     ghost kept_by_write: { Self → KeptByWrite } = { λ _. alone_in_writing };
 
     /// Takes the first of these bytes, one at least, and says how many.
@@ -34,8 +37,27 @@ pub trait Sink {
         ensures within { IfOk result (λ k. k ≤ length bytes.now) }
         ensures held { IfOk result (λ k. HoldsMore (held self.old) (held self.new) (take k bytes.now)) }
 
+        // What it keeps back are bytes that it took.
+        ensures back { IfOk result (λ k. kept_back self.new ≤ kept_back self.old + k) }
+        ensures back_still { OnErr result (kept_back self.new ≤ kept_back self.old) }
+
         // A refused call took nothing. Each refusal raises its own count, and nothing else changes a count.
         ensures kept { OnErr result (held self.new ≡ held self.old) }
+        ensures sound { OnOk result ((write_faults self.new ≡ write_faults self.old)
+            × (refusals self.new ≡ refusals self.old)) }
+        ensures failed { result ≡ Err SinkFault.Failed → HasRisen (write_faults self.old) (write_faults self.new)
+            × (refusals self.new ≡ refusals self.old) }
+        ensures no_memory { result ≡ Err SinkFault.NoMemory → HasRisen (refusals self.old) (refusals self.new)
+            × (write_faults self.new ≡ write_faults self.old) }
+        ensures beside { kept_by_write self.new ≡ kept_by_write self.old };
+
+    /// Hands on all bytes that it took. It takes none, and what was handed on isn't taken back.
+    fn flush(&mut self) -> Result<(), SinkFault>
+        ensures held { held self.new ≡ held self.old }
+        ensures handed_on { OnOk result (kept_back self.new ≡ 0) }
+
+        // A flush that failed keeps some bytes back, so one of a sink that keeps none back doesn't fail.
+        ensures left { OnErr result ((0 < kept_back self.new) × (kept_back self.new ≤ kept_back self.old)) }
         ensures sound { OnOk result ((write_faults self.new ≡ write_faults self.old)
             × (refusals self.new ≡ refusals self.old)) }
         ensures failed { result ≡ Err SinkFault.Failed → HasRisen (write_faults self.old) (write_faults self.new)
@@ -95,6 +117,8 @@ impl Sink for MemSink {
 
     ghost refusals = { λ s. s.refusals };
 
+    ghost kept_back = { λ _. 0 };
+
     fn write(&mut self, bytes: &[u8]) -> Result<usize, SinkFault>
         requires { 0 < length bytes.now }
         ensures whole { IfOk result (λ k. k ≡ length bytes.now) }
@@ -115,5 +139,11 @@ impl Sink for MemSink {
         }
         self.calls.add_call();
         Ok(bytes.len())
+    }
+
+    fn flush(&mut self) -> Result<(), SinkFault>
+        ensures { (result ≡ Ok tt) × (self.new ≡ self.old) }
+    {
+        Ok(())
     }
 }

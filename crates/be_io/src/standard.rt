@@ -77,6 +77,8 @@ impl<R: Print> Sink for StdoutSink<R> {
     // it asks for no memory, and so never answers that memory was wanting
     ghost refusals = { λ _. 0 };
 
+    ghost kept_back = { λ _. 0 };
+
     fn write(&mut self, bytes: &[u8]) -> Result<usize, SinkFault> {
         match self.rt.write_some(bytes) {
             Ok(count) if count > 0 => Ok(count),
@@ -85,6 +87,10 @@ impl<R: Print> Sink for StdoutSink<R> {
                 Err(SinkFault::Failed)
             }
         }
+    }
+
+    fn flush(&mut self) -> Result<(), SinkFault> {
+        Ok(())
     }
 }
 

@@ -1,7 +1,7 @@
 //! Writing whole texts.
 
 ghost use Rattle.std.specs.Prelude.{◌≡◌};
-ghost use Rattle.be_io.specs.Sink.{Wrote};
+ghost use Rattle.be_io.specs.Sink.{Wrote, Flushed};
 ghost use Rattle.be_io.specs.Outside.{sink_state};
 
 use crate::faults::SinkFault;
@@ -17,4 +17,12 @@ pub fn write_all<K: Sink>(sink: &mut K, bytes: &[u8]) -> Result<(), SinkFault>
         from += sink.write(&bytes[from..])?;
     }
     Ok(())
+}
+
+/// Hands on all bytes that the sink took, or its refusal.
+pub fn hand_on<K: Sink>(sink: &mut K) -> Result<(), SinkFault>
+    ensures flushed { Flushed (sink_state K.Sink sink.old) (sink_state K.Sink sink.new) result }
+    ensures beside { K.kept_by_write sink.new ≡ K.kept_by_write sink.old }
+{
+    sink.flush()
 }

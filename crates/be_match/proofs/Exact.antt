@@ -9,6 +9,7 @@ use Rattle.be_shape.specs.Children.{children, known_below, is_open, may_pass}
 use Rattle.be_shape.specs.Paths.{range_below}
 use Rattle.be_model.specs.declared.paths.Hop.{Hop}
 use Rattle.be_model.specs.declared.paths.Hop.TheVariants.{Part, Low, High}
+use Rattle.std.proofs.lemmas.List.Elements.{filter-append}
 use Rattle.std.proofs.lemmas.List.Folds.{list_all-append}
 use Rattle.std.proofs.lemmas.Bool.{and_parts}
 use Rattle.std.specs.List.{list_any, list_all, flat_map, AllByRecursion}
@@ -32,7 +33,14 @@ use Rattle.be_base.specs.declared.limits.TheConstants.{LOG_CHANGES}
 use Rattle.be_shape.specs.Plain.{Plain, rows_below, leaf_of}
 use Rattle.be_shape.specs.Shape.{NodeRange, lower, upper, Known, everywhere, is_inside, spans_inside, can_split, is_placed_at, may_stand}
 use Rattle.be_shape.specs.Search.{values_inside, holds_value, enters, visited, all_of}
-use Rattle.be_match.proofs.Fronts.{satisfied_append, satisfied_leaves}
+use Rattle.be_match.proofs.Sizes.{all_of_append}
+
+satisfied_append : (e : Assignments) (xs ys : List Row) → satisfied e (xs ++ ys) ≡ satisfied e xs ++ satisfied e ys
+satisfied_append e xs ys = filter-append (λ (row : Row). satisfies e row.conj) xs ys
+
+-- what is satisfied in two lists of leaves
+satisfied_leaves : (e : Assignments) (xs ys : List (List Row)) → satisfied e (all_of (xs ++ ys)) ≡ satisfied e (all_of xs) ++ satisfied e (all_of ys)
+satisfied_leaves e xs ys = ap (satisfied e) (all_of_append xs ys) ∙ satisfied_append e (all_of xs) (all_of ys)
 
 false_right : (b : Bool) → (b && false) ≡ false
 false_right true = refl

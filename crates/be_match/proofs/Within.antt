@@ -1,6 +1,7 @@
 -- The cost of a search of a tree is within its bounds, and 64 bits count it.
-use Rattle.std.proofs.Common.{◌≡◌, ◌≤◌, true, cond, List, length, None, ap, arith}
+use Rattle.std.proofs.Common.{◌≡◌, ℕ, ◌<◌, ◌≤◌, true, cond, List, length, None, ap, arith}
 use Rattle.std.specs.Prelude.{IsPermutation}
+use Rattle.std.proofs.lemmas.List.{length-map}
 use Rattle.std.proofs.lemmas.List.Sums.{length-filter, count_by-le-length}
 use Rattle.std.proofs.lemmas.List.Sorted.{length_permutation, sum_by-IsPermutation}
 use Rattle.be_model.specs.declared.changes.Row.{Row}
@@ -20,7 +21,8 @@ use Rattle.be_shape.specs.Plain.{Plain, node, plain, rows_below, contents}
 use Rattle.be_shape.specs.Shape.{nothing, everywhere, is_placed_at, is_placed, is_pruned, is_settled, rows_lie}
 use Rattle.be_shape.specs.Search.{visited, visits, tested, all_of}
 use Rattle.be_shape.proofs.RowCounts.{few_rows}
-use Rattle.be_match.specs.Leaves.{AreCountable, FindsSome}
+use Rattle.be_index.specs.Puts.{hits_of}
+use Rattle.be_match.specs.Leaves.{AreCountable}
 use Rattle.be_match.proofs.Exact.{exact}
 use Rattle.be_match.proofs.VisitsBound.{visits_within}
 use Rattle.be_match.proofs.TestedBound.{tested_within, tested_below}
@@ -47,10 +49,10 @@ placed_everywhere s n h = and_left (everywhere (is_placed_at s) s nothing n) (id
 pub all_found : (s : Attributes) (e : Assignments) (n : Plain) → IsSearched s e n → satisfied e (all_of (visited s e None n)) ≡ satisfied e (rows_below n)
 all_found s e n t = exact s e nothing n t.lies (placed_everywhere s n t.placed) t.rows
 
--- where a search finds something, there is something to find
-pub some_in_tree : (s : Attributes) (e : Assignments) (n : Plain) → IsSearched s e n → FindsSome e (all_of (visited s e None n)) → FindsSome e (rows_of (contents n))
-some_in_tree s e n t h =
-    omega (arith, h, ap length (all_found s e n t), length_permutation (satisfied e (rows_below n)) (satisfied e (rows_of (contents n))) (filter_permuted (λ (row : Row). satisfies e row.conj) (rows_below n)))
+-- where there is no room for what a search finds, there is none for what there is to find
+pub no_room_in_tree : {X : Type 0} (of : Row → X) (sure : ℕ) (s : Attributes) (e : Assignments) (n : Plain) → IsSearched s e n → sure < length (hits_of of e (all_of (visited s e None n))) → sure < length (satisfied e (rows_of (contents n)))
+no_room_in_tree of sure s e n t h =
+    omega (arith, h, length-map (satisfied e (all_of (visited s e None n))) of, ap length (all_found s e n t), length_permutation (satisfied e (rows_below n)) (satisfied e (rows_of (contents n))) (filter_permuted (λ (row : Row). satisfies e row.conj) (rows_below n)))
 
 visits_few : (s : Attributes) (e : Assignments) (n : Plain) → IsSearched s e n → visits s e n ≤ visits_bound s e (rows_below n)
 visits_few s e n t = visits_within s e n (placed_everywhere s n t.placed) t.pruned

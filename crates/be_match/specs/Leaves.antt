@@ -1,10 +1,8 @@
 -- Leaves that are visited, and what they cost.
 use Rattle.std.specs.Prelude.{◌+◌, ◌^◌, ◌<◌, List, length}
 use Rattle.be_model.specs.declared.changes.Row.{Row}
-pub use Rattle.be_model.specs.Matching.{FindsSome}
 use Rattle.be_model.specs.declared.costs.Cost.{Cost}
 use Rattle.be_model.specs.Costs.{cost}
-pub use Rattle.be_model.specs.Rows.{KeepsRoom}
 use Rattle.be_shape.specs.Search.{all_of}
 
 -- what a visit of these leaves costs

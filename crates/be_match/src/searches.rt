@@ -1,39 +1,38 @@
 //! The search for the rows that an event satisfies.
 
-ghost use Rattle.std.specs.Prelude.{◌≡◌, ◌++◌, ◌∷◌, [], true, slice_get, Some, OnOk, OnErr, if◌then◌else◌};
+ghost use Rattle.std.specs.Prelude.{◌≡◌, ◌<◌, ◌∷◌, [], true, length, slice_get, Some, OnOk, OnErr, if◌then◌else◌};
 ghost use Rattle.std.specs.Arc.{arc_value};
 ghost use Rattle.be_shape.specs.Plain.{plain, parts_as, half_as, part_as, parts_of};
 ghost use Rattle.be_shape.specs.Shape.{lower, upper};
 ghost use Rattle.be_shape.specs.Ranges.{is_bounded, is_rising};
 ghost use Rattle.be_shape.specs.Search.{visited, visited_in_parts, visited_in_half, all_of, holds_value};
-ghost use Rattle.be_model.specs.Matching.{satisfied};
-ghost use Rattle.be_base.specs.Lists.{BeginsWith};
-ghost use Rattle.be_match.specs.Leaves.{AreCountableWith, FindsSome, KeepsRoom, cost_with};
+ghost use Rattle.be_index.specs.Puts.{Adds, Grows, hits_of};
+ghost use Rattle.be_match.specs.Leaves.{AreCountableWith, cost_with};
 
 use crate::counts::leaf_cost;
 use be_base::NoMemory;
-use be_model::{Cost, Found, Row, Schema};
+use be_index::Hits;
+use be_model::{Cost, Row, Schema};
 use be_shape::{Leaf, Node, NodeRange, Part, Sight, lower_range, upper_range, whole_range};
 use std::sync::Arc;
 
 // Appends what the event satisfies in a node and in all below it.
 #[cycle(searches)]
-pub(crate) fn search_node(
+pub(crate) fn search_node<C: Hits>(
     n: &Node,
     s: &Schema,
     e: &Sight,
     range: NodeRange,
-    found: &mut Found,
+    found: &mut C,
     cost: &mut Cost,
 ) -> Result<(), NoMemory>
     requires bounded { is_bounded range ≡ true }
     requires rising { is_rising range ≡ true }
     requires countable { AreCountableWith cost.old (visited s.now e.now range (plain n.now)) }
-    ensures put { OnOk result (found.new.rows ≡ found.old.rows ++ satisfied e.now (all_of (visited s.now e.now range (plain n.now)))) }
-    ensures refused { OnErr result (FindsSome e.now (all_of (visited s.now e.now range (plain n.now)))) }
+    ensures put { OnOk result (Adds (C.held found.old) (C.held found.new) (hits_of C.item_of e.now (all_of (visited s.now e.now range (plain n.now))))) }
+    ensures refused { OnErr result ((C.held found.old).sure < length (hits_of C.item_of e.now (all_of (visited s.now e.now range (plain n.now))))) }
     ensures cost { OnOk result (cost.new ≡ cost_with cost.old (visited s.now e.now range (plain n.now))) }
-    ensures front { BeginsWith found.new.rows found.old.rows }
-    ensures room { KeepsRoom found.old found.new }
+    ensures grown { Grows (C.held found.old) (C.held found.new) }
 {
     *cost = cost.plus(leaf_cost(&n.leaf));
     search_leaf(&n.leaf, e, found)?;
@@ -54,19 +53,18 @@ pub(crate) fn search_node(
 }
 
 #[cycle(searches)]
-fn search_parts(
+fn search_parts<C: Hits>(
     parts: &[Part],
     s: &Schema,
     e: &Sight,
-    found: &mut Found,
+    found: &mut C,
     cost: &mut Cost,
 ) -> Result<(), NoMemory>
     requires countable { AreCountableWith cost.old (visited_in_parts s.now e.now (parts_as parts.now)) }
-    ensures put { OnOk result (found.new.rows ≡ found.old.rows ++ satisfied e.now (all_of (visited_in_parts s.now e.now (parts_as parts.now)))) }
-    ensures refused { OnErr result (FindsSome e.now (all_of (visited_in_parts s.now e.now (parts_as parts.now)))) }
+    ensures put { OnOk result (Adds (C.held found.old) (C.held found.new) (hits_of C.item_of e.now (all_of (visited_in_parts s.now e.now (parts_as parts.now))))) }
+    ensures refused { OnErr result ((C.held found.old).sure < length (hits_of C.item_of e.now (all_of (visited_in_parts s.now e.now (parts_as parts.now))))) }
     ensures cost { OnOk result (cost.new ≡ cost_with cost.old (visited_in_parts s.now e.now (parts_as parts.now))) }
-    ensures front { BeginsWith found.new.rows found.old.rows }
-    ensures room { KeepsRoom found.old found.new }
+    ensures grown { Grows (C.held found.old) (C.held found.new) }
 {
     for part in parts {
         search_part(part, s, e, found, cost)?;
@@ -75,19 +73,18 @@ fn search_parts(
 }
 
 #[cycle(searches)]
-fn search_part(
+fn search_part<C: Hits>(
     part: &Part,
     s: &Schema,
     e: &Sight,
-    found: &mut Found,
+    found: &mut C,
     cost: &mut Cost,
 ) -> Result<(), NoMemory>
     requires countable { AreCountableWith cost.old (visited_in_parts s.now e.now (parts_of (part_as part.now ∷ []))) }
-    ensures put { OnOk result (found.new.rows ≡ found.old.rows ++ satisfied e.now (all_of (visited_in_parts s.now e.now (parts_of (part_as part.now ∷ []))))) }
-    ensures refused { OnErr result (FindsSome e.now (all_of (visited_in_parts s.now e.now (parts_of (part_as part.now ∷ []))))) }
+    ensures put { OnOk result (Adds (C.held found.old) (C.held found.new) (hits_of C.item_of e.now (all_of (visited_in_parts s.now e.now (parts_of (part_as part.now ∷ [])))))) }
+    ensures refused { OnErr result ((C.held found.old).sure < length (hits_of C.item_of e.now (all_of (visited_in_parts s.now e.now (parts_of (part_as part.now ∷ [])))))) }
     ensures cost { OnOk result (cost.new ≡ cost_with cost.old (visited_in_parts s.now e.now (parts_of (part_as part.now ∷ [])))) }
-    ensures front { BeginsWith found.new.rows found.old.rows }
-    ensures room { KeepsRoom found.old found.new }
+    ensures grown { Grows (C.held found.old) (C.held found.new) }
 {
     if e.assigns(part.attr) {
         search_node(&part.root, s, e, whole_range(s, part.attr), found, cost)
@@ -98,23 +95,22 @@ fn search_part(
 
 // A half of this range, which holds a value of the event.
 #[cycle(searches)]
-fn search_half(
+fn search_half<C: Hits>(
     half: &Option<Box<Node>>,
     s: &Schema,
     e: &Sight,
     range: NodeRange,
-    found: &mut Found,
+    found: &mut C,
     cost: &mut Cost,
 ) -> Result<(), NoMemory>
     requires bounded { is_bounded range ≡ true }
     requires rising { is_rising range ≡ true }
     requires holds { holds_value e.now range ≡ true }
     requires countable { AreCountableWith cost.old (visited_in_half s.now e.now range (half_as half.now)) }
-    ensures put { OnOk result (found.new.rows ≡ found.old.rows ++ satisfied e.now (all_of (visited_in_half s.now e.now range (half_as half.now)))) }
-    ensures refused { OnErr result (FindsSome e.now (all_of (visited_in_half s.now e.now range (half_as half.now)))) }
+    ensures put { OnOk result (Adds (C.held found.old) (C.held found.new) (hits_of C.item_of e.now (all_of (visited_in_half s.now e.now range (half_as half.now))))) }
+    ensures refused { OnErr result ((C.held found.old).sure < length (hits_of C.item_of e.now (all_of (visited_in_half s.now e.now range (half_as half.now))))) }
     ensures cost { OnOk result (cost.new ≡ cost_with cost.old (visited_in_half s.now e.now range (half_as half.now))) }
-    ensures front { BeginsWith found.new.rows found.old.rows }
-    ensures room { KeepsRoom found.old found.new }
+    ensures grown { Grows (C.held found.old) (C.held found.new) }
 {
     match half {
         Some(n) => search_node(n, s, e, range, found, cost),
@@ -157,11 +153,10 @@ fn chosen_range(in_low: bool, range: NodeRange) -> NodeRange
 }
 
 // Appends the rows of a leaf that the event satisfies.
-fn search_leaf(leaf: &Leaf, e: &Sight, found: &mut Found) -> Result<(), NoMemory>
-    ensures put { OnOk result (found.new.rows ≡ found.old.rows ++ satisfied e.now leaf.now) }
-    ensures refused { OnErr result (FindsSome e.now leaf.now) }
-    ensures front { BeginsWith found.new.rows found.old.rows }
-    ensures room { KeepsRoom found.old found.new }
+fn search_leaf<C: Hits>(leaf: &Leaf, e: &Sight, found: &mut C) -> Result<(), NoMemory>
+    ensures put { OnOk result (Adds (C.held found.old) (C.held found.new) (hits_of C.item_of e.now leaf.now)) }
+    ensures refused { OnErr result ((C.held found.old).sure < length (hits_of C.item_of e.now leaf.now)) }
+    ensures grown { Grows (C.held found.old) (C.held found.new) }
 {
     for place in 0..leaf.len() {
         test(leaf, place, leaf.row(place), e, found)?;
@@ -171,22 +166,20 @@ fn search_leaf(leaf: &Leaf, e: &Sight, found: &mut Found) -> Result<(), NoMemory
 
 // Appends the row at a place where the event satisfies it.
 #[tactic(auto, using(std::proofs::lemmas::Option::slice_get_within))]
-fn test(
+fn test<C: Hits>(
     leaf: &Leaf,
     place: usize,
     row: &Arc<Row>,
     e: &Sight,
-    found: &mut Found,
+    found: &mut C,
 ) -> Result<(), NoMemory>
     requires { slice_get leaf.now place ≡ Some (arc_value row.now) }
-    ensures put { OnOk result (found.new.rows ≡ found.old.rows ++ satisfied e.now (arc_value row.now ∷ [])) }
-    ensures refused { OnErr result (FindsSome e.now (arc_value row.now ∷ [])) }
-    ensures front { BeginsWith found.new.rows found.old.rows }
-    ensures room { KeepsRoom found.old found.new }
+    ensures put { OnOk result (Adds (C.held found.old) (C.held found.new) (hits_of C.item_of e.now (arc_value row.now ∷ []))) }
+    ensures refused { OnErr result ((C.held found.old).sure < length (hits_of C.item_of e.now (arc_value row.now ∷ []))) }
+    ensures grown { Grows (C.held found.old) (C.held found.new) }
 {
     if leaf.is_met(place, e) {
-        found.reserve(1)?;
-        found.push_again(row)?;
+        found.put(row)?;
     }
     Ok(())
 }

@@ -1,9 +1,8 @@
 -- How many rows pass a test, row by row, and whether enough have some attribute.
 use Rattle.std.proofs.Common.{◌≡◌, ⊎_elim, ℕ, zero, suc, ◌+◌, ◌-◌, ◌<◌, ◌≤◌, leb, eqb, Bool, true, false, true≢false, not, cond, ◌||◌, List, [], ◌∷◌, length, take, drop, length-drop, slice_get, Some, refl, sym, ap, ◌∙◌, subst, arith}
 use Rattle.std.specs.List.{list_all, list_any, count_by}
-use Rattle.std.proofs.lemmas.Bool.{lt-leb, le-leb, and_parts, and_from, or_cases, or_left, or_right, eqb-true, not_from_false, false_from_ne_true}
+use Rattle.std.proofs.lemmas.Bool.{lt-leb, and_parts, and_from, or_cases, or_left, or_right, eqb-true, not_from_false, false_from_ne_true}
 use Rattle.std.proofs.lemmas.List.Sums.{count_by-le-length, sum_by-take-drop}
-use Rattle.std.proofs.lemmas.List.{take_all}
 use mathlib.Core.Logic.{dite}
 use native.Mathlib.Decide.{ℕ_discrete}
 use Rattle.be_base.specs.declared.names.AttrNo.{AttrNo}
@@ -35,10 +34,6 @@ too_many p rows i fails many in_rows h l =
     let both = sum_by-take-drop (λ row. cond (p row) 1 0) rows i in
     let rest = count_by-le-length p (drop i rows) in
     let left = length-drop i rows in lt-leb EARLY_ROWS (count_by p rows) (omega (arith, both, rest, left, many, in_rows, h, l))
-
-pub few_enough : (p : Row → Bool) (rows : List Row) (i fails : ℕ) → EARLY_ROWS ≤ length rows → length rows ≤ i → i ≤ length rows → Fail p rows i fails → fails ≤ length rows - EARLY_ROWS → leb EARLY_ROWS (count_by p rows) ≡ true
-few_enough p rows i fails many all in_rows h l =
-    let e = ap (count_by p) (take_all i rows all) in le-leb EARLY_ROWS (count_by p rows) (omega (arith, e, many, all, in_rows, h, l))
 
 -- one below a number
 pub had_below : (used : List AttrNo) (rows : List Row) (n m : ℕ) → n < m → is_had used rows (numbered n) ≡ true → any_is_had used rows m ≡ true

@@ -6,8 +6,14 @@ use Rattle.std.proofs.lemmas.Bool.Decides.{nat_tests}
 use Rattle.std.proofs.lemmas.List.Sums.{sum_by-cons, count_by-le-length}
 use Rattle.be_base.specs.declared.limits.TheConstants.{EARLY_ROWS}
 use Rattle.be_model.specs.declared.changes.Row.{Row}
-use Rattle.be_plan.specs.Splits.{few_fail}
 use Rattle.be_plan.proofs.Rows.{at_place}
+use Rattle.std.specs.Prelude.{◌==◌, if◌then◌else◌}
+
+-- at most so many rows fail the test
+abbrev pub few_fail : (Row → Bool) → ℕ → List Row → Bool
+few_fail test spare [] = true
+few_fail test spare (row ∷ rows) =
+    if test row then few_fail test spare rows else (if spare == 0 then false else few_fail test (spare - 1) rows)
 
 counted : (test : Row → Bool) (row : Row) (rows : List Row) → count_by test (row ∷ rows) ≡ cond (test row) 1 0 + count_by test rows
 counted test row rows = sum_by-cons (λ x. cond (test x) 1 0) row rows

@@ -1,11 +1,10 @@
 -- Where a node stands in its tree: at the root, and one step further.
-use Rattle.std.proofs.Common.{◌≡◌, ℕ, zero, suc, ◌-◌, ◌<◌, Bool, true, false, not, eqb, ltb, leb, length, get_or, take, length-append, ◌&&◌, ◌||◌, List, [], ◌∷◌, ◌++◌, Option, Some, None, option_and_then, refl, sym, ap, ◌∙◌, subst, arith}
+use Rattle.std.proofs.Common.{◌≡◌, ℕ, zero, suc, ◌-◌, ◌<◌, Bool, true, false, not, eqb, ltb, leb, length, get_or, ◌&&◌, ◌||◌, List, [], ◌∷◌, ◌++◌, Option, Some, None, option_and_then, refl, sym, ap, ◌∙◌, subst, arith}
 use Rattle.std.specs.List.{list_all, list_any, flat_map, AllByRecursion}
-use Rattle.std.proofs.Math.Seq.{take-append_seam}
 use Rattle.std.proofs.lemmas.Bool.{and_parts, and_from}
 use Rattle.be_model.specs.declared.changes.Row.{Row}
 use Rattle.be_model.specs.declared.paths.Hop.{Hop}
-use Rattle.be_model.specs.declared.paths.Hop.TheVariants.{Part, Low, High}
+use Rattle.be_model.specs.declared.paths.Hop.TheVariants.{Part}
 use Rattle.be_shape.specs.declared.nodes.Part.{Part as PartOf}
 use Rattle.be_model.specs.Schemas.{Attributes}
 use Rattle.be_model.specs.Rows.{id_of}
@@ -14,8 +13,7 @@ use Rattle.be_shape.specs.Plain.{Plain, node, rows_below, leaf_of, parts_under, 
 use Rattle.be_base.specs.declared.limits.TheConstants.{LEAF_ROWS, LOG_CHANGES}
 use Rattle.be_model.specs.Lies.{row_lies}
 use Rattle.be_model.specs.Forms.{is_conj}
-use Rattle.be_shape.specs.Spots.{CanLeave, used_above}
-use Rattle.be_shape.specs.Shape.{Known, known, nothing, everywhere, is_placed_at, may_stand, attrs_of, is_used, parts_fit, spans_inside, can_split, is_here, is_stuck}
+use Rattle.be_shape.specs.Shape.{Known, nothing, everywhere, is_placed_at, may_stand, attrs_of, is_used, parts_fit, spans_inside, can_split, is_here, is_stuck}
 use Rattle.be_model.specs.Forms.{attrs_rise}
 use Rattle.be_shape.specs.Paths.{child, walk}
 use Rattle.be_shape.specs.Children.{roots_of, children, known_below, is_open}
@@ -154,19 +152,3 @@ pub part_there : (n : Plain) (ps : List PartOf) (i : ℕ) (p : PartOf) → i < l
 part_there n [] i p l is h = absurd (omega arith)
 part_there n (r ∷ ps) zero p l is h = subst (λ (q : PartOf). child (Part (part_as q).0) n ≡ Some (part_as q).1) (sym is) h.0
 part_there n (r ∷ ps) (suc i) p l is h = part_there n ps i p (omega arith) is h.1
-
--- back up, what was known
-pub back_up : (s : Attributes) (hop : Hop) (k : Known) → known k.range (used_above hop (known_below s hop k).used) ≡ k
-back_up s (Part a) k = refl
-back_up s Low k = refl
-back_up s High k = refl
-
-pub can_leave : (s : Attributes) (hop : Hop) (k : Known) → CanLeave hop (known_below s hop k).used
-can_leave s (Part a) k = omega arith
-can_leave s Low k = tt
-can_leave s High k = tt
-
-pub path_back : (path : List Hop) (hop : Hop) → take (length (path ++ hop ∷ []) - 1) (path ++ hop ∷ []) ≡ path
-path_back path hop =
-    let n : length (path ++ hop ∷ []) - 1 ≡ length path = omega (arith, length-append path (hop ∷ [])) in
-    ap (λ m. take m (path ++ hop ∷ [])) n ∙ take-append_seam path (hop ∷ [])

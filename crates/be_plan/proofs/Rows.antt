@@ -6,9 +6,9 @@ use Rattle.std.proofs.lemmas.Option.{slice_get_within, get_or_from_slice_get}
 use Rattle.be_model.specs.declared.changes.Row.{Row}
 use Rattle.be_shape.specs.declared.nodes.Node.{Node}
 use Rattle.be_shape.specs.declared.nodes.Part.{Part}
-use Rattle.be_shape.specs.declared.nodes.Node.TheViews.{out-Node, out-Part}
+use Rattle.be_shape.specs.declared.nodes.Node.TheViews.{out-Node}
 use Rattle.be_shape.specs.Plain.{plain, part, part_as, parts_of, parts_as, half_as, rows_below, rows_in_parts, rows_in_half}
-use Rattle.be_shape.proofs.Plains.{plain_out, part_out}
+use Rattle.be_shape.proofs.Plains.{plain_out}
 use Rattle.be_shape.proofs.Lists.{all_front, all_back}
 
 pub rows_out : (n : Node) → rows_below (plain n) ≡ (out-Node n).leaf ++ rows_in_parts (parts_as (out-Node n).parts.items) ++ rows_in_half (half_as (out-Node n).low) ++ rows_in_half (half_as (out-Node n).high)
@@ -16,9 +16,6 @@ rows_out n = ap rows_below (plain_out n)
 
 pub parts_left : (ps : List Part) (i : ℕ) (p : Part) → i < length ps → p ≡ get_or ps i p → parts_as (drop i ps) ≡ part (part_as p).0 (part_as p).1 (parts_as (drop (i + 1) ps))
 parts_left ps i p l is = ap parts_as (drop_more ps i p l ∙ ap (λ q. q ∷ drop (i + 1) ps) (sym is))
-
-pub rows_of_part : (p : Part) → rows_in_parts (parts_of (part_as p ∷ [])) ≡ rows_below (plain (out-Part p).root.value)
-rows_of_part p = append-nil (rows_below (part_as p).1) ∙ ap (λ x. rows_below x.1) (part_out p)
 
 pub rows_left : (ps : List Part) (i : ℕ) (p : Part) → i < length ps → p ≡ get_or ps i p
     → rows_in_parts (parts_as (drop i ps)) ≡ rows_in_parts (parts_of (part_as p ∷ [])) ++ rows_in_parts (parts_as (drop (i + 1) ps))

@@ -8,7 +8,6 @@ use Rattle.be_model.specs.declared.changes.Row.{Row}
 use Rattle.be_model.specs.declared.paths.Hop.{Hop}
 use Rattle.be_model.specs.declared.paths.Hop.TheVariants.{Part as PartHop, Low, High}
 use Rattle.be_model.specs.declared.paths.Step.{Step}
-use Rattle.be_model.specs.declared.paths.Step.TheVariants.{Merge}
 use Rattle.be_model.specs.Schemas.{Attributes}
 use Rattle.be_shape.specs.declared.nodes.Part.{Part}
 use Rattle.be_shape.specs.Plain.{Plain, node, Parts, Half, part_as, parts_as}
@@ -58,10 +57,6 @@ module _ (s : Attributes) (alpha : ℕ) (root : Plain) where
       let l = nodes_in_half s (path ++ Low ∷ []) (in_low k) low in
       let u = nodes_in_half s (path ++ High ∷ []) (in_high k) high in
       h ∙ ap (after u) (g ∙ ap (after l) f ∙ sym (best_append p l b1)) ∙ sym (best_append (p ++ l) u b1) ∙ ap (after (p ++ l ++ u)) e
-
-  -- a child, after the look at it as one to be merged
-  pub child_step : (path : List Hop) (k : Known) (n : Plain) (b c : Best) → c ≡ better 0 (first s root (Merge path ∷ [])) b → below_after s alpha root (nodes_from s path k n) c ≡ best_after s alpha root (nodes_from s path k n) b
-  child_step path k (node rows parts low high) b c e = ap (below_after s alpha root (nodes_from s path k (node rows parts low high))) e
 
   -- where no kind is looked for any more
   others_shut_here : (x : NodeAt) (b : Best) → b.sought ≡ 0 → after_others s alpha root x b ≡ b

@@ -29,10 +29,6 @@ or_false : (b : Bool) → (b || false) ≡ b
 or_false true = refl
 or_false false = refl
 
-and_false : (b : Bool) → (b && false) ≡ false
-and_false true = refl
-and_false false = refl
-
 rises_lower : (n m : ℕ) (xs : List AttrNo) → n ≤ m → RisesFrom m xs → RisesFrom n xs
 rises_lower n m [] l h = tt
 rises_lower n m (a ∷ xs) l h = let k = h.0 in (omega arith, h.1)

@@ -1,12 +1,8 @@
 -- What a row weighs by its share of a domain.
-use Rattle.std.proofs.Common.{◌≡◌, ℕ, ◌+◌, ◌-◌, ◌*◌, ◌/◌, ◌<◌, ◌≤◌, ltb, Bool, true, false, refl, subst, arith}
-use Rattle.std.proofs.Math.Nat.{div-le_of_le-mul, div-lt_iff_lt-mul, mul-le-mul_left}
+use Rattle.std.proofs.Common.{◌≡◌, ℕ, ◌+◌, ◌-◌, ◌*◌, ◌/◌, ◌<◌, ◌≤◌, ltb, Bool, true, false, refl, arith}
+use Rattle.std.proofs.Math.Nat.{div-lt_iff_lt-mul}
 use Rattle.std.proofs.lemmas.Bool.{ltb-true, ltb-false}
 use Rattle.be_base.specs.declared.limits.TheConstants.{SHIFT_GAIN}
-
--- a part of a domain is at most 1000 thousandths of it
-pub most_share : (w d : ℕ) → w ≤ d → 1000 * w / d ≤ 1000
-most_share w d l = div-le_of_le-mul d (let e : 1000 * d ≡ d * 1000 = omega arith in subst (λ n. 1000 * w ≤ n) e (mul-le-mul_left 1000 l))
 
 -- 501 thousandths are too many for a row to weigh 500
 pub too_wide : (w d : ℕ) → 0 < d → (SHIFT_GAIN + 1) * d ≤ 1000 * w → 1000 - 1000 * w / d < SHIFT_GAIN

@@ -11,6 +11,7 @@ use Rattle.be_model.specs.declared.paths.Hop.{Hop}
 use Rattle.be_model.specs.declared.paths.Hop.TheVariants.{Part, Low, High}
 use Rattle.be_model.specs.Schemas.{Attributes}
 use Rattle.be_model.specs.Domains.{width}
+use Rattle.be_score.specs.declared.units.TheConstants.{FULL_WEIGHT}
 use Rattle.be_shape.specs.Plain.{Plain, Parts, no_part, part, rows_below}
 use Rattle.be_shape.specs.Shape.{NodeRange, Known, known, whole, is_used}
 use Rattle.be_shape.specs.Paths.{range_below}
@@ -48,10 +49,10 @@ first_shift s attrs no_part = None
 first_shift s attrs (part a root more) =
     option_or (option_map (λ (g : Id × AttrNo). (a, g.0, g.1)) (least_gain s attrs a (rows_below root))) (first_shift s attrs more)
 
--- no domain of these attributes has more than 1000 values, so that no row weighs more than 999 on one
+-- no domain of these attributes has more values than weights have steps, so that no row has the full weight on one
 abbrev pub is_small : NodeRange → Bool
 is_small None = true
-is_small (Some r) = nat_le (width r.1) 1000
+is_small (Some r) = nat_le (width r.1) FULL_WEIGHT
 
 abbrev pub are_small : Attributes → List AttrNo → Bool
 are_small s attrs = list_all (λ a. is_small (whole s a)) attrs
@@ -63,7 +64,7 @@ least_share false = SHIFT_GAIN
 
 -- so many values are fewer thousandths of the domain than that
 abbrev pub is_light : Bool → ℕ → ℕ → Bool
-is_light small w d = nat_lt (1000 * w) (least_share small * d)
+is_light small w d = nat_lt (FULL_WEIGHT * w) (least_share small * d)
 
 -- the range is on the same attribute as the whole, and light in it
 abbrev pub is_narrow : Bool → NodeRange → NodeRange → Bool

@@ -1,5 +1,5 @@
 -- The first splits at a node.
-use Rattle.std.specs.Prelude.{ℕ, zero, suc, ◌-◌, ◌==◌, ◌&&◌, ◌||◌, Bool, true, false, not, List, [], ◌∷◌, nat_le, count_by, Option, Some, None, if◌then◌else◌}
+use Rattle.std.specs.Prelude.{ℕ, zero, suc, ◌&&◌, ◌||◌, Bool, false, not, List, nat_le, count_by, Option, Some, None, if◌then◌else◌}
 use Rattle.be_base.specs.declared.names.AttrNo.{AttrNo}
 use Rattle.be_base.specs.declared.limits.TheConstants.{EARLY_ROWS}
 use Rattle.be_model.specs.declared.changes.Row.{Row}
@@ -25,12 +25,6 @@ abbrev pub any_is_had : List AttrNo → List Row → ℕ → Bool
 any_is_had used rows zero = false
 any_is_had used rows (suc n) =
     any_is_had used rows n || is_had used rows (numbered n)
-
--- at most so many rows fail the test
-abbrev pub few_fail : (Row → Bool) → ℕ → List Row → Bool
-few_fail test spare [] = true
-few_fail test spare (row ∷ rows) =
-    if test row then few_fail test spare rows else (if spare == 0 then false else few_fail test (spare - 1) rows)
 
 abbrev pub where_enough : Attributes → NodeRange → List Row → Option AttrNo → Option AttrNo
 where_enough s r rows None = None

@@ -5,6 +5,7 @@ ghost use Rattle.std.specs.List.{list_any};
 ghost use Rattle.be_model.specs.declared.preds.Pred.{Pred};
 ghost use Rattle.be_model.specs.Schemas.{numbered};
 ghost use Rattle.be_score.specs.Scores.{weight};
+ghost use Rattle.be_score.specs.declared.units.TheConstants.{FULL_WEIGHT};
 ghost use Rattle.be_shape.specs.Listed.{any_listed};
 ghost use Rattle.be_shape.specs.Plain.{parts_as};
 ghost use Rattle.be_shape.specs.Shape.{attrs_of, is_used, may_stand, whole};
@@ -13,14 +14,15 @@ ghost use Rattle.be_plan.specs.Shifts.{gains_among, any_gains, is_small, are_sma
 use crate::shares::{Share, is_gain, share_at, width_of};
 use be_base::AttrNo;
 use be_model::{Pred, Row, Schema};
+use be_score::FULL_WEIGHT;
 use be_shape::{Leaf, Part, RowAttrs, whole_range};
 
-// Whether the attribute's domain has at most 1000 values.
+// Whether the attribute's domain has at most as many values as weights have steps.
 fn is_small(s: &Schema, a: AttrNo) -> bool
     ensures { result ≡ is_small (whole s.now a) }
 {
     match whole_range(s, a) {
-        Some((_, domain)) => width_of(domain) <= 1000,
+        Some((_, domain)) => width_of(domain) <= FULL_WEIGHT,
         None => true,
     }
 }
@@ -61,7 +63,7 @@ pub(crate) struct Mover<'a> {
     pub(crate) parts: &'a [Part],
     pub(crate) ghost at: { slice_get leaf.now place ≡ Some row.now },
     pub(crate) ghost may: { may_stand s.now row.now ≡ true },
-    pub(crate) ghost weighs: { weight s.now from row.now ≡ 1000 - 1000 * own.values / own.domain },
+    pub(crate) ghost weighs: { weight s.now from row.now ≡ FULL_WEIGHT - FULL_WEIGHT * own.values / own.domain },
 }
 
 // Whether there is a part of the attribute, and the row weighs enough more there.

@@ -7,9 +7,11 @@ ghost use Rattle.be_model.specs.Bounds.{IsWithinBound};
 ghost use Rattle.be_model.specs.ByIds.{rows_of, session_rows};
 ghost use Rattle.be_model.specs.Lies.{event_lies};
 ghost use Rattle.be_change.specs.Entries.{entries_in};
-ghost use Rattle.be_change.specs.History.{live, hit_rows};
+ghost use Rattle.be_change.specs.History.{live, hit_rows, hits};
 ghost use Rattle.be_change.specs.Sound.{Sound};
 ghost use Rattle.be_change.specs.Walk.{live_rows, tail_from};
+ghost use Rattle.be_index.specs.Ids.{ids_of};
+ghost use Rattle.be_index.specs.Names.{spaced};
 ghost use Rattle.be_published.specs.Reads.{Meets, IsReadAt, Refuses, after_plan, Learns};
 ghost use Rattle.be_published.specs.States.{knowing, one_shut, one_read, new_glass};
 
@@ -20,6 +22,7 @@ use crate::sheet::Sheet;
 use crate::told::Told;
 use crate::trail::Trail;
 use be_base::{NoMemory, NoRead, SessionNo};
+use be_index::Ids;
 use be_model::{Change, Cost, Event, Found, Step};
 use crossbeam_utils::rule::Unruled;
 use left_right::reader::{Reader, Reading};
@@ -120,6 +123,24 @@ impl<T: Sheet<J>, J: Naming> Glass<T, J> {
         };
         let done = entered.get().find(event, found);
         self.answer(entered, done)
+    }
+
+    /// Finds the ids of the live rows that the event satisfies, by rising id, and their names, each after a space, by one search, and
+    /// says in which first changes.
+    pub fn hits(&mut self, event: &Event, ids: &mut Ids, names: &mut Vec<u8>) -> Result<u64, NoRead>
+        requires lies { event_lies J.schema event.now ≡ true }
+        ensures read { IfOk result (IsReadAt self.old self.new) }
+        ensures ids { OnOk result (ids.new.ids ≡ ids_of (hit_rows self.new.known event.now)) }
+        ensures names { OnOk result (names.new.items ≡ spaced (hits self.new.known event.now)) }
+        ensures refused { IfErr result (Refuses self.old self.new) }
+        ensures none { OnErr result (names.new.items ≡ []) }
+    {
+        names.clear();
+        let Some(entered) = self.enter() else {
+            return Err(self.refuse());
+        };
+        let done = entered.get().hits(event, ids, names);
+        Ok(self.answer(entered, done)?.0)
     }
 
     /// What a search for the event costs. It takes no memory.

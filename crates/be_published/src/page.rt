@@ -9,7 +9,7 @@ use crate::notes::Note;
 use crate::sheet::Sheet;
 use be_base::{NoMemory, SessionNo};
 use be_copy::{Copy2, Edit};
-use be_index::Index;
+use be_index::{Ids, Index};
 use be_model::{Change, Cost, Event, Found, Step};
 use left_right::Absorb;
 use std::alloc::{AllocError, Global};
@@ -110,6 +110,10 @@ impl<I: Index, J: Naming> Sheet<J> for Page<I, J> {
 
     fn find(&self, event: &Event, found: &mut Found) -> Result<Cost, NoMemory> {
         self.copy.find(event, found)
+    }
+
+    fn hits(&self, event: &Event, ids: &mut Ids, names: &mut Vec<u8>) -> Result<Cost, NoMemory> {
+        self.copy.hits(event, ids, names)
     }
 
     fn cost(&self, event: &Event) -> Cost {

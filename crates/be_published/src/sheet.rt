@@ -5,14 +5,17 @@ ghost use Rattle.be_model.specs.Bounds.{IsWithinBound};
 ghost use Rattle.be_model.specs.ByIds.{rows_of, session_rows};
 ghost use Rattle.be_model.specs.Lies.{event_lies};
 ghost use Rattle.be_change.specs.Entries.{entries_in};
-ghost use Rattle.be_change.specs.History.{Entry, live, hit_rows};
+ghost use Rattle.be_change.specs.History.{Entry, live, hit_rows, hits};
 ghost use Rattle.be_change.specs.Walk.{live_rows, tail_from};
+ghost use Rattle.be_index.specs.Ids.{ids_of};
+ghost use Rattle.be_index.specs.Names.{spaced};
 ghost use Rattle.be_published.specs.Notes.{Noted, noted};
 
 use crate::front::Front;
 use crate::history::Naming;
 use crate::notes::Note;
 use be_base::{NoMemory, SessionNo};
+use be_index::Ids;
 use be_model::{Change, Cost, Event, Found, Step};
 use left_right::Absorb;
 use std::sync::Arc;
@@ -32,6 +35,14 @@ pub trait Sheet<J: Naming>: Absorb<Note<J>> + Drop {
         ensures found { OnOk result (found.new.rows ≡ rows_of (hit_rows (list self.now) event.now)) }
         ensures bound { IfOk result (IsWithinBound J.schema event.now (live_rows (list self.now))) }
         ensures none { OnErr result (found.new.rows ≡ []) };
+
+    /// Finds the ids of the live rows that the event satisfies, by rising id, and their names, each after a space, by one search.
+    fn hits(&self, event: &Event, ids: &mut Ids, names: &mut Vec<u8>) -> Result<Cost, NoMemory>
+        requires { event_lies J.schema event.now ≡ true }
+        ensures ids { OnOk result (ids.new.ids ≡ ids_of (hit_rows (list self.now) event.now)) }
+        ensures names { OnOk result (names.new.items ≡ spaced (hits (list self.now) event.now)) }
+        ensures bound { IfOk result (IsWithinBound J.schema event.now (live_rows (list self.now))) }
+        ensures none { OnErr result (names.new.items ≡ []) };
 
     fn cost(&self, event: &Event) -> Cost
         requires { event_lies J.schema event.now ≡ true }

@@ -5,7 +5,7 @@ use Rattle.be_model.specs.declared.changes.Row.{Row}
 use Rattle.be_model.specs.Rows.{has}
 use Rattle.be_model.specs.Schemas.{Attributes}
 use Rattle.be_shape.specs.Plain.{Parts, Half, node}
-use Rattle.be_shape.specs.Shape.{NodeRange, known, lower, upper, in_low, fits_half, attrs_of}
+use Rattle.be_shape.specs.Shape.{NodeRange, known, lower, upper, fits_half, attrs_of}
 use Rattle.be_shape.proofs.Levels.{passes_is}
 use Rattle.be_remove.specs.Taken.{has_way}
 
@@ -18,9 +18,6 @@ turned false true true = refl
 turned false true false = refl
 turned false false true = refl
 turned false false false = refl
-
-same_range : (s : Attributes) (r : NodeRange) (h : Half) (row : Row) → fits_half s (known (lower r) []) h row ≡ fits_half s (in_low (known r [])) h row
-same_range s r h row = refl
 
 pub way_is : (s : Attributes) (r : NodeRange) (rows : List Row) (parts : Parts) (low high : Half) (row : Row)
     → (fits_half s (known (lower r) []) low row || fits_half s (known (upper r) []) high row || list_any (λ a. has a row) (attrs_of parts)) ≡ has_way s r (node rows parts low high) row

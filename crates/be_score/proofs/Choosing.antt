@@ -14,7 +14,8 @@ use Rattle.be_model.specs.Schemas.{Attributes, numbered}
 use Rattle.be_model.specs.Lies.{row_lies}
 use Rattle.be_model.specs.Rows.{has}
 use Rattle.be_score.specs.Scores.{score, without_attr, is_used, IsCandidate, IsPick}
-use Rattle.be_score.specs.Tallies.{IsTally, IsBestBelow, better_of}
+use Rattle.be_score.specs.Tallies.{IsTally, better_of}
+use Rattle.be_score.proofs.BestSoFar.{IsBestBelow}
 use Rattle.be_score.proofs.Gains.{with_without, gain-bound, some_with, with_some}
 use Rattle.be_score.proofs.Widths.{attr-below}
 

@@ -1,6 +1,6 @@
+pub mod BestSoFar
 pub mod Gains
 pub mod Widths
-pub mod Adding
 pub mod Choosing
 pub mod Tallying
 pub mod Examples

@@ -10,7 +10,8 @@ use Rattle.be_model.specs.Schemas.{Attributes, numbered}
 use Rattle.be_model.specs.Lies.{row_lies}
 use Rattle.be_model.specs.Rows.{has}
 use Rattle.be_score.specs.Scores.{score, is_used, IsCandidate, IsPick}
-use Rattle.be_score.specs.Tallies.{IsBestBelow, better_of}
+use Rattle.be_score.specs.Tallies.{better_of}
+use Rattle.be_score.proofs.BestSoFar.{IsBestBelow}
 use Rattle.be_score.specs.Picks.{is_candidate, best_of_first, pick}
 use Rattle.be_score.proofs.Choosing.{no_next, next, chosen_pick, chosen_none}
 

@@ -1,5 +1,5 @@
 -- The span of a row that lies in the schema is a part of the domain.
-use Rattle.std.proofs.Common.{◌≡◌, ℕ, ◌≤ℤ◌, ◌*◌, ◌/◌, ◌<◌, ◌≤◌, List, length, true, refl, sym, ap, ◌∙◌, subst, arith}
+use Rattle.std.proofs.Common.{◌≡◌, ◌≤ℤ◌, ◌*◌, ◌/◌, ◌<◌, ◌≤◌, List, length, true, refl, sym, ◌∙◌, subst, arith}
 use Rattle.std.specs.Prelude.{Option, Some, None}
 use Rattle.std.specs.List.{list_any}
 use Rattle.std.proofs.Math.Nat.{div-le_of_le-mul, mul-le-mul_left}
@@ -8,14 +8,12 @@ use Rattle.be_base.specs.declared.names.AttrNo.{AttrNo}
 use Rattle.be_model.specs.Schemas.{Attributes, range_of}
 use Rattle.be_model.specs.Domains.{Range, width}
 use Rattle.std.proofs.Common.{true≢false}
-use Rattle.std.proofs.lemmas.List.Sums.{AllPass-from_list_all}
-use lib.ListN.{get_or}
 use Rattle.be_model.specs.Laws.{IsPart}
 use Rattle.be_model.specs.declared.preds.Pred.{Pred}
 use Rattle.be_model.specs.Hulls.{is_on}
-use Rattle.be_model.specs.Lies.{pred_lies, conj_lies}
+use Rattle.be_model.specs.Lies.{conj_lies}
 use Rattle.be_model.proofs.Spans.{none_outside}
-use Rattle.be_model.proofs.InSchema.{range_below, range_of_pred}
+use Rattle.be_model.proofs.InSchema.{range_below}
 
 pub width-part : (d r : Range) → d.0 ≤ℤ r.0 → r.0 ≤ℤ r.1 → r.1 ≤ℤ d.1 → width r ≤ width d
 width-part d r low rising high = omega (arith, ints)
@@ -30,9 +28,3 @@ attr-below s a conj lies on = by_range (range_of s a) refl
     by_range : (o : Option Range) → range_of s a ≡ o → a.0 < length s
     by_range None e = absurd (true≢false (sym on ∙ none_outside s a conj lies e))
     by_range (Some r) e = range_below s a r e
-
-pub pred-below : (s : Attributes) (conj : List Pred) (place : ℕ) (p : Pred) → conj_lies s conj ≡ true → place < length conj → p ≡ get_or conj place p → p.attr.0 < length s
-pred-below s conj place p lies less is =
-    let one = AllPass-from_list_all (pred_lies s) conj lies place p less in
-    let r = range_of_pred s p (ap (pred_lies s) is ∙ one) in
-    range_below s p.attr r.0 r.1

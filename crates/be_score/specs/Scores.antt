@@ -7,12 +7,13 @@ use Rattle.be_model.specs.Domains.{Range, width}
 use Rattle.be_model.specs.Schemas.{Attributes, range_of}
 use Rattle.be_model.specs.Hulls.{span_in}
 use Rattle.be_model.specs.Rows.{has}
+use Rattle.be_score.specs.declared.units.TheConstants.{FULL_WEIGHT, FULL_ALPHA}
 
--- 1000, less the thousandths of the domain that the span takes. A span lies in its domain, so that they are at most 1000
+-- the full weight, less the span's share of the domain. A span lies in its domain, so that the share is at most the full weight
 abbrev pub weight_in : Option Range → Option Range → ℕ
 weight_in None span = 0
 weight_in (Some domain) None = 0
-weight_in (Some domain) (Some span) = 1000 - 1000 * width span / width domain
+weight_in (Some domain) (Some span) = FULL_WEIGHT - FULL_WEIGHT * width span / width domain
 
 -- how much a row is narrowed by its predicates on the attribute
 abbrev pub weight : Attributes → AttrNo → Row → ℕ
@@ -29,12 +30,12 @@ without_attr a rows = filter (λ (row : Row). not (has a row)) rows
 abbrev pub gain : Attributes → List Row → AttrNo → ℕ
 gain s rows a = sum_by (weight s a) (with_attr a rows)
 
--- 1000 for each row that has it not
+-- the full weight for each row that has it not
 abbrev pub loss : List Row → AttrNo → ℕ
-loss rows a = 1000 * length (without_attr a rows)
+loss rows a = FULL_WEIGHT * length (without_attr a rows)
 
 abbrev pub score : Attributes → List Row → ℕ → AttrNo → ℤ
-score s rows alpha a = (pos 100 -ℤ pos alpha) *ℤ pos (gain s rows a) -ℤ pos alpha *ℤ pos (loss rows a)
+score s rows alpha a = (pos FULL_ALPHA -ℤ pos alpha) *ℤ pos (gain s rows a) -ℤ pos alpha *ℤ pos (loss rows a)
 
 abbrev pub is_used : List AttrNo → AttrNo → Bool
 is_used used a = list_any (λ (u : AttrNo). u.0 == a.0) used

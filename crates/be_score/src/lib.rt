@@ -7,6 +7,8 @@
 
 mod scores;
 mod tallies;
+mod units;
 
 pub use scores::pick_attr;
 pub use tallies::weight;
+pub use units::{FULL_ALPHA, FULL_WEIGHT};

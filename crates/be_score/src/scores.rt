@@ -4,11 +4,13 @@ ghost use Rattle.std.specs.Prelude.{◌≡◌, ◌↔◌, ◌≤◌, ◌*◌, �
 ghost use Rattle.std.specs.List.{list_all};
 ghost use Rattle.be_model.specs.Lies.{row_lies};
 ghost use Rattle.be_base.specs.declared.names.AttrNo.{AttrNo};
+ghost use Rattle.be_score.specs.declared.units.TheConstants.{FULL_WEIGHT, FULL_ALPHA};
 ghost use Rattle.be_score.specs.Scores.{IsCandidate, IsPick, is_used};
 ghost use Rattle.be_score.specs.Picks.{pick};
 ghost use Rattle.be_score.specs.Tallies.{IsTally, better_of};
 
 use crate::tallies::Tally;
+use crate::units::{FULL_ALPHA, FULL_WEIGHT};
 use be_base::AttrNo;
 use be_model::{RowList, Schema};
 
@@ -61,17 +63,18 @@ fn is_used(used: &[AttrNo], a: AttrNo) -> bool
 
 // The score of a gain where so many rows haven't the attribute.
 fn score_of(gain: u128, without: u64, alpha: u8) -> i128
-    requires { gain ≤ 1000 * 2 ^ 64 }
-    ensures { result ≡ (pos 100 -ℤ pos alpha) *ℤ pos gain -ℤ pos alpha *ℤ pos (1000 * without) }
+    requires { gain ≤ FULL_WEIGHT * 2 ^ 64 }
+    ensures { result ≡ (pos FULL_ALPHA -ℤ pos alpha) *ℤ pos gain -ℤ pos alpha *ℤ pos (FULL_WEIGHT * without) }
 {
-    product(100 - alpha as i64, gain) - product(alpha as i64, 1000 * without as u128)
+    let lost = FULL_WEIGHT as u128 * without as u128;
+    product(FULL_ALPHA as i64 - alpha as i64, gain) - product(alpha as i64, lost)
 }
 
 fn product(x: i64, y: u128) -> i128
     requires factor { unsigned_abs x ≤ 255 }
-    requires sum { y ≤ 1000 * 2 ^ 64 }
+    requires sum { y ≤ FULL_WEIGHT * 2 ^ 64 }
     ensures exact { result ≡ x *ℤ pos y }
-    ensures bounded { unsigned_abs result ≤ 255 * (1000 * 2 ^ 64) }
+    ensures bounded { unsigned_abs result ≤ 255 * (FULL_WEIGHT * 2 ^ 64) }
 {
     x as i128 * y as i128
 }

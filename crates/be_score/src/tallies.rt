@@ -1,20 +1,22 @@
 //! What rows give each attribute.
 
-ghost use Rattle.std.specs.Prelude.{◌≡◌, ◌*◌, ◌/◌, ◌-◌, ◌<◌, ◌≤◌, ◌≤ℤ◌, ◌^◌, pos, negsuc, true, []};
+ghost use Rattle.std.specs.Prelude.{◌≡◌, ◌*◌, ◌/◌, ◌-◌, ◌<◌, ◌≤◌, ◌≤ℤ◌, ◌^◌, pos, true, []};
 ghost use Rattle.std.specs.List.{list_any};
-ghost use Rattle.be_base.specs.declared.limits.TheConstants.{ATTRIBUTES};
+ghost use Rattle.be_base.specs.declared.limits.TheConstants.{ATTRIBUTES, FIRST_INT, LAST_INT};
 ghost use Rattle.be_model.specs.Domains.{width};
 ghost use Rattle.be_model.specs.Hulls.{is_on};
 ghost use Rattle.be_model.specs.Laws.{IsPart};
 ghost use Rattle.be_model.specs.Lies.{row_lies};
 ghost use Rattle.be_model.specs.Rows.{has};
+ghost use Rattle.be_score.specs.declared.units.TheConstants.{FULL_WEIGHT};
 ghost use Rattle.be_score.specs.Scores.{weight};
 ghost use Rattle.be_score.specs.Tallies.{Adds, AreZeros, AreBelow};
 
+use crate::units::FULL_WEIGHT;
 use be_base::{ATTRIBUTES, AttrNo};
 use be_model::{Pred, Row, Schema};
 
-/// How much a row is narrowed by its predicates on an attribute, of 1000: 1000 less the thousandths of the domain that
+/// How much a row is narrowed by its predicates on an attribute: the full weight, less the thousandths of the domain that
 /// the row's span takes. It takes no memory.
 pub fn weight(s: &Schema, row: &Row, a: AttrNo) -> i64
     requires lies { row_lies s.now row.now ≡ true }
@@ -29,12 +31,12 @@ fn weight_of(s: &Schema, row: &Row, a: AttrNo) -> u64
     requires lies { row_lies s.now row.now ≡ true }
     requires has { has a row.now ≡ true }
     ensures weight { result ≡ weight s.now a row.now }
-    ensures bounded { result ≤ 1000 }
+    ensures bounded { result ≤ FULL_WEIGHT }
 {
     // The predicates show the form of the condition, and the count that of the schema.
     let _ = row.conj.preds();
     match row.conj.span(s, a) {
-        Some(span) if a.0 < s.count() => 1000 - share(span, s.bounds(a)),
+        Some(span) if a.0 < s.count() => FULL_WEIGHT - share(span, s.bounds(a)),
         _ => unreachable!(),
     }
 }
@@ -42,22 +44,22 @@ fn weight_of(s: &Schema, row: &Row, a: AttrNo) -> u64
 // How many thousandths of the domain the span takes.
 fn share(span: (i64, i64), domain: (i64, i64)) -> u64
     requires part { IsPart domain span }
-    requires low { negsuc 2147483647 ≤ℤ domain.0 }
-    requires high { domain.1 ≤ℤ pos 2147483647 }
-    ensures share { result ≡ 1000 * width span / width domain }
-    ensures bounded { result ≤ 1000 }
+    requires low { FIRST_INT ≤ℤ domain.0 }
+    requires high { domain.1 ≤ℤ LAST_INT }
+    ensures share { result ≡ FULL_WEIGHT * width span / width domain }
+    ensures bounded { result ≤ FULL_WEIGHT }
 {
-    1000 * width_of(span) / width_of(domain)
+    FULL_WEIGHT * width_of(span) / width_of(domain)
 }
 
 // How many values a range has.
 fn width_of(range: (i64, i64)) -> u64
-    requires low { negsuc 2147483647 ≤ℤ range.0 }
+    requires low { FIRST_INT ≤ℤ range.0 }
     requires rising { range.0 ≤ℤ range.1 }
-    requires high { range.1 ≤ℤ pos 2147483647 }
+    requires high { range.1 ≤ℤ LAST_INT }
     ensures width { result ≡ width range }
     ensures some { 0 < result }
-    ensures few { result ≤ 4294967296 }
+    ensures few { result ≤ 2 ^ 32 }
 {
     (range.1 - range.0 + 1) as u64
 }

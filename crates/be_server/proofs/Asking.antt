@@ -7,9 +7,9 @@ use Rattle.be_io.specs.declared.faults.ShelfFault.TheVariants as shelf
 use Rattle.be_model.specs.declared.changes.Row.{Row}
 use Rattle.be_model.specs.Schemas.{Attributes}
 use Rattle.be_server.specs.Asked.{MayAsk, MayAskFirst, AsksInOrder, AsksBehind, AsksInTurn}
-use Rattle.be_server.specs.Drills.{AreScripts}
+use Rattle.be_server.specs.Drill.{AreScripts}
 use Rattle.be_server.specs.Files.{ToldFile, IsSchemaOf, AreRowsOf, run_names}
-use Rattle.be_server.proofs.DrillEnded.{same_told}
+use Rattle.be_server.proofs.DrillEnds.{same_told}
 
 -- a file was asked for, or nothing where memory ran out
 pub asks_file : {T : Type 0} (r : Result T ShelfFault) (old new : List Text) (name : Text) → Asks r old new name → MayAsk name old new

@@ -14,7 +14,7 @@ use Rattle.be_change.specs.History.{Entry, live, is_leave_of, placed_of, is_live
 use Rattle.be_change.specs.Made.{change_named}
 use Rattle.be_change.specs.Requests.{Request, subscribe, publish, costing}
 use Rattle.be_change.specs.Walk.{live_rows}
-use Rattle.be_transcript.specs.Readings.{reading}
+use Rattle.be_protocol.specs.Readings.{reading}
 use Rattle.be_board.specs.LocalCopy.{local_word}
 use Rattle.be_board.specs.Word.{own_in}
 use Rattle.be_workload.specs.Asked.{schema, asked_by_lines, name_of_sub, subscribing, publishing, IsOfSchema, AreRequests}

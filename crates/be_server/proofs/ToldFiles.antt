@@ -6,12 +6,12 @@ use Rattle.be_event.specs.SchemaTexts.{schema_of}
 use Rattle.be_io.specs.Shelf.{HoldsFile}
 use Rattle.be_model.specs.declared.changes.Row.{Row}
 use Rattle.be_model.specs.Schemas.{Attributes}
-use Rattle.be_table.specs.declared.faults.TableFault.TheVariants as table
-use Rattle.be_table.specs.Tables.{table_of}
+use Rattle.be_load_files.specs.declared.faults.TableFault.TheVariants as table
+use Rattle.be_load_files.specs.Tables.{table_of}
 use Rattle.be_server.specs.declared.status.Status.{Status}
 use Rattle.be_server.specs.Exact.{ToldAs, ToldLong, SchemaDecides, LoadDecides}
 use Rattle.be_server.specs.Files.{ToldFile, FileReads, FileIsLong}
-use Rattle.be_server.specs.Promise.{CommandState}
+use Rattle.be_server.specs.Outside.{Passage}
 
 -- what is told of a file
 pub told : (file : ToldFile) (text : List ℕ) (P : List ℕ → Type 0) → file ≡ Some (Some text) → HoldsFile file P → P text
@@ -47,15 +47,15 @@ long_stays file f none = gone file (λ x. FILE_BYTES < length x) none f
 pub same_schema : (file : ToldFile) (s t : Attributes) → FileReads schema_of file (Ok s) → ToldAs schema_of file (Ok t) → s ≡ t
 same_schema file s t f told_as = let e : Ok s ≡ Ok t = one_reading schema_of file (Ok s) (Ok t) f told_as in cc
 
-pub schema_good : (file : ToldFile) (s : Attributes) (before after : CommandState) (status : Status) → FileReads schema_of file (Ok s) → SchemaDecides file before after status
-schema_good file s before after status f = record {
+pub schema_good : (file : ToldFile) (s : Attributes) {L : Type 0} (p : Passage L) (status : Status) → FileReads schema_of file (Ok s) → SchemaDecides file p status
+schema_good file s p status f = record {
   bad = λ line kind t. let clash : Ok s ≡ Err (schema.Line line kind) = one_reading schema_of file (Ok s) (Err (schema.Line line kind)) f t in absurd cc;
   long = λ t. absurd (not_long schema_of file (Ok s) f t);
   missing = λ none. absurd (not_gone schema_of file (Ok s) f none);
 }
 
-pub load_good : (s : Attributes) (file : ToldFile) (rows : List Row) (before after : CommandState) (status : Status) → FileReads (table_of s) file (Ok rows) → LoadDecides s file before after status
-load_good s file rows before after status f = record {
+pub load_good : (s : Attributes) (file : ToldFile) (rows : List Row) {L : Type 0} (p : Passage L) (status : Status) → FileReads (table_of s) file (Ok rows) → LoadDecides s file p status
+load_good s file rows p status f = record {
   bad = λ line kind t. let clash : Ok rows ≡ Err (table.Line line kind) = one_reading (table_of s) file (Ok rows) (Err (table.Line line kind)) f t in absurd cc;
   long = λ t. absurd (not_long (table_of s) file (Ok rows) f t);
   missing = λ none. absurd (not_gone (table_of s) file (Ok rows) f none);

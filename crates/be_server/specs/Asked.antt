@@ -3,10 +3,11 @@ use Rattle.std.specs.Prelude.{◌≡◌, ◌++◌, ◌⊎◌, List, [], ◌∷�
 use Rattle.be_base.specs.Text.{Text}
 use Rattle.be_model.specs.declared.changes.Row.{Row}
 use Rattle.be_model.specs.Schemas.{Attributes}
-use Rattle.be_table.specs.Tables.{table_of}
-use Rattle.be_words.specs.Words.{Request, run, gen, cover, drill, serve, heat, follow}
-use Rattle.be_server.specs.Drills.{AreScripts}
+use Rattle.be_load_files.specs.Tables.{table_of}
+use Rattle.be_command_line.specs.Words.{Request, run, gen, cover, drill, serve, heat, follow}
+use Rattle.be_server.specs.Drill.{AreScripts}
 use Rattle.be_server.specs.Files.{ToldFile, FileReads, IsSchemaOf}
+use Rattle.be_server.specs.Outside.{Passage}
 
 -- this file was asked for, or nothing was
 abbrev pub MayAsk : Text → List Text → List Text → Type 0
@@ -38,12 +39,16 @@ AsksInTurn content schema load names before after =
     MayAsk schema before after ⊎ ((s : Attributes) × IsSchemaOf (content schema) s × AsksBehind content s load names (before ++ schema ∷ []) after)
 
 -- what the shelf is asked for by what the words ask
-abbrev pub AsksFor : Option Request → (Text → ToldFile) → List Text → List Text → Type 0
-AsksFor None content before after = after ≡ before
-AsksFor (Some (run schema load)) content before after = AsksInTurn content schema load [] before after
-AsksFor (Some (gen number subs events)) content before after = after ≡ before
-AsksFor (Some (cover schema file name)) content before after = AsksInTurn content schema (Some file) [] before after
-AsksFor (Some (drill schema load rounds files)) content before after = AsksInTurn content schema load files before after
-AsksFor (Some (serve schema load port seats links)) content before after = AsksInTurn content schema load [] before after
-AsksFor (Some (heat schema rounds files)) content before after = AsksInTurn content schema None files before after
-AsksFor (Some (follow schema file)) content before after = AsksInTurn content schema None (file ∷ []) before after
+module _ {L : Type 0} (p : Passage L) where
+  abbrev pub Asks : Text → Option Text → List Text → Type 0
+  Asks schema load names = AsksInTurn p.before.content schema load names p.before.asked p.after.asked
+
+  abbrev pub AsksFor : Option Request → Type 0
+  AsksFor None = p.after.asked ≡ p.before.asked
+  AsksFor (Some (run schema load)) = Asks schema load []
+  AsksFor (Some (gen number subs events)) = p.after.asked ≡ p.before.asked
+  AsksFor (Some (cover schema file name)) = Asks schema (Some file) []
+  AsksFor (Some (drill schema load rounds files)) = Asks schema load files
+  AsksFor (Some (serve schema load port seats links)) = Asks schema load []
+  AsksFor (Some (heat schema rounds files)) = Asks schema None files
+  AsksFor (Some (follow schema file)) = Asks schema None (file ∷ [])

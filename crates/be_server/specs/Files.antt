@@ -12,9 +12,9 @@ use Rattle.be_io.specs.Counts.{HasRisen}
 use Rattle.be_io.specs.Shelf.{HoldsFile}
 use Rattle.be_model.specs.declared.changes.Row.{Row}
 use Rattle.be_model.specs.Schemas.{Attributes, IsSchema}
-use Rattle.be_table.specs.declared.faults.TableFault.TheVariants as table
-use Rattle.be_table.specs.declared.faults.TableKind.{TableKind}
-use Rattle.be_table.specs.Tables.{table_of}
+use Rattle.be_load_files.specs.declared.faults.TableFault.TheVariants as table
+use Rattle.be_load_files.specs.declared.faults.TableKind.{TableKind}
+use Rattle.be_load_files.specs.Tables.{table_of}
 use Rattle.be_server.specs.declared.files.Loaded.{Loaded}
 use Rattle.be_server.specs.declared.status.Status.{Status}
 use Rattle.be_server.specs.declared.status.Status.TheVariants.{SchemaBad, LoadBad, NoMemory, ReadFault, LongFile}

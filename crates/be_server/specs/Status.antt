@@ -15,9 +15,9 @@ use Rattle.be_hub.specs.declared.serving.ServeFault.{ServeFault}
 use Rattle.be_hub.specs.declared.serving.ServeFault.TheVariants as serving
 use Rattle.be_session.specs.declared.serve.SessionEnd.{SessionEnd}
 use Rattle.be_session.specs.declared.serve.SessionEnd.TheVariants as ends
-use Rattle.be_table.specs.Faults as tables
-use Rattle.be_table.specs.declared.faults.TableFault.{TableFault}
-use Rattle.be_table.specs.declared.faults.TableFault.TheVariants as table
+use Rattle.be_load_files.specs.Faults as tables
+use Rattle.be_load_files.specs.declared.faults.TableFault.{TableFault}
+use Rattle.be_load_files.specs.declared.faults.TableFault.TheVariants as table
 use Rattle.be_server.specs.declared.status.Status.{Status}
 use Rattle.be_server.specs.declared.status.Status.TheVariants.{Done, Words, SchemaBad, LoadBad, FeedBad, NoMemory, ReadFault, LongFile, WriteFault, Spent, Split, Stray, Shut}
 

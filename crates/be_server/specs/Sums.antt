@@ -13,7 +13,7 @@ use Rattle.be_change.specs.History.{Entry, live, is_live_name}
 use Rattle.be_change.specs.Made.{row_made, change_named}
 use Rattle.be_change.specs.Requests.{Request, subscribe, publish, costing}
 use Rattle.be_change.specs.Walk.{live_rows}
-use Rattle.be_transcript.specs.Replies.{number, with_lf}
+use Rattle.be_protocol.specs.Replies.{number, with_lf}
 use Rattle.be_workload.specs.Asked.{AreRequests}
 use Rattle.be_board.specs.LocalCopy.{local_word}
 use Rattle.be_board.specs.Word.{own_in}

@@ -4,7 +4,7 @@ ghost use Rattle.std.specs.Prelude.{◌≡◌, [], length, false, OnOk, IfOk};
 ghost use Rattle.be_io.specs.Lines as line;
 ghost use Rattle.be_board.specs.Local.{local_state};
 ghost use Rattle.be_board.specs.State.{is_gone};
-ghost use Rattle.be_transcript.specs.Readings.{reading};
+ghost use Rattle.be_protocol.specs.Readings.{reading};
 ghost use Rattle.be_workload.specs.Asked as made;
 ghost use Rattle.be_server.specs.Sums.{published, MayCount, Counts, AreSums, AreCountable};
 
@@ -14,7 +14,7 @@ use be_base::NoMemory;
 use be_index::Index;
 use be_io::first_line;
 use be_model::Schema;
-use be_session::{Request, read_line};
+use be_protocol::{Request, read_line};
 use std::alloc::Global;
 
 /// A run so far, and the sums of its replies.

@@ -11,8 +11,8 @@ ghost use Rattle.be_server.specs.Asked.{MayAsk, AsksInTurn};
 use crate::status::Status;
 use be_event::{SchemaFault, read_schema};
 use be_io::{Shelf, ShelfFault};
+use be_load_files::{TableFault, read_table};
 use be_model::{Row, Schema};
-use be_table::{TableFault, read_table};
 use std::alloc::Global;
 
 /// What the files of a run are: its schema, and the rows with which its list begins.

@@ -1,23 +1,24 @@
 //! The command `run`: one session over the input and the output.
 
-ghost use Rattle.std.specs.Prelude.{◌≡◌, [], List, Some, true, is_some, option_map};
+ghost use Rattle.std.specs.Prelude.{◌≡◌, [], Some, true, is_some, option_map};
 ghost use Rattle.std.specs.List.{list_all};
 ghost use Rattle.be_base.specs.Readers.{now_of};
-ghost use Rattle.be_change.specs.History.{Entry};
 ghost use Rattle.be_change.specs.Opening.{opening_of, IsTable};
 ghost use Rattle.be_model.specs.Lies.{row_lies};
-ghost use Rattle.be_io.specs.Outside.{source_state, sink_state};
+ghost use Rattle.be_io.specs.Outside.{source_state, sink_state, link_state};
 ghost use Rattle.be_board.specs.Word.{own_in};
 ghost use Rattle.be_session.specs.Served.{SessionEnds, TakesWithin};
-ghost use Rattle.be_server.specs.Asked.{AsksInTurn};
-ghost use Rattle.be_server.specs.Files.{run_files};
-ghost use Rattle.be_server.specs.Promise.{command_state, link, RunEnds, SessionRuns};
+ghost use Rattle.be_command_line.specs.Words.{run};
+ghost use Rattle.be_server.specs.Outside.{link, objects, passage};
+ghost use Rattle.be_server.specs.Promise.{Promise};
+ghost use Rattle.be_server.specs.Run.{SessionRuns};
 ghost use Rattle.be_server.specs.Status.{status_of};
 
 use crate::files::{Loaded, load_files};
 use crate::status::Status;
 use be_board::{Board, LocalBoard};
-use be_io::{NoGate, Pair, Shelf, Sink, Source};
+use be_door::Door;
+use be_io::{Link, NoGate, Pair, Shelf, Sink, Source};
 use be_model::Schema;
 use be_session::{SessionEnd, serve_link};
 use be_tree::BeTree;
@@ -51,10 +52,10 @@ fn serve<S: Source, K: Sink>(
 ) -> SessionEnd
     requires table { IsTable loaded.rows.items }
     requires lies { list_all (row_lies loaded.schema) loaded.rows.items ≡ true }
-    ensures ends { (list : List Entry) × SessionRuns ((input.new ≡ input.old) × (out.new ≡ out.old)) loaded.schema (opening_of loaded.rows.items)
+    ensures ends { SessionRuns ((input.new ≡ input.old) × (out.new ≡ out.old)) loaded.schema (opening_of loaded.rows.items)
         (link (source_state S.Source input.old) (sink_state K.Sink out.old))
         (link (source_state S.Source input.new) (sink_state K.Sink out.new))
-        list result }
+        result }
     ensures within { TakesWithin (S.taken input.old) (S.taken input.new) }
 {
     let Loaded { schema, rows } = loaded;
@@ -73,7 +74,7 @@ fn serve<S: Source, K: Sink>(
 }
 
 // Serves the board's session over two objects.
-#[tactic(auto, using(crate::proofs::Runs::kept_so))]
+#[tactic(auto, using(crate::proofs::RunSession::kept_so))]
 fn serve_pair<B: Board, S: Source, K: Sink>(
     alloc: Global,
     schema: &Schema,
@@ -98,8 +99,7 @@ fn serve_pair<B: Board, S: Source, K: Sink>(
 
 /// Serves one session, number 1, over the input and the output, with the schema in the file of this name, and over the opening
 /// table of the load file, where there is one.
-#[tactic(auto, using(crate::proofs::Ended::has_status, crate::proofs::Ended::run_ended, crate::proofs::Ended::run_refused))]
-pub fn run<F: Shelf, S: Source, K: Sink>(
+pub fn run<F, S, K, L, D>(
     alloc: Global,
     schema: &str,
     load: Option<&str>,
@@ -107,12 +107,15 @@ pub fn run<F: Shelf, S: Source, K: Sink>(
     input: &mut S,
     out: &mut K,
 ) -> Status
-    ensures ends { RunEnds ((input.new ≡ input.old) × (out.new ≡ out.old)) (run_files (F.content shelf.old) schema.now (option_map now_of load.entry))
-        (command_state (F.read_faults shelf.old) (source_state S.Source input.old) (sink_state K.Sink out.old))
-        (command_state (F.read_faults shelf.new) (source_state S.Source input.new) (sink_state K.Sink out.new))
-        result }
-    ensures within { TakesWithin (S.taken input.old) (S.taken input.new) }
-    ensures asked { AsksInTurn (F.content shelf.old) schema.now (option_map now_of load.entry) [] (F.asked shelf.old) (F.asked shelf.new) }
+where
+    F: Shelf,
+    S: Source,
+    K: Sink,
+    L: Link,
+    D: Door<L>,
+    ensures { (door : _) → Promise (passage F.Shelf S.Source K.Sink D.state (link_state L.Source L.Sink)
+        (objects shelf.old input.old out.old door) (objects shelf.new input.new out.new door))
+        (Some (run schema.now (option_map now_of load.entry))) result }
 {
     match load_files(alloc, shelf, schema, load) {
         Ok(loaded) => status_of(serve(alloc, loaded, input, out)),

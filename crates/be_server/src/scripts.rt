@@ -5,7 +5,7 @@ ghost use Rattle.std.specs.List.{list_all};
 ghost use Rattle.be_base.specs.Readers.{now_of};
 ghost use Rattle.be_base.specs.declared.limits.TheConstants.{FILE_BYTES};
 ghost use Rattle.be_model.specs.Lies.{row_lies};
-ghost use Rattle.be_server.specs.Drills.{LoadsScripts, LoadsDrill, drill_files};
+ghost use Rattle.be_server.specs.Drill.{LoadsScripts, LoadsDrill, drill_files};
 ghost use Rattle.be_server.specs.Asked.{AsksInOrder, AsksInTurn};
 
 use crate::files::{Loaded, load_files};

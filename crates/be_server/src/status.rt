@@ -9,8 +9,8 @@ use be_event::{SchemaFault, SchemaKind};
 use be_follow::{FeedFault, FeedKind};
 use be_hub::{CloseFault, ServeFault};
 use be_io::ShelfFault;
+use be_load_files::{TableFault, TableKind};
 use be_published::Shade;
-use be_table::{TableFault, TableKind};
 use std::fmt;
 
 /// How the program ended.

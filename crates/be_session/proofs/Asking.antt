@@ -11,7 +11,7 @@ use Rattle.be_change.specs.History.{Entry, live, is_live_name}
 use Rattle.be_change.specs.Made.{change_made, change_named}
 use Rattle.be_change.specs.Requests.{Request, subscribe, unsubscribe, quit, Reply, ok, held, bye, dup, none, other, split, no_memory, Note}
 use Rattle.be_change.specs.Walk.{Walk, having_seen, having_changed, having_left, having_ended, Answers, IsChangeOf, IsRefusedAt, IsSplit, HasNameAt, HasNameOfAnotherAt, place_accepted}
-use Rattle.be_transcript.specs.Runs.{comes_in_run, length_told, IsTold, RemovalMayWant}
+use Rattle.be_protocol.specs.Runs.{comes_in_run, length_told, IsTold, RemovalMayWant}
 use Rattle.be_board.specs.declared.answers.Answer.{Answer}
 use Rattle.be_board.specs.declared.answers.Answer.TheVariants.{Done, Held, Dup, NoName, Other, Split, NoMemory}
 use Rattle.be_board.specs.Changes as board

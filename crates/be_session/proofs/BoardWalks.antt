@@ -17,7 +17,7 @@ use Rattle.be_change.proofs.Alone.{accepted-append, made-snoc}
 use Rattle.be_change.proofs.Extends.{legal-snoc}
 use Rattle.be_change.proofs.Forms.{formed_take}
 use Rattle.be_change.proofs.Owners.{live_owned}
-use Rattle.be_transcript.specs.Runs.{is_opened, comes_in_run, length_told, IsTold, TellsCounts, RemovalMayWant, RemovalsMayWant}
+use Rattle.be_protocol.specs.Runs.{is_opened, comes_in_run, length_told, IsTold, TellsCounts, RemovalMayWant, RemovalsMayWant}
 use Rattle.be_board.specs.State.{BoardState}
 use Rattle.be_board.specs.Word.{own_of, own_in, Keeps}
 use Rattle.be_board.proofs.Going.{GoesOn-same, GoesOn-along}

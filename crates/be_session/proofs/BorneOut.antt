@@ -13,8 +13,8 @@ use Rattle.be_change.specs.Requests.{Request, quit, Note, Exchange}
 use Rattle.be_change.specs.Walk.{Walk, IsChangeOf, HasOnly, accepted}
 use Rattle.be_change.proofs.Below.{session_below}
 use Rattle.be_change.proofs.Placed.{entries_placed}
-use Rattle.be_transcript.specs.Readings.{reading}
-use Rattle.be_transcript.specs.Transcript.{AnswersEach, requests, AreExchanges}
+use Rattle.be_protocol.specs.Readings.{reading}
+use Rattle.be_protocol.specs.Transcript.{AnswersEach, requests, AreExchanges}
 use Rattle.be_board.specs.declared.answers.Answer.{Answer}
 use Rattle.be_board.specs.declared.answers.Answer.TheVariants.{Done, Held, Dup, NoName, Other, Split, NoMemory}
 use Rattle.be_board.specs.Changes.{Accepts, Asked}

@@ -1,32 +1,32 @@
 -- How a session ends, by the turn that ended it.
-use Rattle.std.proofs.Common.{◌≡◌, inl, inr, ℕ, Bool, true, false, List, [], ◌∷◌, ◌++◌, Option, Some, None, refl, sym, ap, ◌∙◌, subst, arith, append_assoc}
+use Rattle.std.proofs.Common.{◌≡◌, inl, inr, ℕ, ◌≤◌, Bool, true, false, List, [], ◌∷◌, ◌++◌, Some, None, refl, sym, ap, ◌∙◌, subst, arith}
 use Rattle.std.specs.List.{sum_by}
 use Rattle.std.proofs.lemmas.List.{append-nil}
 use Rattle.be_base.specs.Counts.{HasRisen}
 use Rattle.be_io.specs.Kept.{KeptByRead}
 use Rattle.be_io.specs.Told.{WhereTold, HoldsMore}
-use Rattle.be_io.specs.Lines.{TextLine}
+use Rattle.be_io.specs.Lines.{TextLine, has_lf}
 use Rattle.be_io.specs.Outside.{LinkState}
 use Rattle.be_io.specs.Sink.{SinkState}
 use Rattle.be_io.specs.declared.faults.SinkFault.{SinkFault}
 use Rattle.be_io.specs.declared.faults.SinkFault.TheVariants.{Failed, NoMemory}
 use Rattle.be_io.proofs.ToldLemmas.{HoldsMore-append}
 use Rattle.be_model.specs.Schemas.{Attributes}
-use Rattle.be_change.specs.Requests.{Request, quit, Reply, split, Exchange}
-use Rattle.be_transcript.specs.Readings.{reading}
-use Rattle.be_transcript.specs.Transcript.{texts}
+use Rattle.be_change.specs.Requests.{Request, quit, Reply, Exchange}
+use Rattle.be_protocol.specs.Readings.{reading}
+use Rattle.be_protocol.specs.Transcript.{texts}
 use Rattle.be_board.specs.declared.answers.Answer.{Answer}
 use Rattle.be_board.specs.Changes.{Asked}
 use Rattle.be_board.specs.State.{BoardState, NoneFalls}
 use Rattle.be_session.specs.declared.serve.SessionEnd.{SessionEnd}
 use Rattle.be_session.specs.declared.serve.SessionEnd.TheVariants as ends
 use Rattle.be_session.specs.declared.turns.Turn.TheVariants.{Over, After}
-use Rattle.be_session.specs.Ends.{end_after, is_on, goes_on, end_of}
+use Rattle.be_session.specs.Ends.{end_after, is_on, goes_on, is_by_reply, end_of}
 use Rattle.be_session.specs.Given.{GivesInPart}
 use Rattle.be_session.specs.Served.{AreBorneOut, BeginsAlone, Replied, NoWriteFailed, EndedByReply, BrokeOff, CutShort, SessionEnds, KeepsBeside, BoardLeft}
-use Rattle.be_session.specs.Steps.{Steps, RepliedTo, RepliedInPartTo, Refused, RefusedOnce}
+use Rattle.be_session.specs.Steps.{Steps, RepliedTo, Refused, RefusedOnce}
 use Rattle.be_session.specs.Tied.{letters_put, Tied}
-use Rattle.be_session.specs.Turns.{TurnState, TakesAlike, TookLine, TookBreak, IsSilent, Turned, LinesGoOn, BoardServes, IsServing}
+use Rattle.be_session.specs.Turns.{TurnState, TakesAlike, TookLine, TookBreak, IsSilent, AnswersLine, Turned, TurnTaken, LinesGoOn, BoardServes, IsServing}
 use Rattle.be_session.proofs.BoardWalks.{bears_step}
 use Rattle.be_board.proofs.Going.{NoneFalls-same, GoesOn-along}
 use Rattle.be_base.specs.Lists.{BeginsWith}
@@ -34,7 +34,8 @@ use Rattle.be_model.specs.Letters.{PlainLetter}
 use Rattle.be_session.proofs.BearsOut.{adds_along}
 use Rattle.be_session.proofs.BorneOut.{adds_left, borne_out, borne_left, bears_left, left_still, left_so, ran_over, box_whole, box_cut, LeavesSo}
 use Rattle.be_session.proofs.GivingOn.{letters_then, letters_cut, letters_cut_then}
-use Rattle.be_session.proofs.Serving.{texts-push, answered_one, tied_with, puts_with, letters_with, written_with, read_to_end, read_in_part, first_lines, spent, rises-along}
+use Rattle.be_session.proofs.Handing.{BrokeOffAt, broke_in_part, gives_end, by_its_reply, AnswersOn, Went, went}
+use Rattle.be_session.proofs.Serving.{broke_off_at, answered_one, tied_with, puts_with, letters_with, written_with, read_to_end, read_in_part, first_lines, spent, rises-along}
 use Rattle.be_session.proofs.Tying.{tied_on, tied_then, puts_then}
 
 -- the lines that were answered, after which the session left without a reply
@@ -55,8 +56,8 @@ replied_left s link b now d answer sink g same q = record {
 
 -- a reply ended the session
 ended_by_reply : (s : Attributes) (link : LinkState) (b : BoardState) (before after : TurnState) (end : SessionEnd) (g : IsServing s link b before) (line : TextLine) → TookLine before after line
-    → (w : RepliedTo s (reading s line) before.board after.board before.link.sink after.link.sink) → end_after (reading s line) w.reply ≡ Some end → EndedByReply s end link after.link b after.board
-ended_by_reply s link b before after end g line took w is =
+    → (w : RepliedTo s (reading s line) before.board after.board before.link.sink after.link.sink) → end_after (reading s line) w.reply ≡ Some end → after.link.sink.kept_back ≡ 0 → EndedByReply s end link after.link b after.board
+ended_by_reply s link b before after end g line took w is none =
     let p : Exchange = (reading s line, w.reply) in
     let ps : List Exchange = g.ps ++ p ∷ [] in
     let done : List TextLine = g.done ++ line ∷ [] in
@@ -68,7 +69,7 @@ ended_by_reply s link b before after end g line took w is =
       lines = done;
       read = first_lines link.source.left after.link.source.left after.reader.ended after.reader.unread done took.buffered one.lines_read;
       reads = took.faults ∙ g.sound;
-      writes = record { faults = w.faults ∙ g.quiet; refusals = w.refusals ∙ g.unrefused };
+      writes = record { faults = w.faults ∙ g.quiet; refusals = w.refusals ∙ g.unrefused; handed = omega (arith, none) };
       replied = record {
         exchanges = ps;
         asked = one.asked;
@@ -86,9 +87,9 @@ refused_since : (s : Attributes) (link : LinkState) (b : BoardState) (before aft
 refused_since s link b before after g (inl e) = inl (e ∙ g.quiet)
 refused_since s link b before after g (inr e) = inr (e ∙ g.unrefused)
 
--- a reply that was cut short, whatever was left behind it
+-- the output broke off at a reply, whatever was left behind it
 cut_short : (s : Attributes) (link : LinkState) (b : BoardState) (before after : TurnState) (d : BoardState) (on : Bool) (fault : SinkFault) (g : IsServing s link b before) (line : TextLine) → TookLine before after line
-    → (c : RepliedInPartTo s (reading s line) fault before.board after.board before.link.sink after.link.sink) → is_on (end_after (reading s line) c.reply) ≡ on
+    → (c : BrokeOffAt s (reading s line) fault before.board after.board before.link.sink after.link.sink) → is_on (end_after (reading s line) c.reply) ≡ on
     → (AreBorneOut s (g.done ++ line ∷ []) (g.ps ++ (reading s line, c.reply) ∷ []) b d) → NoneFalls after.board.counts d.counts → d.counts.puts ≡ after.board.counts.puts
     → GivesInPart b.box s g.ps (reading s line, c.reply) (texts s g.ps ++ c.out) b d → (BeginsAlone b → LeavesSo on after.board d) → CutShort s link after.link b d
 cut_short s link b before after d on fault g line took c is borne falls puts letters leaves =
@@ -110,12 +111,7 @@ cut_short s link b before after d on fault g line took c is borne falls puts let
         asked = one.asked;
         out = texts s g.ps ++ c.out;
         written = HoldsMore-append link.sink.held before.link.sink.held after.link.sink.held (texts s g.ps) c.out g.written c.wrote.written;
-        cut = record {
-          missing = c.wrote.missing;
-          some = c.wrote.some;
-          is_text = texts-push s g.ps p ∙ (ap (λ (x : List ℕ). texts s g.ps ++ x) c.wrote.is_text ∙ sym (append_assoc (texts s g.ps) c.out c.wrote.missing));
-          whole = (c.out, refl);
-        };
+        broke = broke_off_at s g.ps p fault c.out before.link.sink after.link.sink c.wrote;
         ends = g.on;
         borne = borne;
         tied = tied_then ps g.ps b.counts after.board.counts d.counts
@@ -132,7 +128,7 @@ cut_short s link b before after d on fault g line took c is borne falls puts let
 
 -- the session would have gone on, and left
 cut_and_left : (s : Attributes) (link : LinkState) (b : BoardState) (before after : TurnState) (d : BoardState) (answer : Answer) (fault : SinkFault) (g : IsServing s link b before) (line : TextLine) → TookLine before after line
-    → (c : RepliedInPartTo s (reading s line) fault before.board after.board before.link.sink after.link.sink) → end_after (reading s line) c.reply ≡ None → Asked after.board d quit answer → CutShort s link after.link b d
+    → (c : BrokeOffAt s (reading s line) fault before.board after.board before.link.sink after.link.sink) → end_after (reading s line) c.reply ≡ None → Asked after.board d quit answer → CutShort s link after.link b d
 cut_and_left s link b before after d answer fault g line took c is q =
     let p : Exchange = (reading s line, c.reply) in
     let ps : List Exchange = g.ps ++ p ∷ [] in
@@ -148,7 +144,7 @@ cut_and_left s link b before after d answer fault g line took c is q =
 
 -- the reply would have ended the session
 cut_at_end : (s : Attributes) (link : LinkState) (b : BoardState) (before after : TurnState) (fault : SinkFault) (g : IsServing s link b before) (line : TextLine) → TookLine before after line
-    → (c : RepliedInPartTo s (reading s line) fault before.board after.board before.link.sink after.link.sink) → is_on (end_after (reading s line) c.reply) ≡ false → CutShort s link after.link b after.board
+    → (c : BrokeOffAt s (reading s line) fault before.board after.board before.link.sink after.link.sink) → is_on (end_after (reading s line) c.reply) ≡ false → CutShort s link after.link b after.board
 cut_at_end s link b before after fault g line took c is =
     let p : Exchange = (reading s line, c.reply) in
     let ps : List Exchange = g.ps ++ p ∷ [] in
@@ -159,10 +155,11 @@ cut_at_end s link b before after fault g line took c is =
     (λ a. left_still false after.board)
 
 -- no write failed before, and none was made since
-unwritten : (s : Attributes) (link : LinkState) (b : BoardState) (before after : TurnState) → IsServing s link b before → IsSilent before after → NoWriteFailed link after.link
-unwritten s link b before after g silent = record {
+unwritten : (s : Attributes) (link : LinkState) (b : BoardState) (before after : TurnState) → IsServing s link b before → has_lf before.reader.unread ≡ false → IsSilent before after → NoWriteFailed link after.link
+unwritten s link b before after g none_ahead silent = record {
   faults = ap (λ (x : SinkState). x.faults) silent.sink ∙ g.quiet;
   refusals = ap (λ (x : SinkState). x.refusals) silent.sink ∙ g.unrefused;
+  handed = subst (λ (x : SinkState). x.kept_back ≤ link.sink.kept_back) (sym silent.sink) (g.handed none_ahead);
 }
 
 asked_before : (before after : TurnState) (d : BoardState) (answer : Answer) → IsSilent before after → Asked after.board d quit answer → Asked before.board d quit answer
@@ -174,7 +171,7 @@ broke_off s link b before after d answer g t silent q = record {
   lines = g.done;
   read = read_in_part link.source.left before.link.source.left after.link.source.left before.reader.unread g.done
       (subst (λ (e : Bool). WhereTold link.source.left before.link.source.left (λ b a. LinesGoOn e b before.reader.unread a g.done)) t.going g.lines_read) t.next;
-  writes = unwritten s link b before after g silent;
+  writes = unwritten s link b before after g t.none_ahead silent;
   replied = replied_left s link b before d answer after.link.sink g silent.sink (asked_before before after d answer silent q);
 }
 
@@ -187,54 +184,53 @@ ends_cut : (U : Type 0) (s : Attributes) (before after : LinkState) (b d : Board
 ends_cut U s before after b d Failed r c = (r, c)
 ends_cut U s before after b d NoMemory r c = inr (r, c)
 
--- a reply that was cut short, and would not have ended the session
+-- the output broke off at a reply that would not have ended the session
 over_cut : (U : Type 0) (s : Attributes) (link : LinkState) (b : BoardState) (before after : TurnState) (d : BoardState) (answer : Answer) (end : SessionEnd) → IsServing s link b before → (line : TextLine) → TookLine before after line
-    → ((fault : SinkFault) × (end ≡ end_of fault) × (c : RepliedInPartTo s (reading s line) fault before.board after.board before.link.sink after.link.sink) × (end_after (reading s line) c.reply ≡ None))
+    → ((fault : SinkFault) × (end ≡ end_of fault) × (c : BrokeOffAt s (reading s line) fault before.board after.board before.link.sink after.link.sink) × (end_after (reading s line) c.reply ≡ None))
     → Asked after.board d quit answer → SessionEnds U s link after.link b d end
 over_cut U s link b before after d answer end g line took t q =
     subst (SessionEnds U s link after.link b d) (sym t.1)
     (ends_cut U s link after.link b d t.0 (risen s link b before after t.0 g t.2.wrote.refused) (cut_and_left s link b before after d answer t.0 g line took t.2 t.3 q))
 
+-- where it was cut short
+over_part : (s : Attributes) (before after : TurnState) (end : SessionEnd) → (t : AnswersLine s before after (Over end))
+    → (fault : SinkFault) × (end ≡ end_of fault) × (c : BrokeOffAt s (reading s t.0) fault before.board after.board before.link.sink after.link.sink) × (end_after (reading s t.0) c.reply ≡ None)
+over_part s before after end t =
+    (t.2.0, t.2.1, broke_in_part s (reading s t.0) t.2.0 before.board after.board before.link.sink after.link.sink t.2.2, t.2.3)
+
 -- the turn after which the session left
-pub ended_over : (U : Type 0) (s : Attributes) (link : LinkState) (b : BoardState) (before after : TurnState) (d : BoardState) (answer : Answer) (end : SessionEnd) → IsServing s link b before → Turned s before after (Over end)
+ended_turned : (U : Type 0) (s : Attributes) (link : LinkState) (b : BoardState) (before after : TurnState) (d : BoardState) (answer : Answer) (end : SessionEnd) → IsServing s link b before → Turned s before after (Over end)
     → TakesAlike before.reader.taken after.reader.taken before.link.source.taken after.link.source.taken → Asked after.board d quit answer → SessionEnds U s link after.link b d end
-ended_over U s link b before after d answer ends.Eof g t k q = record {
+ended_turned U s link b before after d answer ends.Eof g t k q = record {
   lines = g.done;
   read = read_to_end link.source.left before.link.source.left after.link.source.left before.reader.ended before.reader.unread g.done g.lines_read t.0.next;
   reads = t.0.faults ∙ g.sound;
-  writes = unwritten s link b before after g t.1;
+  writes = unwritten s link b before after g t.0.none_ahead t.1;
   replied = replied_left s link b before d answer after.link.sink g t.1.sink (asked_before before after d answer t.1 q);
 }
-ended_over U s link b before after d answer ends.ReadFault g t k q =
+ended_turned U s link b before after d answer ends.ReadFault g t k q =
     (subst (λ (n : ℕ). HasRisen n after.link.source.faults) g.sound t.2, broke_off s link b before after d answer g t.0 t.1 q)
-ended_over U s link b before after d answer ends.Spent g t k q = (
+ended_turned U s link b before after d answer ends.Spent g t k q = (
   spent link.source.taken after.link.source.taken after.reader.taken
       (rises-along link.source.taken before.link.source.taken after.link.source.taken before.reader.taken k.0 after.reader.taken g.taken k.2 k.1) t.2,
   t.3 ∙ g.sound,
   broke_off s link b before after d answer g t.0 t.1 q,
 )
-ended_over U s link b before after d answer ends.WriteFault g t k q = over_cut U s link b before after d answer ends.WriteFault g t.0 t.1 t.2 q
-ended_over U s link b before after d answer ends.NoMemory g t k q = over_cut U s link b before after d answer ends.NoMemory g t.0 t.1 t.2 q
-ended_over U s link b before after d answer ends.Quit g t k q = over_cut U s link b before after d answer ends.Quit g t.0 t.1 t.2 q
-ended_over U s link b before after d answer (ends.Split i j) g t k q = over_cut U s link b before after d answer (ends.Split i j) g t.0 t.1 t.2 q
+ended_turned U s link b before after d answer ends.WriteFault g t k q = over_cut U s link b before after d answer ends.WriteFault g t.0 t.1 (over_part s before after ends.WriteFault t) q
+ended_turned U s link b before after d answer ends.NoMemory g t k q = over_cut U s link b before after d answer ends.NoMemory g t.0 t.1 (over_part s before after ends.NoMemory t) q
+ended_turned U s link b before after d answer ends.Quit g t k q = over_cut U s link b before after d answer ends.Quit g t.0 t.1 (over_part s before after ends.Quit t) q
+ended_turned U s link b before after d answer (ends.Split i j) g t k q = over_cut U s link b before after d answer (ends.Split i j) g t.0 t.1 (over_part s before after (ends.Split i j) t) q
 
--- a reply ends a session as a QUIT or by two numbers that differ
-abbrev is_given : SessionEnd → Bool
-is_given ends.Quit = true
-is_given (ends.Split i j) = true
-is_given _ = false
+pub ended_over : (U : Type 0) (s : Attributes) (link : LinkState) (b : BoardState) (before after : TurnState) (d : BoardState) (answer : Answer) (end : SessionEnd) → IsServing s link b before → TurnTaken s before after (Over end)
+    → TakesAlike before.reader.taken after.reader.taken before.link.source.taken after.link.source.taken → Asked after.board d quit answer → SessionEnds U s link after.link b d end
+ended_over U s link b before after d answer end g taken k q = by (went s before after (Over end) taken)
+  where
+    by : Went s before after (Over end) → SessionEnds U s link after.link b d end
+    by (inl t) = ended_turned U s link b before after d answer end g t k q
+    by (inr (line, took, c)) = over_cut U s link b before after d answer end g line took c q
 
-abbrev given_by : (o : Option SessionEnd) → Bool
-given_by None = true
-given_by (Some end) = is_given end
-
-gives : (r : Request) (reply : Reply) → given_by (end_after r reply) ≡ true
-gives r (split i j) = refl
-gives quit _ = refl
-gives _ _ = refl
-
-no_other : (r : Request) (reply : Reply) (end : SessionEnd) → end_after r reply ≡ Some end → is_given end ≡ false → ⊥
-no_other r reply end is other = let f : true ≡ false = sym (gives r reply) ∙ (ap given_by is ∙ other) in absurd cc
+no_other : (r : Request) (reply : Reply) (end : SessionEnd) → end_after r reply ≡ Some end → is_by_reply end ≡ false → ⊥
+no_other r reply end is other = let f : true ≡ false = sym (by_its_reply r reply) ∙ (ap gives_end is ∙ other) in absurd cc
 
 -- an end that a reply gives
 by_reply : (U : Type 0) (s : Attributes) (link after : LinkState) (b d : BoardState) (r : Request) (reply : Reply) (end : SessionEnd) → end_after r reply ≡ Some end → EndedByReply s end link after b d → SessionEnds U s link after b d end
@@ -247,11 +243,14 @@ by_reply U s link after b d r reply ends.Spent is e = absurd (no_other r reply e
 by_reply U s link after b d r reply ends.NoMemory is e = absurd (no_other r reply ends.NoMemory is refl)
 
 -- the turn that ended the session by its reply
-pub ended_after : (U : Type 0) (s : Attributes) (link : LinkState) (b : BoardState) (before after : TurnState) (end : SessionEnd) → IsServing s link b before → Turned s before after (After end) → SessionEnds U s link after.link b after.board end
-ended_after U s link b before after end g (line, took, inl (w, is)) = by_reply U s link after.link b after.board (reading s line) w.reply end is (ended_by_reply s link b before after end g line took w is)
-ended_after U s link b before after end g (line, took, inr (fault, is, c, off)) =
-    subst (SessionEnds U s link after.link b after.board) (sym is)
-    (ends_cut U s link after.link b after.board fault (risen s link b before after fault g c.wrote.refused) (cut_at_end s link b before after fault g line took c off))
+pub ended_after : (U : Type 0) (s : Attributes) (link : LinkState) (b : BoardState) (before after : TurnState) (end : SessionEnd) → IsServing s link b before → TurnTaken s before after (After end) → SessionEnds U s link after.link b after.board end
+ended_after U s link b before after end g taken = by (went s before after (After end) taken)
+  where
+    by : AnswersOn s before after (After end) → SessionEnds U s link after.link b after.board end
+    by (line, took, inl (w, is, none)) = by_reply U s link after.link b after.board (reading s line) w.reply end is (ended_by_reply s link b before after end g line took w is none)
+    by (line, took, inr (fault, is, c, off)) =
+        subst (SessionEnds U s link after.link b after.board) (sym is)
+        (ends_cut U s link after.link b after.board fault (risen s link b before after fault g c.wrote.refused) (cut_at_end s link b before after fault g line took c off))
 
 -- what stands beside a session's reads and writes, from turn to turn
 pub kept_along : (a b c : KeptByRead) → KeepsBeside a b → KeepsBeside b c → KeepsBeside a c
@@ -278,18 +277,25 @@ answered_left s link b before after g line reply took st =
 silent_left : (s : Attributes) (link : LinkState) (b : BoardState) (before after : TurnState) (g : IsServing s link b before) → IsSilent before after → BoardLeft b after.board
 silent_left s link b before after g silent = subst (BoardLeft b) (sym silent.board) (serving_left s true g.ps b before.board g.board)
 
-over_left : (s : Attributes) (link : LinkState) (b : BoardState) (before after : TurnState) (end : SessionEnd) → IsServing s link b before → Turned s before after (Over end) → BoardLeft b after.board
-over_left s link b before after ends.Eof g t = silent_left s link b before after g t.1
-over_left s link b before after ends.ReadFault g t = silent_left s link b before after g t.1
-over_left s link b before after ends.Spent g t = silent_left s link b before after g t.1
-over_left s link b before after ends.WriteFault g t = answered_left s link b before after g t.0 t.2.2.reply t.1 t.2.2.replies.steps
-over_left s link b before after ends.NoMemory g t = answered_left s link b before after g t.0 t.2.2.reply t.1 t.2.2.replies.steps
-over_left s link b before after ends.Quit g t = answered_left s link b before after g t.0 t.2.2.reply t.1 t.2.2.replies.steps
-over_left s link b before after (ends.Split i j) g t = answered_left s link b before after g t.0 t.2.2.reply t.1 t.2.2.replies.steps
+turned_left : (s : Attributes) (link : LinkState) (b : BoardState) (before after : TurnState) (end : SessionEnd) → IsServing s link b before → Turned s before after (Over end) → BoardLeft b after.board
+turned_left s link b before after ends.Eof g t = silent_left s link b before after g t.1
+turned_left s link b before after ends.ReadFault g t = silent_left s link b before after g t.1
+turned_left s link b before after ends.Spent g t = silent_left s link b before after g t.1
+turned_left s link b before after ends.WriteFault g t = answered_left s link b before after g t.0 t.2.2.reply t.1 t.2.2.replies.steps
+turned_left s link b before after ends.NoMemory g t = answered_left s link b before after g t.0 t.2.2.reply t.1 t.2.2.replies.steps
+turned_left s link b before after ends.Quit g t = answered_left s link b before after g t.0 t.2.2.reply t.1 t.2.2.replies.steps
+turned_left s link b before after (ends.Split i j) g t = answered_left s link b before after g t.0 t.2.2.reply t.1 t.2.2.replies.steps
 
-pub board_over : (s : Attributes) (link : LinkState) (b : BoardState) (before after : TurnState) (d : BoardState) (answer : Answer) (end : SessionEnd) → IsServing s link b before → Turned s before after (Over end) → Asked after.board d quit answer → BoardLeft b d
-board_over s link b before after d answer end g t q = left_along b after.board d answer (over_left s link b before after end g t) q
+over_left : (s : Attributes) (link : LinkState) (b : BoardState) (before after : TurnState) (end : SessionEnd) → IsServing s link b before → Went s before after (Over end) → BoardLeft b after.board
+over_left s link b before after end g (inl t) = turned_left s link b before after end g t
+over_left s link b before after end g (inr (line, took, c)) = answered_left s link b before after g line c.2.reply took c.2.replies.steps
 
-pub board_after : (s : Attributes) (link : LinkState) (b : BoardState) (before after : TurnState) (end : SessionEnd) → IsServing s link b before → Turned s before after (After end) → BoardLeft b after.board
-board_after s link b before after end g (line, took, inl (w, is)) = answered_left s link b before after g line w.reply took w.replies.steps
-board_after s link b before after end g (line, took, inr (fault, is, c, off)) = answered_left s link b before after g line c.reply took c.replies.steps
+pub board_over : (s : Attributes) (link : LinkState) (b : BoardState) (before after : TurnState) (d : BoardState) (answer : Answer) (end : SessionEnd) → IsServing s link b before → TurnTaken s before after (Over end) → Asked after.board d quit answer → BoardLeft b d
+board_over s link b before after d answer end g t q = left_along b after.board d answer (over_left s link b before after end g (went s before after (Over end) t)) q
+
+pub board_after : (s : Attributes) (link : LinkState) (b : BoardState) (before after : TurnState) (end : SessionEnd) → IsServing s link b before → TurnTaken s before after (After end) → BoardLeft b after.board
+board_after s link b before after end g taken = by (went s before after (After end) taken)
+  where
+    by : AnswersOn s before after (After end) → BoardLeft b after.board
+    by (line, took, inl (w, is, none)) = answered_left s link b before after g line w.reply took w.replies.steps
+    by (line, took, inr (fault, is, c, off)) = answered_left s link b before after g line c.reply took c.replies.steps

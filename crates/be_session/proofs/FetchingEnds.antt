@@ -22,7 +22,7 @@ use Rattle.be_change.specs.History.{Entry}
 use Rattle.be_change.specs.Requests.{fetching, notes, Note}
 use Rattle.be_change.specs.Walk.{IsNoteFor}
 use Rattle.be_change.proofs.Extends.{notes-append}
-use Rattle.be_transcript.specs.Replies.{note_line, with_lf, number, reply_text}
+use Rattle.be_protocol.specs.Replies.{note_line, with_lf, number, reply_text}
 use Rattle.be_board.specs.Letters.{note_of, IsLetterFor, ComesFrom, Fetches}
 use Rattle.be_board.specs.State.{BoardState, GoesOn}
 use Rattle.be_board.proofs.Going.{GoesOn-along, HasRisen-later}
@@ -41,7 +41,7 @@ abbrev pub end_line : ℕ → List ℕ
 end_line n = with_lf (codes "END" ++ number n)
 
 -- the text of the reply: a line for each letter, and the last line
-notes_text : (s : Attributes) (letters : List Note) → reply_text s (notes letters) ≡ note_lines s letters ++ end_line (length letters)
+pub notes_text : (s : Attributes) (letters : List Note) → reply_text s (notes letters) ≡ note_lines s letters ++ end_line (length letters)
 notes_text s letters =
     flat_map-append with_lf (map (note_line s) letters) ((codes "END" ++ number (length letters)) ∷ [])
     ∙ (ap (λ (t : List ℕ). t ++ flat_map with_lf ((codes "END" ++ number (length letters)) ∷ [])) (flat_map-map with_lf (note_line s) letters)
@@ -171,7 +171,7 @@ wrote_behind front text more before mid after fault held e f w =
       },
     )
 
-begins_lines : (s : Attributes) (n : ℕ) (letters : List Note) (more : List ℕ) → BeginsWith (note_lines s letters ++ more) (note_lines s (take n letters))
+pub begins_lines : (s : Attributes) (n : ℕ) (letters : List Note) (more : List ℕ) → BeginsWith (note_lines s letters ++ more) (note_lines s (take n letters))
 begins_lines s n letters more = (
   note_lines s (drop n letters) ++ more,
   ap (λ (t : List ℕ). t ++ more) (ap (note_lines s) (sym (take-append-drop n letters)) ∙ lines-append s (take n letters) (drop n letters))

@@ -16,7 +16,7 @@ use Rattle.be_model.specs.Schemas.{Attributes}
 use Rattle.be_change.specs.History.{Entry}
 use Rattle.be_change.specs.Requests.{Note}
 use Rattle.be_change.specs.Walk.{IsNoteFor}
-use Rattle.be_transcript.specs.Replies.{note_line, with_lf}
+use Rattle.be_protocol.specs.Replies.{note_line, with_lf}
 use Rattle.be_board.specs.Letters.{note_of, given, IsLetterFor, ComesFrom, Fetches}
 use Rattle.be_board.specs.State.{BoardState}
 use Rattle.be_board.specs.Word.{IsDelivered}

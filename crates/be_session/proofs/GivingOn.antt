@@ -9,8 +9,8 @@ use Rattle.be_model.specs.Schemas.{Attributes}
 use Rattle.be_change.specs.Box.{box_after, KeepsBox}
 use Rattle.be_change.specs.History.{Entry}
 use Rattle.be_change.specs.Requests.{Note, Exchange}
-use Rattle.be_transcript.specs.Replies.{note_line, with_lf}
-use Rattle.be_transcript.specs.Transcript.{texts}
+use Rattle.be_protocol.specs.Replies.{note_line, with_lf}
+use Rattle.be_protocol.specs.Transcript.{texts}
 use Rattle.be_board.specs.Letters.{note_of}
 use Rattle.be_board.specs.State.{BoardState, LeavesLetters}
 use Rattle.be_board.specs.Word.{Word}

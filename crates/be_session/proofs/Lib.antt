@@ -1,7 +1,3 @@
-pub mod Commanded
-pub mod ReplyTexts
-pub mod Shorts
-pub mod Notes
 pub mod BearsOut
 pub mod Tying
 pub mod GivingOn
@@ -14,6 +10,7 @@ pub mod SendingOn
 pub mod FetchingOn
 pub mod FetchingEnds
 pub mod LineTurns
+pub mod Handing
 pub mod Leaving
 pub mod LiveLies
 pub mod Serving

@@ -16,22 +16,22 @@ use Rattle.be_io.specs.declared.faults.SinkFault.{SinkFault}
 use Rattle.be_io.specs.declared.faults.SinkFault.TheVariants.{Failed, NoMemory}
 use Rattle.be_model.specs.Schemas.{Attributes}
 use Rattle.be_change.specs.Requests.{Refusal, Request, refused, subscribe, publish, costing, sending, quit, Reply, no_memory, refusal, Note, Exchange}
-use Rattle.be_transcript.specs.Readings.{reading}
-use Rattle.be_transcript.specs.Replies.{reply_text}
+use Rattle.be_protocol.specs.Readings.{reading}
+use Rattle.be_protocol.specs.Replies.{reply_text}
 use Rattle.be_board.specs.State.{BoardState}
 use Rattle.be_board.proofs.Going.{NoneFalls-same}
 use Rattle.be_session.specs.declared.serve.SessionEnd.{SessionEnd}
 use Rattle.be_session.specs.declared.serve.SessionEnd.TheVariants as ends
 use Rattle.be_session.specs.declared.turns.Turn.{Turn}
 use Rattle.be_session.specs.declared.turns.Turn.TheVariants.{Next, Over, After}
-use Rattle.be_session.specs.declared.short.Short.{Short}
-use Rattle.be_session.specs.declared.short.Short.TheVariants.{Split}
+use Rattle.be_protocol.specs.declared.short.Short.{Short}
+use Rattle.be_protocol.specs.declared.short.Short.TheVariants.{Split}
 use Rattle.be_session.specs.Ends.{end_after, is_on, end_of}
 use Rattle.be_session.specs.Given.{letters_of, GivesLetters, GivesInPart}
-use Rattle.be_transcript.specs.Runs.{is_quit}
+use Rattle.be_protocol.specs.Runs.{is_quit}
 use Rattle.be_session.specs.Reads.{IsTold}
-use Rattle.be_session.specs.Requests.{TakesMemory}
-use Rattle.be_session.specs.Short.{plain_reply}
+use Rattle.be_protocol.specs.Requests.{TakesMemory}
+use Rattle.be_protocol.specs.Short.{plain_reply}
 use Rattle.be_session.specs.Steps.{Replies, WroteInPart, Answered}
 use Rattle.be_session.specs.Tied.{Tied}
 use Rattle.be_session.specs.Turns.{turn_after, short_end, TellsText, Tells, TurnState, IsReading, IsFirstLine, TookLine, TurnsAfter, Turned}
@@ -98,7 +98,7 @@ letters_in_part : (o : Option (List Note)) (s : Attributes) (p : Exchange) (out 
 letters_in_part None s p out b b' without g = (g.0, g.1, record { taken = []; letters = without; given = (out, refl) })
 letters_in_part (Some box) s p out b b' without g = (g.0, [], g.1, g.2, g.3, record { taken = []; letters = without; given = (out, refl) })
 
-tied_in_part : (p : Exchange) (b b' : BoardState) → b.counts.empties ≤ b'.counts.empties → Tied (p ∷ []) (p ∷ []) b.counts b'.counts → Tied (p ∷ []) [] b.counts b'.counts
+pub tied_in_part : (p : Exchange) (b b' : BoardState) → b.counts.empties ≤ b'.counts.empties → Tied (p ∷ []) (p ∷ []) b.counts b'.counts → Tied (p ∷ []) [] b.counts b'.counts
 tied_in_part p b b' falls t = record { reads = t.reads; shuts = t.shuts; splits = t.splits; empties = risen_none b.counts.empties b'.counts.empties falls }
 
 pub cut_text : (bytes : List ℕ) (fault : SinkFault) (before after : SinkState) → Wrote before after bytes (Err fault) → (k : ℕ) × WroteInPart bytes fault (take k bytes) before after

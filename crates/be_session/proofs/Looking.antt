@@ -11,15 +11,14 @@ use Rattle.be_change.specs.Box.{KeepsBox}
 use Rattle.be_change.specs.History.{Entry}
 use Rattle.be_change.specs.Requests.{Request, refused, subscribe, unsubscribe, publish, costing, listing, sending, fetching, dumping, tailing, quit, Reply, no_memory, shut, Note, Exchange}
 use Rattle.be_change.specs.Walk.{Walk, having_seen, Answers, IsReadAt, place_accepted}
-use Rattle.be_transcript.specs.Runs.{comes_in_run, length_told, IsTold, RemovalMayWant}
+use Rattle.be_protocol.specs.Runs.{comes_in_run, length_told, IsTold, RemovalMayWant}
 use Rattle.be_board.specs.Reads as board
 use Rattle.be_board.specs.Reads.{Looks, Refuses}
 use Rattle.be_board.specs.State.{BoardState, BoardCounts, NoneFalls, GoesOn, LeavesLetters}
 use Rattle.be_board.specs.Word.{Word}
 use Rattle.be_session.specs.Ends.{goes_on}
 use Rattle.be_session.specs.Given.{letters_of}
-use Rattle.be_session.specs.Reads.{short_of}
-use Rattle.be_session.specs.Short.{plain_reply}
+use Rattle.be_protocol.specs.Short.{plain_reply, short_of}
 use Rattle.be_session.specs.Steps.{Steps, Replies}
 use Rattle.be_session.specs.Tied.{is_read, is_shut, is_split, is_short, full_letters, letters_put, Tied, TiedFull}
 use Rattle.be_session.proofs.Quiet.{quiet, quiet_alone, full_by, led_same, led_told, letters_by, told_same}

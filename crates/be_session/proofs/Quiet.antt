@@ -12,7 +12,7 @@ use Rattle.be_change.specs.History.{Entry, is_leave_of, placed_of, IsWellFormed}
 use Rattle.be_change.specs.Made.{change_made}
 use Rattle.be_change.specs.Requests.{ok, held, bye, Note, Exchange}
 use Rattle.be_change.specs.Walk.{Walk, having_seen, Answers, place_accepted}
-use Rattle.be_transcript.specs.Runs.{comes_in_run, length_told, IsTold, RemovalMayWant}
+use Rattle.be_protocol.specs.Runs.{comes_in_run, length_told, IsTold, RemovalMayWant}
 use Rattle.be_board.specs.State.{BoardState, GoesOn, NoneFalls, LeavesLetters}
 use Rattle.be_board.specs.Word.{Word, own_in, top, Keeps, IsDelivered}
 use Rattle.be_board.proofs.Going.{GoesOn-same}
@@ -22,13 +22,6 @@ use Rattle.be_session.specs.Given.{letters_of, GivesLetters}
 use Rattle.be_session.specs.Steps.{places_in, IsLedOn, IsBorne, StepsAlone, Steps}
 use Rattle.be_session.specs.Tied.{full_letters, TiedFull, is_read, is_shut, is_split, is_short}
 use Rattle.be_session.proofs.BearsOut.{own_same, adds_none}
-
--- what a reply owes no count
-pub record OwesNothing (p : Exchange) : Type 0 where
-  pub read : is_read p ≡ false
-  pub shut : is_shut p ≡ false
-  pub split : is_split p ≡ false
-  pub short : is_short p ≡ false
 
 pub gone_same : (w w' : Word) → w'.session ≡ w.session → w'.own ≡ w.own → list_any (λ (p : ℕ × Entry). is_leave_of w'.session p.1) w'.own ≡ list_any (λ (p : ℕ × Entry). is_leave_of w.session p.1) w.own
 gone_same w w' same own =

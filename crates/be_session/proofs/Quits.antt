@@ -6,9 +6,9 @@ use Rattle.std.proofs.lemmas.List.Folds.{list_all-append, list_all-map}
 use Rattle.be_io.specs.Lines.{TextLine}
 use Rattle.be_model.specs.Schemas.{Attributes}
 use Rattle.be_change.specs.Requests.{Request, refused, subscribe, unsubscribe, publish, costing, listing, sending, fetching, dumping, tailing, quit, Reply, refusal, ok, held, bye, dup, none, other, hit, cost, listed, sent, notes, dumped, tailed, split, no_memory, shut, Exchange}
-use Rattle.be_transcript.specs.Readings.{reading}
-use Rattle.be_transcript.specs.Runs.{comes_in_run, is_quit, HasNoQuit, EndsWithQuit}
-use Rattle.be_transcript.specs.Transcript.{requests}
+use Rattle.be_protocol.specs.Readings.{reading}
+use Rattle.be_protocol.specs.Runs.{comes_in_run, is_quit, HasNoQuit, EndsWithQuit}
+use Rattle.be_protocol.specs.Transcript.{requests}
 use Rattle.be_session.specs.declared.serve.SessionEnd.TheVariants.{Quit, Split}
 use Rattle.be_session.specs.Ends.{end_after, is_on, goes_on}
 

@@ -1,5 +1,5 @@
 -- A session's turns, one after another, are a legal transcript of the lines that were read.
-use Rattle.std.proofs.Common.{◌≡◌, ◌≢◌, inl, inr, ℕ, ◌+◌, ◌≤◌, Bool, true, false, List, [], ◌∷◌, ◌++◌, length, map, Option, Some, None, refl, sym, ap, ◌∙◌, subst, arith, append_assoc}
+use Rattle.std.proofs.Common.{◌≡◌, ◌≢◌, inl, inr, ◌⊎◌, ℕ, ◌+◌, ◌<◌, ◌≤◌, Bool, true, false, List, [], ◌∷◌, ◌++◌, length, map, Option, Some, None, refl, sym, ap, ◌∙◌, subst, arith, append_assoc}
 use Rattle.std.specs.List.{list_all}
 use Rattle.std.proofs.lemmas.List.{map_push, append-nil}
 use Rattle.std.proofs.lemmas.List.Concat.{flat_map-append}
@@ -10,14 +10,16 @@ use Rattle.be_io.specs.Told.{WhereTold, HoldsMore}
 use Rattle.be_io.specs.Lines.{TextLine, closed_line, line_of, read_line, lines}
 use Rattle.be_io.specs.Outside.{LinkState}
 use Rattle.be_io.specs.Reader.{ReaderState, NextLine, BreaksOff}
+use Rattle.be_io.specs.Sink.{SinkState}
+use Rattle.be_io.specs.declared.faults.SinkFault.{SinkFault}
 use Rattle.be_io.proofs.LineLemmas.{lines-ClosedLine, lines-OpenLine, lines-begun}
 use Rattle.be_io.proofs.ToldLemmas.{HoldsMore-append, HoldsMore-nil}
 use Rattle.be_model.specs.Schemas.{Attributes}
 use Rattle.be_change.specs.Requests.{Request, Reply, Exchange}
-use Rattle.be_transcript.specs.LinesRead.{read_ahead, ReadToEnd, ReadInPart, ReadFirstLines}
-use Rattle.be_transcript.specs.Readings.{reading}
-use Rattle.be_transcript.specs.Replies.{reply_text}
-use Rattle.be_transcript.specs.Transcript.{requests, texts}
+use Rattle.be_protocol.specs.LinesRead.{read_ahead, ReadToEnd, ReadInPart, ReadFirstLines}
+use Rattle.be_protocol.specs.Readings.{reading}
+use Rattle.be_protocol.specs.Replies.{reply_text}
+use Rattle.be_protocol.specs.Transcript.{requests, texts, OutputBroke}
 use Rattle.be_board.specs.State.{BoardState}
 use Rattle.be_board.specs.Word.{own_in}
 use Rattle.be_session.specs.declared.turns.Turn.TheVariants.{Next}
@@ -26,9 +28,10 @@ use Rattle.be_session.specs.Given.{GivesLetters}
 use Rattle.be_session.specs.Served.{TakesWithin}
 use Rattle.be_session.specs.Steps.{Steps, Replies, RepliedTo}
 use Rattle.be_session.specs.Tied.{Tied, TiedPuts}
-use Rattle.be_session.specs.Turns.{TurnState, IsReading, TakesAlike, IsFirstLine, TookLine, EndsAt, AnswersLine, new_reader, LinesGoOn, BoardServes, IsServing}
+use Rattle.be_session.specs.Turns.{TurnState, IsReading, TakesAlike, IsFirstLine, TookLine, EndsAt, TurnTaken, new_reader, LinesGoOn, BoardServes, IsServing}
 use Rattle.be_session.proofs.BoardWalks.{serves_first, serves_step, bears_step}
 use Rattle.be_session.proofs.GivingOn.{letters_none, letters_on}
+use Rattle.be_session.proofs.Handing.{StopsAt, went}
 use Rattle.be_session.proofs.Tying.{tied_none, tied_on, puts_none, puts_on}
 
 -- one more line
@@ -71,6 +74,23 @@ lines_on_told (Some s) (Some b) None unread unread' line ended done g n = absurd
 pub texts-push : (s : Attributes) (ps : List Exchange) (p : Exchange) → texts s (ps ++ p ∷ []) ≡ texts s ps ++ reply_text s p.1
 texts-push s ps p =
     flat_map-append (λ (q : Exchange). reply_text s q.1) ps (p ∷ []) ∙ ap (λ (x : List ℕ). texts s ps ++ x) (append-nil (reply_text s p.1))
+
+-- the output broke off at a reply behind these
+pub broke_off_at : (s : Attributes) (ps : List Exchange) (p : Exchange) (fault : SinkFault) (out : List ℕ) (before after : SinkState) → StopsAt (reply_text s p.1) fault out before after
+    → OutputBroke s ps p (texts s ps ++ out) after.kept_back
+broke_off_at s ps p fault out before after w = by w.some
+  where
+    by : (0 < length w.missing) ⊎ ((w.missing ≡ []) × (0 < after.kept_back)) → OutputBroke s ps p (texts s ps ++ out) after.kept_back
+    by (inl some) = inl (record {
+      missing = w.missing;
+      some = some;
+      is_text = texts-push s ps p ∙ (ap (λ (x : List ℕ). texts s ps ++ x) w.is_text ∙ sym (append_assoc (texts s ps) out w.missing));
+      whole = (out, refl);
+    })
+    by (inr (none, kept)) = inr (
+      sym (texts-push s ps p ∙ ap (λ (x : List ℕ). texts s ps ++ x) (w.is_text ∙ (ap (λ (x : List ℕ). out ++ x) none ∙ append-nil out))),
+      kept,
+    )
 
 requests-push : (s : Attributes) (ps : List Exchange) (done : List TextLine) (line : TextLine) (reply : Reply) → requests ps ≡ map (reading s) done
     → requests (ps ++ (reading s line, reply) ∷ []) ≡ map (reading s) (done ++ line ∷ [])
@@ -116,9 +136,10 @@ written_with s link b before after g r w =
     (HoldsMore-append link.sink.held before.link.sink.held after.link.sink.held (texts s g.ps) (reply_text s w.reply) g.written w.written)
 
 -- one more turn
-pub serves_on : (s : Attributes) (link : LinkState) (b : BoardState) (before after : TurnState) → IsServing s link b before → AnswersLine s before after Next
+pub serves_on : (s : Attributes) (link : LinkState) (b : BoardState) (before after : TurnState) → IsServing s link b before → TurnTaken s before after Next
     → TakesAlike before.reader.taken after.reader.taken before.link.source.taken after.link.source.taken → IsServing s link b after
-serves_on s link b before after g l t =
+serves_on s link b before after g turned t =
+    let l = went s before after Next turned in
     let line : TextLine = l.0 in
     let took : TookLine before after line = l.1 in
     let w = l.2.0 in
@@ -138,11 +159,15 @@ serves_on s link b before after g l t =
       written = written_with s link b before after g (reading s line) w;
       quiet = w.faults ∙ g.quiet;
       unrefused = w.refusals ∙ g.unrefused;
+      handed = λ e. none_left after.link.sink.kept_back link.sink.kept_back (l.2.2 e);
       sound = took.faults ∙ g.sound;
       taken = rises-along link.source.taken before.link.source.taken after.link.source.taken before.reader.taken t.0 after.reader.taken g.taken t.2 t.1;
       reads = took.reads;
       lines_read = one.lines_read;
     }
+  where
+    none_left : (n m : ℕ) → n ≡ 0 → n ≤ m
+    none_left n m e = omega (arith, e)
 
 -- at the end all lines were answered
 pub read_to_end : (start before after : Option (List ℕ)) (ended : Bool) (unread : List ℕ) (done : List TextLine)
@@ -220,6 +245,7 @@ serving_first s link b r new first somebody = record {
   written = HoldsMore-nil link.sink.held;
   quiet = refl;
   unrefused = refl;
+  handed = λ e. as_before link.sink.kept_back;
   sound = refl;
   taken = rises_none r.taken link.source.taken (ap (λ (x : ReaderState). x.taken) new);
   reads = subst IsReading (sym new) (record { limit = refl; sound = refl });
@@ -228,6 +254,9 @@ serving_first s link b r new first somebody = record {
       (at_first link.source.left r.unread (ap (λ (x : ReaderState). x.unread) new));
 }
   where
+    as_before : (n : ℕ) → n ≤ n
+    as_before n = omega arith
+
     rises_none : (t n : ℕ) → t ≡ 0 → RisesBy t n n
     rises_none t n e = omega arith
 

@@ -49,6 +49,7 @@ serving_tended s link b now d t g = subst (λ (x : BoardState). IsServing s link
           written = g.written;
           quiet = g.quiet;
           unrefused = g.unrefused;
+          handed = g.handed;
           sound = g.sound;
           taken = g.taken;
           reads = g.reads;

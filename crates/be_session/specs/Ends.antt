@@ -21,6 +21,12 @@ is_on (Some end) = false
 abbrev pub goes_on : Exchange → Bool
 goes_on p = is_on (end_after p.0 p.1)
 
+-- so a session ends by a reply
+abbrev pub is_by_reply : SessionEnd → Bool
+is_by_reply Quit = true
+is_by_reply (Split a b) = true
+is_by_reply end = false
+
 -- none of these replies ended the session, or the last one did so
 abbrev pub EndsBy : Option SessionEnd → List Exchange → Type 0
 EndsBy None ps = list_all goes_on ps ≡ true
@@ -28,7 +34,7 @@ EndsBy (Some end) ps =
     (front : List Exchange) × (last : Exchange) × (ps ≡ front ++ last ∷ []) × (list_all goes_on front ≡ true)
     × (end_after last.0 last.1 ≡ Some end)
 
--- how it ended where the reply was cut short
+-- how it ended where the output broke off
 abbrev pub end_of : SinkFault → SessionEnd
 end_of sink.Failed = WriteFault
 end_of sink.NoMemory = NoMemory

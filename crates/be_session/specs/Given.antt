@@ -7,8 +7,8 @@ use Rattle.be_model.specs.Schemas.{Attributes}
 use Rattle.be_change.specs.Box.{KeepsBox}
 use Rattle.be_change.specs.History.{Entry}
 use Rattle.be_change.specs.Requests.{Note, Reply, notes, Exchange}
-use Rattle.be_transcript.specs.Replies.{note_line, with_lf}
-use Rattle.be_transcript.specs.Transcript.{texts}
+use Rattle.be_protocol.specs.Replies.{note_line, with_lf}
+use Rattle.be_protocol.specs.Transcript.{texts}
 use Rattle.be_board.specs.Letters.{note_of}
 use Rattle.be_board.specs.State.{BoardState}
 use Rattle.be_board.specs.Word.{Word}
@@ -38,13 +38,13 @@ GivesLetters None ps b b' = (b'.box ≡ None) × GivesNoted b.word b'.word ps
 GivesLetters (Some box) ps b b' =
     (b'.word.notes ≡ b.word.notes) × (box' : List Note) × (b'.box ≡ Some box') × KeepsTold box b' ps box'
 
--- of the letters of a last reply that was cut short these were taken, and all of them but one were written whole
+-- of the letters of a last reply at which the output broke off these were taken, and all of them but one were written whole
 pub record TakenInPart (s : Attributes) (ps : List Exchange) (last : Reply) (out : List ℕ) (left : List Note) : Type 0 where
   pub taken : List Note
   pub letters : letters_of last ≡ taken ++ left
   pub given : BeginsWith out (texts s ps ++ flat_map (λ (l : Note). with_lf (note_line s l)) (take (length taken - 1) taken))
 
--- where the letters came from, the last reply cut short. Letters that it would have given still lie in the box
+-- where the letters came from, where the output broke off at the last reply. Letters that it would have given still lie in the box
 abbrev pub GivesInPart : Option (List Note) → Attributes → List Exchange → Exchange → List ℕ → BoardState → BoardState → Type 0
 GivesInPart None s ps last out b b' =
     (b'.box ≡ None) × GivesNoted b.word b'.word (ps ++ last ∷ []) × TakenInPart s ps last.1 out []

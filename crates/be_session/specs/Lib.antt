@@ -1,6 +1,3 @@
-pub mod Requests
-pub mod Short
-pub mod Texts
 pub mod Bearing
 pub mod Ends
 pub mod Tied

@@ -1,20 +1,12 @@
 -- Replies that tell what a read found.
 use Rattle.std.specs.Prelude.{◌≡◌, ℕ, List, [], None}
-use Rattle.be_base.specs.declared.names.NoRead.{NoRead}
-use Rattle.be_base.specs.declared.names.NoRead.TheVariants as refused
 use Rattle.be_model.specs.Schemas.{Attributes}
 use Rattle.be_change.specs.Requests.{Request, Reply}
-use Rattle.be_transcript.specs.Replies.{reply_text}
+use Rattle.be_protocol.specs.Replies.{reply_text}
 use Rattle.be_board.specs.State.{BoardState}
-use Rattle.be_session.specs.declared.short.Short.{Short}
-use Rattle.be_session.specs.declared.short.Short.TheVariants.{Shut, NoMemory}
 use Rattle.be_session.specs.Ends.{end_after}
 use Rattle.be_session.specs.Given.{letters_of}
 use Rattle.be_session.specs.Steps.{Replies}
-
-abbrev pub short_of : NoRead → Short
-short_of refused.Shut = Shut
-short_of refused.NoMemory = NoMemory
 
 -- this is the text of a reply that the board's answer makes, which gives no letters and ends no session
 abbrev pub IsTold : Attributes → Request → List ℕ → BoardState → BoardState → Type 0

@@ -15,10 +15,10 @@ use Rattle.be_change.specs.Box.{KeepsBox}
 use Rattle.be_change.specs.History.{Entry, left, is_opening, entries_of, IsWellFormed}
 use Rattle.be_change.specs.Made.{made}
 use Rattle.be_change.specs.Requests.{Note, Exchange}
-use Rattle.be_transcript.specs.LinesRead.{ReadToEnd, ReadInPart, ReadFirstLines}
-use Rattle.be_transcript.specs.Readings.{reading}
-use Rattle.be_transcript.specs.Runs.{AreAlone}
-use Rattle.be_transcript.specs.Transcript.{requests, texts, IsCutText, AreExchanges}
+use Rattle.be_protocol.specs.LinesRead.{ReadToEnd, ReadInPart, ReadFirstLines}
+use Rattle.be_protocol.specs.Readings.{reading}
+use Rattle.be_protocol.specs.Runs.{AreAlone}
+use Rattle.be_protocol.specs.Transcript.{requests, texts, OutputBroke, AreExchanges}
 use Rattle.be_board.specs.State.{BoardState, GoesOn}
 use Rattle.be_board.specs.Word.{Keeps}
 use Rattle.be_session.specs.declared.serve.SessionEnd.{SessionEnd}
@@ -70,14 +70,14 @@ pub record Replied (s : Attributes) (lines : List TextLine) (end : Option Sessio
   pub letters : GivesLetters b.box exchanges b b'
   pub alone : BeginsAlone b → RanOver s (is_on end) lines exchanges b b'
 
--- each of these lines was answered, but that the reply to the last one is cut short
+-- each of these lines was answered, but that the output broke off at the reply to the last one
 pub record RepliedInPart (s : Attributes) (lines : List TextLine) (before after : SinkState) (b b' : BoardState) : Type 0 where
   pub exchanges : List Exchange
   pub last : Exchange
   pub asked : requests (exchanges ++ last ∷ []) ≡ map (reading s) lines
   pub out : List ℕ
   pub written : HoldsMore before.held after.held out
-  pub cut : IsCutText s exchanges last out
+  pub broke : OutputBroke s exchanges last out after.kept_back
   pub ends : EndsBy None exchanges
   pub borne : AreBorneOut s lines (exchanges ++ last ∷ []) b b'
   pub tied : Tied (exchanges ++ last ∷ []) exchanges b.counts b'.counts
@@ -89,10 +89,11 @@ pub record RepliedInPart (s : Attributes) (lines : List TextLine) (before after 
 abbrev pub NoReadFailed : LinkState → LinkState → Type 0
 NoReadFailed before after = after.source.faults ≡ before.source.faults
 
--- no write failed, and none was refused for want of memory
+-- no write failed, none was refused for want of memory, and no more is kept back than before
 pub record NoWriteFailed (before after : LinkState) : Type 0 where
   pub faults : after.sink.faults ≡ before.sink.faults
   pub refusals : after.sink.refusals ≡ before.sink.refusals
+  pub handed : after.sink.kept_back ≤ before.sink.kept_back
 
 -- the input was read to its end, and all its lines were answered
 pub record ReachedEnd (s : Attributes) (before after : LinkState) (b b' : BoardState) : Type 0 where
@@ -117,12 +118,12 @@ pub record BrokeOff (s : Attributes) (before after : LinkState) (b b' : BoardSta
   pub writes : NoWriteFailed before after
   pub replied : Replied s lines None before.sink after.sink b b'
 
--- the output broke off within a reply, and no later line has one
+-- the output broke off at a reply, and no later line has one
 pub record CutShort (s : Attributes) (before after : LinkState) (b b' : BoardState) : Type 0 where
   pub lines : List TextLine
   pub read : ReadFirstLines before.source.left after.source.left lines
   pub reads : NoReadFailed before after
-  -- a write failed, or memory was wanting to one, and not both
+  -- a write or a flush failed, or memory was wanting to one, and not both
   pub once : RefusedOnce before.sink after.sink
   pub replied : RepliedInPart s lines before.sink after.sink b b'
 

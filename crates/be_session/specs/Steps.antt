@@ -11,8 +11,8 @@ use Rattle.be_change.specs.History.{Entry}
 use Rattle.be_change.specs.Made.{change_made}
 use Rattle.be_change.specs.Requests.{Request, Reply, Exchange}
 use Rattle.be_change.specs.Walk.{Walk, Answers, place_accepted}
-use Rattle.be_transcript.specs.Replies.{reply_text}
-use Rattle.be_transcript.specs.Runs.{comes_in_run, length_told, IsTold, RemovalMayWant}
+use Rattle.be_protocol.specs.Replies.{reply_text}
+use Rattle.be_protocol.specs.Runs.{comes_in_run, length_told, IsTold, RemovalMayWant}
 use Rattle.be_board.specs.State.{BoardState, GoesOn, is_gone}
 use Rattle.be_board.specs.Word.{own_in, Keeps}
 use Rattle.be_session.specs.Bearing.{Bears, Stands, AddsOwn}

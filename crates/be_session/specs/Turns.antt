@@ -5,31 +5,31 @@ use Rattle.be_base.specs.declared.limits.TheConstants.{LINE_BYTES, SOURCE_BYTES}
 use Rattle.be_base.specs.Counts.{HasRisen, RisesBy}
 use Rattle.be_base.specs.Lists.{BeginsWith}
 use Rattle.be_io.specs.Told.{WhereTold, HoldsMore}
-use Rattle.be_io.specs.Lines.{TextLine, lines, read_line}
+use Rattle.be_io.specs.Lines.{TextLine, has_lf, lines, read_line}
 use Rattle.be_io.specs.Outside.{LinkState}
 use Rattle.be_io.specs.Reader.{ReaderState, NextLine, BreaksOff}
-use Rattle.be_io.specs.Sink.{SinkState, Wrote}
+use Rattle.be_io.specs.Sink.{SinkState, Wrote, Flushed}
 use Rattle.be_io.specs.declared.faults.SinkFault.{SinkFault}
 use Rattle.be_model.specs.Schemas.{Attributes}
 use Rattle.be_change.specs.History.{Entry}
 use Rattle.be_change.specs.Made.{made, changes_made}
 use Rattle.be_change.specs.Requests.{Request, Reply, Exchange}
 use Rattle.be_change.specs.Walk.{Walk, beginning_at, IsLegal, accepted}
-use Rattle.be_transcript.specs.LinesRead.{read_ahead}
-use Rattle.be_transcript.specs.Readings.{reading}
-use Rattle.be_transcript.specs.Replies.{reply_text}
-use Rattle.be_transcript.specs.Runs.{AreAlone}
-use Rattle.be_transcript.specs.Transcript.{requests, texts}
+use Rattle.be_protocol.specs.LinesRead.{read_ahead}
+use Rattle.be_protocol.specs.Readings.{reading}
+use Rattle.be_protocol.specs.Replies.{reply_text}
+use Rattle.be_protocol.specs.Runs.{AreAlone}
+use Rattle.be_protocol.specs.Transcript.{requests, texts}
 use Rattle.be_board.specs.State.{BoardState, GoesOn, is_gone}
 use Rattle.be_board.specs.Word.{own_in, Keeps}
-use Rattle.be_session.specs.declared.short.Short.{Short}
-use Rattle.be_session.specs.declared.short.Short.TheVariants.{Split}
+use Rattle.be_protocol.specs.declared.short.Short.{Short}
+use Rattle.be_protocol.specs.declared.short.Short.TheVariants.{Split}
 use Rattle.be_session.specs.declared.serve.SessionEnd.{SessionEnd}
 use Rattle.be_session.specs.declared.serve.SessionEnd.TheVariants as ends
 use Rattle.be_session.specs.declared.turns.Turn.{Turn}
 use Rattle.be_session.specs.declared.turns.Turn.TheVariants.{Next, Over, After}
 use Rattle.be_session.specs.Bearing.{Bears, Stands, AddsOwn}
-use Rattle.be_session.specs.Ends.{end_after, is_on, goes_on, end_of}
+use Rattle.be_session.specs.Ends.{end_after, is_on, goes_on, is_by_reply, end_of}
 use Rattle.be_session.specs.Given.{GivesLetters}
 use Rattle.be_session.specs.Served.{BeginsAlone}
 use Rattle.be_session.specs.Steps.{places_in, RepliedTo, RepliedInPartTo}
@@ -40,7 +40,7 @@ abbrev pub turn_whole : Option SessionEnd → Turn
 turn_whole None = Next
 turn_whole (Some end) = After end
 
--- and where the reply was cut short
+-- and where the output broke off
 abbrev pub turn_cut : Option SessionEnd → SessionEnd → Turn
 turn_cut None end = Over end
 turn_cut (Some by) end = After end
@@ -101,11 +101,13 @@ EndsAt false unread b a = (unread ++ b ≡ []) × (a ≡ [])
 pub record TookEnd (before after : TurnState) : Type 0 where
   pub next : WhereTold before.link.source.left after.link.source.left (λ b a. EndsAt before.reader.ended before.reader.unread b a)
   pub faults : after.link.source.faults ≡ before.link.source.faults
+  pub none_ahead : has_lf before.reader.unread ≡ false
 
 -- the input broke off, within a line or before one
 pub record TookBreak (before after : TurnState) : Type 0 where
   pub going : before.reader.ended ≡ false
   pub next : WhereTold before.link.source.left after.link.source.left (λ b a. BreaksOff (before.reader.unread ++ b) a)
+  pub none_ahead : has_lf before.reader.unread ≡ false
 
 -- a request was answered, and the session goes on so
 abbrev pub TurnsAfter : Attributes → Request → BoardState → BoardState → SinkState → SinkState → Turn → Type 0
@@ -134,6 +136,34 @@ Turned s before after (Over ends.ReadFault) =
 Turned s before after (Over ends.Spent) =
     TookBreak before after × IsSilent before after × (after.reader.taken ≡ SOURCE_BYTES) × (after.link.source.faults ≡ before.link.source.faults)
 Turned s before after turn = AnswersLine s before after turn
+
+-- what was written is to be handed on: a reply ended the session so, or nothing did and the next read may wait, since no
+-- whole line was read ahead
+abbrev pub is_due : (ahead : Bool) → Option SessionEnd → Bool
+is_due ahead None = not ahead
+is_due ahead (Some end) = is_by_reply end
+
+-- it was handed on, or the sink refused that, where it was due
+abbrev pub HandsOn : (due : Bool) → SinkState → SinkState → Result (Unit {0}) SinkFault → Type 0
+HandsOn true before after handed = Flushed before after handed
+HandsOn false before after handed = (after ≡ before) × (handed ≡ Ok tt)
+
+-- the same behind a reply that ended the session so or didn't, and it goes on so
+abbrev pub HandsOnBehind : (ahead : Bool) → Option SessionEnd → SinkState → SinkState → Turn → Type 0
+HandsOnBehind ahead by before after turn =
+    (handed : Result (Unit {0}) SinkFault) × HandsOn (is_due ahead by) before after handed × (turn ≡ turn_after by handed)
+
+-- and behind a turn
+abbrev pub HandsOnAfter : (ahead : Bool) → Turn → SinkState → SinkState → Turn → Type 0
+HandsOnAfter ahead Next before after turn = HandsOnBehind ahead None before after turn
+HandsOnAfter ahead (After end) before after turn = HandsOnBehind ahead (Some end) before after turn
+HandsOnAfter ahead (Over end) before after turn = (after ≡ before) × (turn ≡ Over end)
+
+-- a turn did this, and what was written was handed on where that was due, after which the session goes on so
+abbrev pub TurnTaken : Attributes → TurnState → TurnState → Turn → Type 0
+TurnTaken s before after turn =
+    (written : SinkState) × (answered : Turn) × Turned s before (record after { link = record after.link { sink = written } }) answered
+    × HandsOnAfter (has_lf after.reader.unread) answered written after.link.sink turn
 
 -- a reader of a session's lines that has read nothing
 abbrev pub new_reader : ReaderState
@@ -187,6 +217,7 @@ pub record IsServing (s : Attributes) (link : LinkState) (b : BoardState) (now :
   pub written : HoldsMore link.sink.held now.link.sink.held (texts s ps)
   pub quiet : now.link.sink.faults ≡ link.sink.faults
   pub unrefused : now.link.sink.refusals ≡ link.sink.refusals
+  pub handed : has_lf now.reader.unread ≡ false → now.link.sink.kept_back ≤ link.sink.kept_back
   pub sound : now.link.source.faults ≡ link.source.faults
   pub taken : RisesBy now.reader.taken link.source.taken now.link.source.taken
   pub reads : IsReading now.reader

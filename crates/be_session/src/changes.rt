@@ -6,13 +6,12 @@ ghost use Rattle.be_change.specs.Requests as asked;
 ghost use Rattle.be_board.specs.Changes.{Asked};
 ghost use Rattle.be_board.specs.State.{is_gone};
 ghost use Rattle.be_session.specs.Changes.{reply_of, quit_reply};
-ghost use Rattle.be_session.specs.Short.{plain_reply};
+ghost use Rattle.be_protocol.specs.Short.{plain_reply};
 ghost use Rattle.be_session.specs.Steps.{Replies};
 
-use crate::requests::Subscription;
-use crate::short::Short;
 use be_base::Name;
 use be_board::{Answer, Board};
+use be_protocol::{Short, Subscription};
 use std::alloc::Global;
 
 /// How often a session asks to leave while memory is wanting.

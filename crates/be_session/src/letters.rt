@@ -1,21 +1,18 @@
 //! SEND and FETCH: letters to the sessions of live rows.
 
-ghost use Rattle.std.specs.Prelude.{◌≡◌, ◌++◌, true, None, codes};
+ghost use Rattle.std.specs.Prelude.{◌≡◌, true, None};
 ghost use Rattle.be_model.specs.Lies.{event_lies};
 ghost use Rattle.be_io.specs.Outside.{sink_state};
-ghost use Rattle.be_io.specs.Sink.{Wrote};
-ghost use Rattle.be_transcript.specs.Replies.{number, with_lf};
 ghost use Rattle.be_change.specs.Requests as asked;
-ghost use Rattle.be_session.specs.Short.{plain_reply};
+ghost use Rattle.be_protocol.specs.Short.{plain_reply};
 ghost use Rattle.be_session.specs.Steps.{Replies, Answered};
 ghost use Rattle.be_session.specs.Ends.{end_after};
 
-use crate::noting::send_note;
 use crate::room::Room;
-use crate::short::{Short, end_text};
 use be_board::{Board, Sent};
-use be_io::{Sink, SinkFault, write_all};
+use be_io::{Sink, SinkFault};
 use be_model::{Event, Schema};
+use be_protocol::{Short, say_end, send_note};
 use std::alloc::Global;
 
 impl Room {
@@ -55,12 +52,4 @@ pub fn fetch<B: Board, K: Sink>(
         send_note(out, schema, &letter)?;
         count += 1;
     }
-}
-
-// Writes the last line of the reply to a FETCH that was given so many letters.
-fn say_end<K: Sink>(out: &mut K, count: u64) -> Result<(), SinkFault>
-    ensures wrote { Wrote (sink_state K.Sink out.old) (sink_state K.Sink out.new) (with_lf (codes "END" ++ number count)) result }
-    ensures beside { K.kept_by_write out.new ≡ K.kept_by_write out.old }
-{
-    write_all(out, end_text(count).as_str().as_bytes())
 }

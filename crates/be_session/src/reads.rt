@@ -5,14 +5,14 @@ ghost use Rattle.std.specs.Prelude.{◌≡◌, true, OnOk, IfErr};
 ghost use Rattle.be_model.specs.Lies.{event_lies};
 ghost use Rattle.be_change.specs.Requests as asked;
 ghost use Rattle.be_session.specs.Reads.{IsTold};
-ghost use Rattle.be_session.specs.Short.{plain_reply};
+ghost use Rattle.be_protocol.specs.Short.{plain_reply};
 ghost use Rattle.be_session.specs.Steps.{Replies};
 
 use crate::room::Room;
-use crate::short::Short;
-use crate::texts::{Naming, write_changes, write_names, write_rows};
 use be_board::Board;
+use be_index::Hits;
 use be_model::{Event, Schema};
+use be_protocol::{Naming, Short, write_changes, write_hits, write_names, write_rows};
 
 impl Room {
     /// The names of the live rows that the event satisfies.
@@ -23,8 +23,8 @@ impl Room {
             (asked.publish event.now, plain_reply short) (B.state board.old) (B.state board.new)) }
     {
         self.reply.clear();
-        let n = board.find(event, &mut self.found)?;
-        write_names(&mut self.reply, Naming::Hit, n, self.found.rows())?;
+        let n = board.hits(event, &mut self.ids, &mut self.names)?;
+        write_hits(&mut self.reply, n, self.ids.count(), self.names.as_slice())?;
         Ok(())
     }
 

@@ -4,29 +4,27 @@ ghost use Rattle.std.specs.Prelude.{◌≡◌, ◌+◌, ◌<◌, ◌≤◌, [], 
 ghost use Rattle.be_base.specs.declared.limits.TheConstants.{SOURCE_BYTES};
 ghost use Rattle.be_io.specs.Lines as line;
 ghost use Rattle.be_io.specs.Outside.{link_state, sink_state};
-ghost use Rattle.be_transcript.specs.Readings.{reading};
+ghost use Rattle.be_protocol.specs.Readings.{reading};
 ghost use Rattle.be_change.specs.Requests as asked;
 ghost use Rattle.be_model.specs.Schemas.{Attributes};
 ghost use Rattle.be_board.specs.State.{BoardState, is_gone};
 ghost use Rattle.be_board.specs.Word.{own_in};
-ghost use Rattle.be_session.specs.Requests.{plain_request, request_lies};
+ghost use Rattle.be_protocol.specs.Requests.{plain_request, request_lies};
 ghost use Rattle.be_session.specs.declared.room.TheConstants.{REPLY_KEPT};
-ghost use Rattle.be_session.specs.Short.{plain_reply};
+ghost use Rattle.be_protocol.specs.Short.{plain_reply};
 ghost use Rattle.be_session.specs.Served.{SessionEnds, TakesWithin, BoardLeft, KeepsBeside};
-ghost use Rattle.be_session.specs.Turns.{IsReading, TakesAlike, TurnsAfter, Turned, short_end, Tells, TellsText};
+ghost use Rattle.be_session.specs.Turns.{IsReading, TakesAlike, TurnsAfter, Turned, TurnTaken, short_end, Tells, TellsText};
 
 use crate::changes::{leave, quit, subscribe, unsubscribe};
 use crate::letters::fetch;
 use crate::reads::cost;
-use crate::requests::{Refusal, Request, read_line};
 use crate::room::Room;
-use crate::saying::say;
-use crate::short::Short;
-use crate::turns::{Turn, turn_after};
+use crate::turns::{Turn, hand_over_after, turn_after};
 use be_base::{LINE_BYTES, NoMemory};
 use be_board::Board;
 use be_io::{Gate, Line, LineFault, LineReader, Link, Sink, write_all};
 use be_model::Schema;
+use be_protocol::{Refusal, Request, Short, read_line, say};
 use std::alloc::Global;
 
 /// After so many replies the board is tended.
@@ -68,8 +66,8 @@ impl<G: Gate> Station<'_, G> {
 }
 
 /// Serves the board's session over a link, until a QUIT, the end of the input, a SPLIT or a fault. Without a reply that ended it
-/// the session leaves at its end. The gate is called by the worker's number before and after each line, and the board is tended
-/// after every sixteenth reply.
+/// the session leaves at its end. Replies are handed on before a read that may wait, and at the end. The gate is called by the
+/// worker's number before and after each line, and the board is tended after every sixteenth reply.
 pub fn serve_link<B: Board, L: Link, G: Gate>(
     alloc: Global,
     schema: &Schema,
@@ -120,7 +118,8 @@ pub fn serve_link<B: Board, L: Link, G: Gate>(
     }
 }
 
-// Takes a turn, and then lets room go that is too large to be kept for the next one.
+// Takes a turn and hands on what was written, before a read that may wait and at the end. Then it lets room go that is too large to
+// be kept for the next turn.
 fn next_turn<B: Board, L: Link, G: Gate>(
     alloc: Global,
     schema: &Schema,
@@ -133,7 +132,7 @@ fn next_turn<B: Board, L: Link, G: Gate>(
     requires reads { IsReading reader.old }
     requires present { is_gone (B.state board.old) ≡ false }
     requires schema { (B.state board.old).schema ≡ schema.now }
-    ensures turned { Turned schema.now
+    ensures turned { TurnTaken schema.now
         (record {
           reader = reader.old;
           link = link_state L.Source L.Sink link.old;
@@ -150,7 +149,8 @@ fn next_turn<B: Board, L: Link, G: Gate>(
     ensures beside { KeepsBeside (L.kept_by_read link.old) (L.kept_by_read link.new) }
     ensures room { vec_capacity room.new.reply ≤ REPLY_KEPT }
 {
-    let turn = take_turn(alloc, schema, board, room, reader, link, station);
+    let answered = take_turn(alloc, schema, board, room, reader, link, station);
+    let turn = hand_over_after(link, reader.has_line(), answered);
     room.let_go(alloc);
     turn
 }

@@ -1,14 +1,31 @@
 -- Wanted rows of a list that is gone through, and of a node.
 use Rattle.std.proofs.Common.{◌≡◌, ℕ, ◌+◌, ◌<◌, List, [], ◌∷◌, ◌++◌, length, drop, get_or, slice_get, Option, Some, sym, ap, ◌∙◌, arith, length-append}
-use Rattle.std.proofs.lemmas.List.{drop_more}
+use Rattle.std.proofs.lemmas.List.{append_assoc, drop_more}
 use Rattle.std.proofs.lemmas.List.Elements.{filter-append}
 use Rattle.std.proofs.lemmas.Option.{slice_get_within, get_or_from_slice_get}
 use Rattle.be_base.specs.declared.names.SessionNo.{SessionNo}
 use Rattle.be_model.specs.declared.changes.Row.{Row}
 use Rattle.be_shape.specs.declared.nodes.Part.{Part}
 use Rattle.be_shape.specs.Plain.{part_as, parts_as, rows_below, rows_in_parts}
-use Rattle.be_match.proofs.Fronts.{put_on}
+use Rattle.be_base.specs.Lists.{BeginsWith}
+use Rattle.be_base.proofs.Beginnings.{BeginsWith-length}
 use Rattle.be_tree.specs.Gathered.{is_wanted, wanted}
+
+-- rows put one list after another are put together
+put_on : (r0 r1 r2 a b : List Row) → r1 ≡ r0 ++ a → r2 ≡ r1 ++ b → r2 ≡ r0 ++ (a ++ b)
+put_on r0 r1 r2 a b h k = k ∙ ap (λ r. r ++ b) h ∙ append_assoc r0 a b
+
+pub some_first : (all first rest : List Row) → all ≡ first ++ rest → 0 < length first → 0 < length all
+some_first all first rest h l = omega (arith, ap length h, length-append first rest)
+
+-- where something is found from a place on, it is found in all
+pub some_from : (was found all rest : List Row) → found ++ rest ≡ was ++ all → BeginsWith found was → 0 < length rest → 0 < length all
+some_from was found all rest h front l =
+    omega (arith, ap length h, length-append found rest, length-append was all, BeginsWith-length found was front)
+
+-- what was put, and what is still to be put, one step on
+pub put_step : (found put a b c all : List Row) → found ++ a ≡ all → a ≡ b ++ c → put ≡ found ++ b → put ++ c ≡ all
+put_step found put a b c all h k l = ap (λ r. r ++ c) l ∙ append_assoc found b c ∙ ap (λ q. found ++ q) (sym k) ∙ h
 
 pub wanted_both : (k : Option SessionNo) (xs ys : List Row) → wanted k (xs ++ ys) ≡ wanted k xs ++ wanted k ys
 wanted_both k xs ys = filter-append (is_wanted k) xs ys
@@ -18,12 +35,6 @@ pub wanted_at : (k : Option SessionNo) (xs : List Row) (i : ℕ) (x : Row) → s
 wanted_at k xs i x h =
     let is : x ≡ get_or xs i x = sym (get_or_from_slice_get xs i x x h) in
     ap (wanted k) (drop_more xs i x (slice_get_within xs i x h) ∙ ap (λ q. q ∷ drop (i + 1) xs) (sym is)) ∙ wanted_both k (x ∷ []) (drop (i + 1) xs)
-
--- from the place of a part on
-pub wanted_part : (k : Option SessionNo) (ps : List Part) (i : ℕ) (p : Part) → i < length ps → p ≡ get_or ps i p
-    → wanted k (rows_in_parts (parts_as (drop i ps))) ≡ wanted k (rows_below (part_as p).1) ++ wanted k (rows_in_parts (parts_as (drop (i + 1) ps)))
-wanted_part k ps i p l is =
-    ap (λ q. wanted k (rows_in_parts (parts_as q))) (drop_more ps i p l ∙ ap (λ q. q ∷ drop (i + 1) ps) (sym is)) ∙ wanted_both k (rows_below (part_as p).1) (rows_in_parts (parts_as (drop (i + 1) ps)))
 
 -- the rows of a node are put level by level
 pub put_levels : (k : Option SessionNo) (r0 r1 r2 r3 r4 leaf p l h : List Row) → r1 ≡ r0 ++ wanted k leaf → r2 ≡ r1 ++ wanted k p → r3 ≡ r2 ++ wanted k l → r4 ≡ r3 ++ wanted k h

@@ -8,7 +8,7 @@ ghost use Rattle.be_tree.specs.declared.tree.TheConstants.{ALPHA};
 use crate::gathers::gather;
 use be_adjust::apply;
 use be_base::{NoMemory, SessionNo};
-use be_index::Index;
+use be_index::{Hits, Index};
 use be_insert::place;
 use be_match::{cost_of, find_in};
 use be_model::{Cost, Event, Found, Row, Schema, Step, StepDone};
@@ -71,7 +71,7 @@ impl Index for BeTree {
         place(&mut self.tree, row)
     }
 
-    fn find(&self, event: &Event, found: &mut Found) -> Result<Cost, NoMemory> {
+    fn find<C: Hits>(&self, event: &Event, found: &mut C) -> Result<Cost, NoMemory> {
         find_in(&self.tree, event, found)
     }
 

@@ -6,7 +6,7 @@ use Rattle.std.proofs.lemmas.Bool.{and_from, and_parts}
 use Rattle.std.proofs.lemmas.Bool.Decides.{nat_tests}
 use Rattle.std.proofs.lemmas.List.{length-map}
 use Rattle.std.proofs.lemmas.List.Folds.{list_all-append}
-use Rattle.be_base.specs.Text.{Text, IsWord, is_word_byte}
+use Rattle.be_base.specs.Text.{Text, is_word_byte}
 use Rattle.be_base.specs.Tokens.{Lexeme, word, tokens}
 use Rattle.be_base.proofs.SetTokens.{Ends}
 use Rattle.be_base.proofs.Joined.{word_then, word_space, space_then}
@@ -17,6 +17,7 @@ use Rattle.be_expr.specs.Build.{is_fine}
 use Rattle.be_expr.specs.Grammar.{WrittenPred, op_tokens, pred_tokens, condition_tokens, op_is_written, are_written}
 use Rattle.be_expr.specs.Expressions.{words_of, is_unknown, is_outside, has_many_values, fault_in, meant_pred, condition, judged, meaning}
 use Rattle.be_expr.proofs.BuiltPreds.{fine_parts}
+use Rattle.be_expr.proofs.CanonicalTokens.{IsWord-and}
 use Rattle.be_expr.proofs.Grammar.{tokens_are_read}
 use Rattle.be_workload.specs.Drawing.{Script, draw, put, predicate, predicates, expression}
 use Rattle.be_workload.specs.Asked.{schema}
@@ -102,10 +103,6 @@ condition_tokens-snoc p (r ∷ rs) q =
 
 list_all-snoc : (test : WrittenPred → Bool) (ps : List WrittenPred) (q : WrittenPred) → list_all test ps ≡ true → test q ≡ true → list_all test (ps ++ q ∷ []) ≡ true
 list_all-snoc test ps q h k = list_all-append test ps (q ∷ []) ∙ and_from (list_all test ps) (test q && true) h (and_from (test q) true k refl)
-
-IsWord-and : IsWord (codes "and")
-unfolding is_word_byte
-IsWord-and = record { some = omega arith; bytes = refl }
 
 and_joined : (a b rest : Text) → ((a ++ codes " and ") ++ b) ++ rest ≡ a ++ 32 ∷ (codes "and" ++ 32 ∷ (b ++ rest))
 and_joined a b rest = append_assoc (a ++ codes " and ") b rest ∙ append_assoc a (codes " and ") (b ++ rest)

@@ -14,8 +14,8 @@ use Rattle.be_io.specs.Lines.{has_lf, without_cr, closed_line, lines}
 use Rattle.be_io.proofs.FileLineLemmas.{file_lines-ClosedLine}
 use Rattle.be_io.proofs.LineLemmas.{lines-ClosedLine}
 use Rattle.be_change.specs.Requests.{Request}
-use Rattle.be_transcript.specs.Readings.{reading}
-use Rattle.be_transcript.specs.Replies.{with_lf}
+use Rattle.be_protocol.specs.Readings.{reading}
+use Rattle.be_protocol.specs.Replies.{with_lf}
 use Rattle.be_workload.specs.Asked.{schema, asked, asked_by_lines}
 use Rattle.be_workload.proofs.Plain.{is_plain, IsPlain}
 

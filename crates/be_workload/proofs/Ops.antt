@@ -10,6 +10,7 @@ use Rattle.be_base.proofs.SetTokens.{Ends, set_then}
 use Rattle.be_base.proofs.Joined.{word_then, word_space, space_then, less_or_equal_space, equal_space, greater_or_equal_space}
 use Rattle.be_expr.specs.Grammar.{WrittenOp, compared as compared_with, between as between_ends, among, op_tokens, op_is_written}
 use Rattle.be_expr.specs.Expressions.{words_of}
+use Rattle.be_expr.proofs.CanonicalTokens.{IsWord-between, IsWord-and, IsWord-in}
 use Rattle.be_workload.specs.Drawing.{Script, draw, put_value, between, in_set, compared}
 use Rattle.be_workload.proofs.Attributes.{are_small}
 use Rattle.be_workload.proofs.Plain.{IsPlain, plain_append, plain_within, value_plain}
@@ -24,10 +25,6 @@ pub record Adds (P : Text → Type 0) (s t : Script) : Type 0 where
 pub draw_small : (k : ℕ) (s : Script) → 0 < k → (draw k s).0 < k
 unfolding draw
 draw_small k s h = omega arith
-
-pub draw_writes_nothing : (k : ℕ) (s : Script) → (draw k s).1.text ≡ s.text
-unfolding draw
-draw_writes_nothing k s = refl
 
 -- a comparison of drawn values, behind a space
 pub record IsOp (piece : Text) : Type 0 where
@@ -78,18 +75,6 @@ less_op v h = comparison (codes "<= ") less_or_equal v h refl (record { bytes = 
 
 greater_op : (v : ℕ) → v < 1000 → IsOp (codes " >= " ++ decimal v)
 greater_op v h = comparison (codes ">= ") greater_or_equal v h refl (record { bytes = refl; short = omega arith }) greater_or_equal_space
-
-IsWord-between : IsWord (codes "between")
-unfolding is_word_byte
-IsWord-between = record { some = omega arith; bytes = refl }
-
-IsWord-and : IsWord (codes "and")
-unfolding is_word_byte
-IsWord-and = record { some = omega arith; bytes = refl }
-
-IsWord-in : IsWord (codes "in")
-unfolding is_word_byte
-IsWord-in = record { some = omega arith; bytes = refl }
 
 ends_joined : (v w rest : Text) → (codes " between " ++ v ++ codes " and " ++ w) ++ rest ≡ 32 ∷ (codes "between" ++ 32 ∷ (v ++ 32 ∷ (codes "and" ++ 32 ∷ (w ++ rest))))
 ends_joined v w rest = simp append_assoc

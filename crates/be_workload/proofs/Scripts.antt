@@ -13,8 +13,8 @@ use Rattle.be_model.specs.Matching.{Assignments}
 use Rattle.be_change.specs.Requests.{Request, subscribe, publish, costing}
 use Rattle.be_expr.specs.Expressions.{condition}
 use Rattle.be_expr.specs.Named.{naming}
-use Rattle.be_transcript.specs.Readings.{reading, request_of, subscribing as subscribing_to, asking_of}
-use Rattle.be_transcript.specs.Replies.{with_lf}
+use Rattle.be_protocol.specs.Readings.{reading, request_of, subscribing as subscribing_to, asking_of}
+use Rattle.be_protocol.specs.Replies.{with_lf}
 use Rattle.be_workload.specs.Drawing.{Script, put, subscription, subscriptions, items, event, events, event_text}
 use Rattle.be_event.specs.SchemaTexts.{schema_of}
 use Rattle.be_workload.specs.Workload.{start, schema_text, script_text}

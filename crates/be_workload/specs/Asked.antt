@@ -1,5 +1,5 @@
 -- What the texts of a workload mean: its schema, and what its script asks for.
-use Rattle.std.specs.Prelude.{◌≡◌, ℕ, pos, ◌+◌, ◌≤◌, true, List, [], ◌∷◌, ◌++◌, length, map, All, Ok, codes, decimal}
+use Rattle.std.specs.Prelude.{◌≡◌, ℕ, pos, ◌+◌, ◌-◌, ◌≤◌, true, List, [], ◌∷◌, ◌++◌, length, map, All, Ok, codes, decimal}
 use Rattle.be_base.specs.Text.{Text}
 use Rattle.be_base.specs.declared.limits.TheConstants.{LINE_BYTES, GENERATED_SUBSCRIPTIONS}
 use Rattle.be_io.specs.FileLines.{file_lines}
@@ -14,12 +14,13 @@ use Rattle.be_model.specs.Matching.{Assignments}
 use Rattle.be_model.specs.Schemas.{Attributes, attribute_of}
 use Rattle.be_change.specs.Requests.{Request, subscribe, publish, costing}
 use Rattle.be_event.specs.SchemaTexts.{schema_of}
-use Rattle.be_transcript.specs.Readings.{reading}
+use Rattle.be_protocol.specs.Readings.{reading}
+use Rattle.be_workload.specs.declared.drawing.TheConstants.{VALUES}
 use Rattle.be_workload.specs.Workload.{schema_text, script_text}
 
--- numbers from 0 to 999
+-- numbers from 0 on, so many
 abbrev pub attribute : Text → Attribute
-attribute name = attribute_of name (Int (pos 0) (pos 999))
+attribute name = attribute_of name (Int (pos 0) (pos (VALUES - 1)))
 
 abbrev pub schema : Attributes
 schema =

@@ -1,6 +1,7 @@
 -- What is drawn and written, in this order: each definition takes what was written so far, and answers what is then.
-use Rattle.std.specs.Prelude.{ℕ, ◌+◌, ◌%◌, ◌==◌, zero, suc, [], ◌∷◌, ◌++◌, codes, decimal, min, nat_lt, if◌then◌else◌}
+use Rattle.std.specs.Prelude.{ℕ, ◌+◌, ◌-◌, ◌%◌, ◌==◌, zero, suc, [], ◌∷◌, ◌++◌, codes, decimal, min, nat_lt, if◌then◌else◌}
 use Rattle.be_base.specs.Text.{Text}
+use Rattle.be_workload.specs.declared.drawing.TheConstants.{ATTRIBUTES, VALUES}
 use Rattle.rand_xoshiro.specs.SplitMix64.{mix_u64}
 
 pub record Script : Type 0 where
@@ -19,14 +20,14 @@ put text s = record s { text = s.text ++ text }
 
 -- a drawn value of an attribute, behind this text
 abbrev pub put_value : Text → Script → Script
-put_value front s = put (front ++ decimal (draw 1000 s).0) (draw 1000 s).1
+put_value front s = put (front ++ decimal (draw VALUES s).0) (draw VALUES s).1
 
 -- x, and y that is at most 49 greater and within the domain
 unfoldable pub between : Script → Script
 between s =
-    let x = draw 1000 s in
+    let x = draw VALUES s in
     let more = draw 50 x.1 in
-    put (codes " between " ++ decimal x.0 ++ codes " and " ++ decimal (min 999 (x.0 + more.0))) more.1
+    put (codes " between " ++ decimal x.0 ++ codes " and " ++ decimal (min (VALUES - 1) (x.0 + more.0))) more.1
 
 -- three values as drawn: doubles stay
 unfoldable pub in_set : Script → Script
@@ -42,7 +43,7 @@ compared kind s =
 
 unfoldable pub predicate : Script → Script
 predicate s =
-    let attr = draw 10 s in
+    let attr = draw ATTRIBUTES s in
     let kind = draw 5 (put (codes "a" ++ decimal attr.0) attr.1) in
     compared kind.0 kind.1
 
@@ -75,7 +76,7 @@ put_item attr value s = record s { event = s.event ++ (gap s.event ++ codes "a" 
 unfoldable pub item : ℕ → Script → Script
 item attr s =
     let chance = draw 10 s in
-    if nat_lt chance.0 8 then put_item attr (draw 1000 chance.1).0 (draw 1000 chance.1).1 else chance.1
+    if nat_lt chance.0 8 then put_item attr (draw VALUES chance.1).0 (draw VALUES chance.1).1 else chance.1
 
 -- the items of the first attributes
 abbrev pub items : ℕ → Script → Script
@@ -91,7 +92,7 @@ abbrev pub put_event : Script → Script
 put_event s = put (codes "PUB " ++ event_text s.event ++ codes "\nCOST " ++ event_text s.event ++ codes "\n") s
 
 unfoldable pub event : Script → Script
-event s = put_event (items 10 s)
+event s = put_event (items ATTRIBUTES s)
 
 -- the lines of so many
 abbrev pub events : ℕ → Script → Script

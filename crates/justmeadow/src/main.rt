@@ -2,7 +2,7 @@
 #![tactic(auto)]
 
 use be_door::{TcpDoor, TcpLink};
-use be_io::{FileShelf, NoGate, StdinSource, StdoutSink};
+use be_io::{FileShelf, GATHERED_BYTES, Gathered, NoGate, StdinSource, StdoutSink};
 use be_server::{Status, be_main};
 use std::alloc::Global;
 use std::net::{Net, TcpListener, TcpStream};
@@ -34,9 +34,11 @@ fn serve<
 >(rt: &R, alloc: Global, words: &[String]) -> Status {
     let mut shelf = FileShelf::make(rt, alloc);
     let mut input = StdinSource::make(rt);
-    let mut out = StdoutSink::make(rt);
+    let Ok(mut out) = Gathered::make(alloc, StdoutSink::make(rt), GATHERED_BYTES) else {
+        return Status::NoMemory;
+    };
     let mut door = TcpDoor::make(*rt, alloc);
-    be_main::<_, _, _, _, TcpLink<R>, _, _>(
+    be_main::<_, _, _, _, Gathered<TcpLink<R>>, _, _>(
         rt, alloc, words, &mut shelf, &mut input, &mut out, &mut door, &NoGate,
     )
 }

@@ -83,6 +83,7 @@ fn of_outside(alloc: Global, command: &str, text: &str) -> Answer {
         "file_lines" => told(alloc, outside::file_lines(alloc, text.as_bytes())),
         "faults" => told(alloc, outside::faults(alloc)),
         "writes" => told(alloc, outside::writes(alloc)),
+        "gathered" => told(alloc, outside::gathered(alloc)),
         "files" => told(alloc, outside::files(alloc)),
         "link" => told(alloc, outside::link(alloc)),
         _ => Ok(String::from_str(alloc, "no command")?),

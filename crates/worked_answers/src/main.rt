@@ -1,6 +1,7 @@
-//! Answers rows of its input: each line is a command and a text, and each line of the output is the same with the answer. The
-//! rows stand in `stdin`, and with their answers, worked by hand from the rules, in `stdout`; the gate compares. A table in a
-//! test would be proved as code; these rows are data. `rows.rt` says how a text is written, and `commands.rt` has the commands.
+//! Tests of what needs no runtime, as rows: each line of the input is a command and a text, and each line of the output is the
+//! same with the answer. The rows stand in `stdin`, and with their answers, worked by hand from the rules, in `stdout`; the
+//! gate compares. A table in a test would be proved as code; these rows are data. `rows.rt` says how a text is written, and
+//! `commands.rt` has the commands.
 #![tactic(auto)]
 
 mod acts;
@@ -18,7 +19,7 @@ mod writes;
 use be_model::Schema;
 use std::alloc::Global;
 use std::io;
-use worked_lines::answer_each_in;
+use worked_help::answer_each_in;
 
 // Has the attributes of all rows.
 const SCHEMA: &[u8] =

@@ -4,8 +4,8 @@ ghost use Rattle.std.specs.Prelude.{◌≡◌, ◌<◌, length};
 ghost use Rattle.be_io.specs.Outside.{source_state, sink_state};
 
 use be_io::{
-    Failed, Line, LineFault, LineReader, Link, MemShelf, MemSink, MemSource, Pair, Shelf,
-    ShelfFault, SinkFault, first_line, means_nothing, write_all,
+    Failed, Gathered, Line, LineFault, LineReader, Link, MemShelf, MemSink, MemSource, Pair, Shelf,
+    ShelfFault, SinkFault, first_line, hand_on, means_nothing, write_all,
 };
 use std::alloc::Global;
 use std::str;
@@ -108,6 +108,26 @@ pub fn writes(alloc: Global) -> Option<([Written; 4], bool)> {
     let none = write_all(&mut sink, b"");
     let six = write_all(&mut sink, b"six");
     Some(([one, two, none, six], sink.bytes() == b"onesix".as_slice()))
+}
+
+/// Three writes, a flush, a write and a flush over a sink that gathers four bytes, whose second hand-on fails: how many bytes were
+/// handed on after each, and whether what was handed on is right.
+pub fn gathered(alloc: Global) -> Option<([(Written, usize); 6], bool)> {
+    let behind = MemSink::make(alloc, vec![in alloc; 2].ok()?);
+    let mut sink = Gathered::make(alloc, behind, 4).ok()?;
+    let came = [
+        (write_all(&mut sink, b"abc"), handed_on(&sink)),
+        (write_all(&mut sink, b"defgh"), handed_on(&sink)),
+        (write_all(&mut sink, b"i"), handed_on(&sink)),
+        (hand_on(&mut sink), handed_on(&sink)),
+        (write_all(&mut sink, b"i"), handed_on(&sink)),
+        (hand_on(&mut sink), handed_on(&sink)),
+    ];
+    Some((came, sink.sink().bytes() == b"abcdefghi".as_slice()))
+}
+
+fn handed_on(sink: &Gathered<MemSink>) -> usize {
+    sink.sink().bytes().len()
 }
 
 /// Asks for a file, for one that isn't there, and again for the first, where the third ask fails.

@@ -6,8 +6,8 @@ ghost use Rattle.be_model.specs.Lies.{row_lies};
 
 use be_base::NoMemory;
 use be_expr::append_expr;
+use be_load_files::read_table;
 use be_model::{Row, Schema};
-use be_table::read_table;
 use std::alloc::Global;
 
 /// Each row with its id and its session.

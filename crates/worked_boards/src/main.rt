@@ -1,6 +1,7 @@
-//! Asks boards what its input says. A line is a kind of board and what a new one is asked, parted by `; `, and each line of the
-//! output is the same with the answers. The rows stand in `stdin`, and with their answers, worked by hand from the rules, in
-//! `stdout`; the gate compares. `boards.rt` has the kinds of boards, `commands.rt` what they are asked.
+//! Tests of boards, as rows: it asks boards what its input says. A line is a kind of board and what a new one is asked, parted
+//! by `; `, and each line of the output is the same with the answers. The rows stand in `stdin`, and with their answers, worked
+//! by hand from the rules, in `stdout`; the gate compares. `boards.rt` has the kinds of boards, `commands.rt` what they are
+//! asked.
 #![tactic(auto)]
 
 mod boards;
@@ -13,7 +14,7 @@ use be_model::Schema;
 use std::alloc::Global;
 use std::io;
 use std::sync::Arc;
-use worked_lines::answer_each_in;
+use worked_help::answer_each_in;
 
 const SCHEMA: &[u8] = b"int price 0 1000\n";
 

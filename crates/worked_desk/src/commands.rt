@@ -54,7 +54,7 @@ fn answer<T: Sheet<J>, J: Naming + BoxNames, R: Wait>(
         "A" => seats::answer(rt, alloc, schema, desk, seats.get_mut(0)?, rest),
         "B" => seats::answer(rt, alloc, schema, desk, seats.get_mut(1)?, rest),
         "MAINTAIN" => texts::maintained(alloc, &desk.maintain(rt, broom)),
-        "TEND" => tended(rt, alloc, desk, broom),
+        "TEND" => tended(rt, alloc, desk, broom, rest.parse().ok()?),
         "REST" => rested(rt, alloc, desk, broom),
         "FREE" => freed(rt, alloc, desk),
         "STATE" => format!(in alloc; "{} {}", desk.len(), broom.calls()).ok(),
@@ -62,16 +62,21 @@ fn answer<T: Sheet<J>, J: Naming + BoxNames, R: Wait>(
     }
 }
 
+// Tends the desk so many times, or until something was due.
 fn tended<T: Sheet<J>, J: Naming + BoxNames, R: Wait>(
     rt: &R,
     alloc: Global,
     desk: &mut Desk<T, J>,
     broom: &mut Broom,
+    times: u32,
 ) -> Option<String> {
-    match desk.tend(rt, broom) {
-        Some(done) => texts::maintained(alloc, &done),
-        None => String::from_str(alloc, "not due").ok(),
+    for before in 0..times {
+        if let Some(done) = desk.tend(rt, broom) {
+            let done = texts::maintained(alloc, &done)?;
+            return format!(in alloc; "{before} not due, {done}").ok();
+        }
     }
+    format!(in alloc; "{times} not due").ok()
 }
 
 fn freed<T: Sheet<J>, J: Naming + BoxNames, R: Wait>(

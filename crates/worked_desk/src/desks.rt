@@ -14,29 +14,30 @@ use crate::{commands, texts};
 use be_base::SEATS;
 use be_desk::{make_desk, open_desk};
 use be_index::{Index, ListIndex};
+use be_load_files::read_table;
 use be_mail::{BoxNames, Mail, MailPasses, Post, make_mail};
 use be_model::{Row, Schema};
 use be_published::{Naming, Opened, Page};
-use be_table::read_table;
 use be_tree::BeTree;
 use std::alloc::Global;
 use std::marker::Brand;
 use std::sync::atomic::AtomicU64;
 use std::sync::{Arc, Wait};
-use worked_indexes::Watched;
+use worked_help::Watched;
 
 // With which a desk may be opened.
 const TABLE: &[u8] = b"ROW x all\nROW y price < 5\n";
 
-// How many rows a table has that is more than one tend earns, and the number of the first insert behind it.
-const MANY: u64 = 90;
+// How many rows a table has that is one too small to be reshaped, and the number of the first insert behind it.
+const MANY: u64 = 4095;
 
-const BEHIND_MANY: u64 = 91;
+const BEHIND_MANY: u64 = 4096;
 
-// How many seats a desk is to have, and what is asked there.
+// How many seats a desk is to have, from where on its list is told, and what is asked there.
 #[derive(Drop)]
 struct Script {
     seats: u32,
+    from: u64,
     commands: String,
     ghost few: { (0 < seats) × (seats ≤ SEATS) },
 }
@@ -54,7 +55,15 @@ pub fn answers<R: Wait>(
         return None;
     }
     let commands = String::from_str(alloc, commands).ok()?;
-    let script = Script { seats, commands };
+    let from = match kind {
+        "many" | "many_balky" => MANY,
+        _ => 0,
+    };
+    let script = Script {
+        seats,
+        from,
+        commands,
+    };
     match kind {
         "list" => over_list(rt, alloc, schema, Vec::new(alloc), &script),
         "tree" => over_tree(rt, alloc, schema, Vec::new(alloc), &script),
@@ -198,6 +207,6 @@ fn with_desk<I: Index, S: Post, J: Naming + BoxNames, R: Wait>(
     let (mut desk, mut seats) = made.ok()?;
     let commands = script.commands.as_str();
     let answers = commands::answers(rt, alloc, schema, &mut desk, &mut seats, commands);
-    let list = texts::log_text(alloc, &desk.into_log(rt));
+    let list = texts::log_text(alloc, &desk.into_log(rt), script.from);
     format!(in alloc; "{} |{}", answers?, list?).ok()
 }

@@ -1,7 +1,7 @@
-//! Asks desks what its input says. A line is a kind of desk, how many seats it has, and what is asked there, parted by `; `,
-//! and each line of the output is the same with the answers and the list that the desk left. The rows stand in `stdin`, and
-//! with their answers, worked by hand from the rules, in `stdout`; the gate compares. `desks.rt` has the kinds of desks,
-//! `commands.rt` what is asked, `seats.rt` what a seat asks.
+//! Tests of desks, as rows: it asks desks what its input says. A line is a kind of desk, how many seats it has, and what is
+//! asked there, parted by `; `, and each line of the output is the same with the answers and the list that the desk left. The
+//! rows stand in `stdin`, and with their answers, worked by hand from the rules, in `stdout`; the gate compares. `desks.rt` has
+//! the kinds of desks, `commands.rt` what is asked, `seats.rt` what a seat asks.
 #![tactic(auto)]
 
 mod commands;
@@ -13,7 +13,7 @@ use be_model::Schema;
 use std::alloc::Global;
 use std::io;
 use std::sync::{Arc, Wait};
-use worked_lines::answer_each_in;
+use worked_help::answer_each_in;
 
 const SCHEMA: &[u8] = b"int price 0 1000\n";
 

@@ -35,10 +35,10 @@ fn path_text(alloc: Global, kind: &str, path: &Path) -> Option<String> {
     Some(text)
 }
 
-/// The changes, in order.
-pub fn log_text(alloc: Global, log: &ChangeLog) -> Option<String> {
+/// The changes from a place on, in order.
+pub fn log_text(alloc: Global, log: &ChangeLog, from: u64) -> Option<String> {
     let mut text = String::new(alloc);
-    for place in 0..log.len() {
+    for place in from..log.len() {
         let part = change_text(alloc, log.at(place))?;
         text.push_str(part.as_str()).ok()?;
     }

@@ -1,4 +1,5 @@
-//! Doors whose links are served by workers, each in a thread of its own. A link is served by writing back what it gives.
+//! Tests of doors whose links are served by workers, each in a thread of its own. A link is served by writing back what it
+//! gives.
 //!
 //! A line of the input is a row, and a line of the output is the same with what came of it; the rows stand in `stdin`, and with
 //! their answers, worked by hand from the rules, in `stdout`; the gate compares. Rows of memory.rt are over a door in memory, and
@@ -17,7 +18,7 @@ use std::net::{Net, TcpListener, TcpStream};
 use std::sync::Wait;
 use std::thread::Threads;
 use std::time::Clock;
-use worked_lines::answer_each;
+use worked_help::answer_each;
 
 // What came of a row.
 fn served<

@@ -6,16 +6,19 @@ ghost use Rattle.worked_door.specs.Served.{IsReady, IsServed};
 
 use be_base::{NoMemory, SessionNo};
 use be_door::{Door, DoorCount};
-use be_io::{Link, ListenFault, write_all};
+use be_io::{Link, ListenFault, hand_on, write_all};
 use std::alloc::AllocError;
 use std::sync::atomic::{AtomicU64, Ordering};
 use std::thread;
 use std::thread::Threads;
 
-// Writes back what the link gives, until its end or a fault.
+// Writes back what the link gives, until its end or a fault. Nothing is kept back while it reads.
 fn echo<L: Link>(link: &mut L) {
     let mut bytes = [0; 16];
     for _ in 0..u64::MAX {
+        if hand_on(link).is_err() {
+            return;
+        }
         match link.read(&mut bytes) {
             Ok(0) | Err(_) => return,
             Ok(count) => {

@@ -26,7 +26,7 @@ use std::marker::Brand;
 use std::sync::atomic::{AtomicU64, Ordering};
 use std::sync::{Arc, Wait};
 use std::thread::Threads;
-use worked_indexes::Watched;
+use worked_help::Watched;
 
 /// The transcripts of the files, parted by ` || `, how often the maintainer was called, how many changes the list has at its end,
 /// and how many searches the trees were asked for; or, of a link of a door, how often its worker tended the desk.

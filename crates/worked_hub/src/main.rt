@@ -1,9 +1,10 @@
-//! Serves files by workers over one hub. A line of the input is how many calls the maintainer makes, and the files, parted by
-//! ` || `, of which each has lines parted by `; `. Each line of the output is the same with the transcripts, the calls
-//! that the maintainer made, how many changes the list has when the hub is closed, and how many searches its trees were asked for. Where there is more than
-//! one file, the numbers of changes depend on the schedule, and each is printed as `n`. A line `door: FILE` is served as a link of a
-//! door, and its answer is how often its worker tended the desk (door.rt). The rows stand in `stdin`, and with their transcripts
-//! and numbers, worked by hand from the rules, in `stdout`; the gate compares.
+//! Tests of hubs, as rows: it serves files by workers over one hub. A line of the input is how many calls the maintainer makes,
+//! and the files, parted by ` || `, of which each has lines parted by `; `. Each line of the output is the same with the
+//! transcripts, the calls that the maintainer made, how many changes the list has when the hub is closed, and how many searches
+//! its trees were asked for. Where there is more than one file, the numbers of changes depend on the schedule, and each is
+//! printed as `n`. A line `door: FILE` is served as a link of a door, and its answer is how often its worker tended the desk
+//! (door.rt). The rows stand in `stdin`, and with their transcripts and numbers, worked by hand from the rules, in `stdout`;
+//! the gate compares.
 #![tactic(auto)]
 
 mod closing;
@@ -17,7 +18,7 @@ use std::alloc::Global;
 use std::io;
 use std::sync::{Arc, Wait};
 use std::thread::Threads;
-use worked_lines::answer_each_in;
+use worked_help::answer_each_in;
 
 const SCHEMA: &[u8] = b"int price 0 1000\nint qty -5 5\n";
 

@@ -1,5 +1,5 @@
 //! Tests of the parts that need a runtime: mailboxes between threads, and files of the system. What the other parts answer stands
-//! as rows of `worked_answers` and `worked_trees`.
+//! as rows of `worked_answers` and `worked_growth`.
 #![tactic(auto)]
 
 #[cfg(test)]

@@ -1,6 +1,6 @@
 //! What the words after the program's name ask for, as a table.
 
-use be_words::{Request, WordsFault, read_words};
+use be_command_line::{Request, WordsFault, read_words};
 use std::alloc::Global;
 use std::test::Fail;
 

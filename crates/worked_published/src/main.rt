@@ -1,5 +1,5 @@
-//! A press and its glasses, as the desk will have them. Each line of the output is what came of one use; the lines are the
-//! same whatever the schedule, and the gate compares them with `stdout`. `told.rt` has uses in one thread, `race.rt` has
+//! Tests of a press and its glasses, as the desk will have them. Each line of the output is what came of one use; the lines are
+//! the same whatever the schedule, and the gate compares them with `stdout`. `told.rt` has uses in one thread, `race.rt` has
 //! four readers beside a writer.
 #![tactic(auto)]
 

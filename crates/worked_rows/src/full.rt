@@ -25,8 +25,14 @@ impl Sink for Full {
 
     ghost refusals = { λ s. s.refusals };
 
+    ghost kept_back = { λ _. 0 };
+
     fn write(&mut self, _bytes: &[u8]) -> Result<usize, SinkFault> {
         self.refusals = self.refusals.saturating_add(1);
         Err(SinkFault::NoMemory)
+    }
+
+    fn flush(&mut self) -> Result<(), SinkFault> {
+        Ok(())
     }
 }

@@ -2,8 +2,8 @@
 
 use crate::setting::{RUN, Ran, SCHEMA, Setting, answers, is, run};
 use be_event::SchemaKind;
+use be_load_files::TableKind;
 use be_server::Status;
-use be_table::TableKind;
 use std::alloc::Global;
 use std::sync::Wait;
 use std::thread::Threads;

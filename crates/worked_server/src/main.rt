@@ -1,9 +1,9 @@
-//! Serves rows by the program's one call, over doors, files and outputs in memory. A line of the input is a row: the words of the
-//! call, and behind each ` | ` one thing that it finds, as `row.rt` has them. Each line of the output is the same with what came of
-//! it: what was written, what each link of the door holds behind its session's number, and the status; where workers are held, also
-//! how often, and whether for too long. A row whose outcome depends on the schedule names each that may be, and what is told is that
-//! it was one of these. The rows stand in `stdin`, and with their outcomes, worked by hand from the rules, in `stdout`; the gate
-//! compares.
+//! Tests of the program, as rows: it serves rows by the program's one call, over doors, files and outputs in memory. A line of
+//! the input is a row: the words of the call, and behind each ` | ` one thing that it finds, as `row.rt` has them. Each line of
+//! the output is the same with what came of it: what was written, what each link of the door holds behind its session's number,
+//! and the status; where workers are held, also how often, and whether for too long. A row whose outcome depends on the
+//! schedule names each that may be, and what is told is that it was one of these. The rows stand in `stdin`, and with their
+//! outcomes, worked by hand from the rules, in `stdout`; the gate compares.
 #![tactic(auto)]
 
 mod gate;
@@ -20,7 +20,7 @@ use std::alloc::Global;
 use std::io;
 use std::sync::Wait;
 use std::thread::Threads;
-use worked_lines::answer_each;
+use worked_help::answer_each;
 
 fn call<R: Threads + Wait + Sync>(rt: &R, alloc: Global, stage: &mut Stage<R>) -> Status {
     be_main::<_, _, _, _, Metered<links::Peer>, _, _>(

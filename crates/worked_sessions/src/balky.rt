@@ -10,6 +10,7 @@ ghost use Rattle.be_board.specs.State.{is_gone};
 
 use be_base::{Name, NoRead};
 use be_board::{Answer, Board, Sent};
+use be_index::Ids;
 use be_model::{Change, Conj, Cost, Event, Found, Letter};
 use std::alloc::Global;
 use std::sync::Arc;
@@ -87,6 +88,10 @@ impl<B: Board> Board for BalkyBoard<B> {
 
     fn find(&mut self, event: &Event, found: &mut Found) -> Result<u64, NoRead> {
         self.board.find(event, found)
+    }
+
+    fn hits(&mut self, event: &Event, ids: &mut Ids, names: &mut Vec<u8>) -> Result<u64, NoRead> {
+        self.board.hits(event, ids, names)
     }
 
     fn cost(&mut self, event: &Event) -> Result<(u64, Cost), NoRead> {

@@ -5,7 +5,7 @@ ghost use Rattle.be_board.specs.Word.{own_in};
 
 use be_base::NoMemory;
 use be_board::Board;
-use be_io::{Gate, MemSink, MemSource, Pair};
+use be_io::{Gate, Gathered, MemSink, MemSource, Pair};
 use be_model::Schema;
 use be_session::{SessionEnd, serve_link};
 use std::alloc::Global;
@@ -17,16 +17,17 @@ pub const WORKER: u32 = 7;
 const PIECE: usize = 18;
 
 /// A session's lines, parted by `; `, and what is refused to it: the read and the write of these numbers, where the first has the
-/// number 1, and its first calls of `leave`, so many.
+/// number 1, and its first calls of `leave`, so many. So many bytes of its replies are gathered at most before a write.
 #[derive(Clone, Copy)]
 pub struct Setting<'a> {
     pub lines: &'a str,
     pub failing_read: u64,
     pub failing_write: u64,
     pub refused_leaves: u64,
+    pub gathers: usize,
 }
 
-/// Serves the session. It gives the replies, with `; ` behind each, and how it ended.
+/// Serves the session. It gives what was handed on of the replies, with `; ` behind each, and how it ended.
 pub fn serve<B: Board, G: Gate>(
     alloc: Global,
     schema: &Schema,
@@ -39,9 +40,15 @@ pub fn serve<B: Board, G: Gate>(
 {
     let source = source(alloc, setting)?;
     let sink = MemSink::make(alloc, vec![in alloc; setting.failing_write]?);
+    if setting.gathers == 0 {
+        let mut peer = Pair { source, sink };
+        let end = serve_link(alloc, schema, board, &mut peer, gate, WORKER);
+        return Ok((parted(alloc, peer.sink.bytes())?, end));
+    }
+    let sink = Gathered::make(alloc, sink, setting.gathers)?;
     let mut peer = Pair { source, sink };
     let end = serve_link(alloc, schema, board, &mut peer, gate, WORKER);
-    Ok((parted(alloc, peer.sink.bytes())?, end))
+    Ok((parted(alloc, peer.sink.sink().bytes())?, end))
 }
 
 // Each line with an LF.

@@ -14,7 +14,7 @@ use be_session::SessionEnd;
 use std::alloc::Global;
 use std::sync::Arc;
 use std::sync::atomic::{AtomicU64, Ordering};
-use worked_indexes::Watched;
+use worked_help::Watched;
 
 // How a session ended, how often the board was asked to leave, and tended, and how often the gate was called before and after a
 // line, each time in its turn.
@@ -41,6 +41,7 @@ pub fn refused(
         failing_read: 0,
         failing_write: 0,
         refused_leaves: 0,
+        gathers: 0,
     };
     match word {
         "read" => setting.failing_read = number,
@@ -52,6 +53,25 @@ pub fn refused(
     over(alloc, schema, index, &setting)
 }
 
+/// The same where so many bytes of the replies are gathered before a write, and the write of this number fails.
+pub fn gathered(
+    alloc: Global,
+    schema: &Arc<Schema>,
+    numbers: &str,
+    lines: &str,
+) -> Result<String, NoMemory> {
+    let (gathers, failing_write) = numbers.split_once(' ').unwrap_or((numbers, ""));
+    let setting = Setting {
+        lines,
+        failing_read: 0,
+        failing_write: failing_write.parse().unwrap_or(0),
+        refused_leaves: 0,
+        gathers: gathers.parse().unwrap_or(0),
+    };
+    let index = ListIndex::make(alloc, Arc::try_clone(schema)?);
+    over(alloc, schema, index, &setting)
+}
+
 /// The same where nothing is refused, and then how many searches the index was asked for.
 pub fn counted(alloc: Global, schema: &Arc<Schema>, lines: &str) -> Result<String, NoMemory> {
     let setting = Setting {
@@ -59,6 +79,7 @@ pub fn counted(alloc: Global, schema: &Arc<Schema>, lines: &str) -> Result<Strin
         failing_read: 0,
         failing_write: 0,
         refused_leaves: 0,
+        gathers: 0,
     };
     let finds = Arc::new(alloc, AtomicU64::new(0)).map_err(|_| NoMemory)?;
     let index = ListIndex::make(alloc, Arc::try_clone(schema)?);

@@ -6,8 +6,9 @@ use Rattle.be_model.specs.Forms.{OpForm}
 use Rattle.be_model.specs.Lies.{conj_lies}
 use Rattle.std.specs.List.{list_all, flat_map}
 use Rattle.be_cover.specs.Ranges.{rise_apart}
-use Rattle.be_cover.specs.Pieces.{is_near, pieces, narrowed}
+use Rattle.be_cover.specs.Pieces.{is_near, pieces}
 use Rattle.be_cover.proofs.Allowing.{near_domain, one_apart, near_at, turned_on, turned_off, left_is_allowed}
+use Rattle.be_cover.proofs.Holding.{narrowed}
 use Rattle.be_cover.proofs.values.ranges_of.Goals as goal
 
 pub kept-requires-clause-near : goal.kept-requires-clause-near

@@ -1,5 +1,5 @@
 use Rattle.std.proofs.Common.{rules}
-use Rattle.be_session.specs.Requests.{plain_request}
+use Rattle.be_protocol.specs.Requests.{plain_request}
 use Rattle.be_demand.proofs.GoingOn.{counting_on, counting_done, counting_answered, Went, went_hit, went_none, some_left}
 use Rattle.be_demand.proofs.counting.count_session.Goals as goal
 use Rattle.be_demand.proofs.counting.count_session.Goals.{then-told, else-told}

@@ -1,5 +1,5 @@
 use Rattle.std.proofs.Common.{◌≡◌, true, false, ap, ◌∙◌, arith, rules}
-use Rattle.be_transcript.specs.Replies.{first_lines, last_line}
+use Rattle.be_protocol.specs.Replies.{first_lines, last_line}
 use Rattle.be_demand.specs.Texts.{goes_on, says_hit}
 use Rattle.be_demand.proofs.Blocks.{block_step}
 use Rattle.be_demand.proofs.ReplyLines.{reply_block, last_says}

@@ -3,7 +3,7 @@ use Rattle.std.proofs.Common.{◌≡◌, ℕ, ◌≤◌, ◌++◌, List, length}
 use Rattle.be_base.specs.Text.{Text}
 use Rattle.be_model.specs.Schemas.{Attributes}
 use Rattle.be_change.specs.Requests.{Reply}
-use Rattle.be_transcript.specs.Replies.{last_line, reply_text}
+use Rattle.be_protocol.specs.Replies.{last_line, reply_text}
 use Rattle.be_demand.specs.Texts.{HasLines}
 use Rattle.be_demand.proofs.Blocks.{IsBlock}
 use Rattle.be_demand.proofs.replies.tell_reply.Given as goal

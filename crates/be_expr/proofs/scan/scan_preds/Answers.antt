@@ -1,9 +1,8 @@
 use Rattle.std.proofs.Common.{◌∙◌, ap, arith, length, option_map}
 use Rattle.be_base.specs.Tokens.{tokens}
 use Rattle.be_expr.specs.declared.faults.Faults.{Faults}
-use Rattle.be_expr.specs.Faults.{faults_behind}
 use Rattle.be_expr.proofs.Joining.{preds_left, left_size, left_size_within}
-use Rattle.be_expr.proofs.Gathered.{one_more_pred}
+use Rattle.be_expr.proofs.Gathered.{faults_behind, one_more_pred}
 use Rattle.be_expr.proofs.scan.scan_preds.Goals as goal
 
 pub loop-left-preserved : goal.loop-left-preserved

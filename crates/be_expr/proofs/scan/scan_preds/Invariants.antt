@@ -1,7 +1,8 @@
 use Rattle.std.proofs.Common.{◌≡◌, ◌+◌, ◌≤◌, length, option_map, option_and_then}
 use Rattle.be_base.specs.Tokens.{tokens}
-use Rattle.be_expr.specs.Faults.{faults_of, faults_behind, preds_in}
+use Rattle.be_expr.specs.Faults.{faults_of, preds_in}
 use Rattle.be_expr.proofs.Joining.{preds_left, left_size}
+use Rattle.be_expr.proofs.Gathered.{faults_behind}
 use Rattle.be_expr.proofs.scan.scan_preds.Given as goal
 
 abbrev pub invariant-loop-left : goal.invariant-loop-left

@@ -2,8 +2,8 @@ use Rattle.std.proofs.Common.{rules, sym, subst}
 use Rattle.be_base.specs.Tokens.{tokens}
 use Rattle.be_io.specs.Outside.{sink_state}
 use Rattle.be_change.specs.Requests.{Request}
-use Rattle.be_session.specs.Requests.{TakesMemory}
-use Rattle.be_follow.specs.Asked.{request_of}
+use Rattle.be_protocol.specs.Requests.{TakesMemory}
+use Rattle.be_follow.specs.Asked.{asked_of}
 use Rattle.be_follow.specs.Reads.{Answers}
 use Rattle.be_follow.proofs.Answering.{only_events}
 use Rattle.be_follow.proofs.reads.answer_line.Goals as goal
@@ -12,6 +12,6 @@ pub returns-in-Err-clause-answers : goal.returns-in-Err-clause-answers
 returns-in-Err-clause-answers g c =
     let s = c.args.follower.now.schema in
     let h = c.args.follower.now.fed.list in
-    let takes : TakesMemory (request_of s (tokens c.args.text.now)) = search rules in
+    let takes : TakesMemory (asked_of s (tokens c.args.text.now)) = search rules in
     let event = only_events s (tokens c.args.text.now) takes in
     subst (λ (r : Request). Answers s h r (sink_state g.K.Sink c.args.out.now) (sink_state g.K.Sink c.want.new.out) c.want.result) (sym event.1) (c.want.ensures.answers s h event.0)

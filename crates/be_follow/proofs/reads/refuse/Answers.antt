@@ -1,6 +1,6 @@
 use Rattle.std.proofs.Common.{None, refl}
 use Rattle.be_change.specs.Requests.{refused, refusal}
-use Rattle.be_session.specs.Requests.{plain_refusal}
+use Rattle.be_protocol.specs.Requests.{plain_refusal}
 use Rattle.be_follow.proofs.Answering.{whole_reply, part_reply}
 use Rattle.be_follow.proofs.reads.refuse.Goals as goal
 

@@ -20,21 +20,21 @@ lines-init g c =
 pub lines-preserved : goal.lines-preserved
 lines-preserved g c =
     let before : TurnState = reading_over c.lines.reader (link_state g.L.Source g.L.Sink c.lines.link) in
-    let after : TurnState = reading_over c.take_turn.new.reader (link_state g.L.Source g.L.Sink c.take_turn.new.link) in
+    let after : TurnState = reading_over c.next_turn.new.reader (link_state g.L.Source g.L.Sink c.next_turn.new.link) in
     record {
-      serving = serves_on c.args.follower.now.schema c.args.follower.now.fed.list (link_state g.L.Source g.L.Sink c.args.link.now) before after c.lines.invariant.serving c.in-None.ensures.turned c.take_turn.ensures.alike;
-      bound = c.take_turn.ensures.bound;
-      beside = kept_along (g.L.Source.kept_by_read c.args.link.now) (g.L.Source.kept_by_read c.lines.link) (g.L.Source.kept_by_read c.take_turn.new.link) c.lines.invariant.beside c.take_turn.ensures.beside;
+      serving = serves_on c.args.follower.now.schema c.args.follower.now.fed.list (link_state g.L.Source g.L.Sink c.args.link.now) before after c.lines.invariant.serving c.in-None.ensures.turned c.next_turn.ensures.alike;
+      bound = c.next_turn.ensures.bound;
+      beside = kept_along (g.L.Source.kept_by_read c.args.link.now) (g.L.Source.kept_by_read c.lines.link) (g.L.Source.kept_by_read c.next_turn.new.link) c.lines.invariant.beside c.next_turn.ensures.beside;
     }
 
 pub returns-in-Some-clause-ends : goal.returns-in-Some-clause-ends
 returns-in-Some-clause-ends g c =
     let before : TurnState = reading_over c.lines.reader (link_state g.L.Source g.L.Sink c.lines.link) in
-    let after : TurnState = reading_over c.take_turn.new.reader (link_state g.L.Source g.L.Sink c.take_turn.new.link) in
-    ended (c.take_turn.new.link ≡ c.args.link.now) c.args.follower.now.schema c.args.follower.now.fed.list (link_state g.L.Source g.L.Sink c.args.link.now) before after c.in-Some.end c.lines.invariant.serving c.in-Some.ensures.turned c.take_turn.ensures.alike
+    let after : TurnState = reading_over c.next_turn.new.reader (link_state g.L.Source g.L.Sink c.next_turn.new.link) in
+    ended (c.next_turn.new.link ≡ c.args.link.now) c.args.follower.now.schema c.args.follower.now.fed.list (link_state g.L.Source g.L.Sink c.args.link.now) before after c.in-Some.end c.lines.invariant.serving c.in-Some.ensures.turned c.next_turn.ensures.alike
 
 pub returns-in-Some-clause-within : goal.returns-in-Some-clause-within
 returns-in-Some-clause-within g c =
     let before : TurnState = reading_over c.lines.reader (link_state g.L.Source g.L.Sink c.lines.link) in
-    let after : TurnState = reading_over c.take_turn.new.reader (link_state g.L.Source g.L.Sink c.take_turn.new.link) in
-    taken_within c.args.follower.now.schema c.args.follower.now.fed.list (link_state g.L.Source g.L.Sink c.args.link.now) before after c.lines.invariant.serving c.take_turn.ensures.alike c.take_turn.ensures.bound
+    let after : TurnState = reading_over c.next_turn.new.reader (link_state g.L.Source g.L.Sink c.next_turn.new.link) in
+    taken_within c.args.follower.now.schema c.args.follower.now.fed.list (link_state g.L.Source g.L.Sink c.args.link.now) before after c.lines.invariant.serving c.next_turn.ensures.alike c.next_turn.ensures.bound

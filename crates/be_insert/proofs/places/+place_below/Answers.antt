@@ -81,38 +81,32 @@ place_below-requires-in-Some-low t c =
     let at = goal.at.place_below-requires-in-Some-low t c in
     (search (rules, the_lemmas), low_takes (goes t at.In_default-enter Low (way t at.In-Some) c.in-Low.is) (low_out t at.After-deref_mut-in-Some-low))
 
-pub returns-in-Some-low-clause-right : goal.returns-in-Some-low-clause-right
-returns-in-Some-low-clause-right t c =
-    let at = goal.at.returns-in-Some-low-clause-right t c in
+pub returns-in-Some-low : goal.returns-in-Some-low
+returns-in-Some-low t c =
+    let at = goal.at.returns-in-Some-low t c in
     let done = c.place_below-in-Some-low.ensures in
     let w = low_left c.place_below-in-Some-low.result (goes t at.In_default-enter Low (way t at.In-Some) c.in-Low.is) (low_out t at.After-deref_mut-in-Some-low) done.right done.rows in
-    subst (IsRight c.args.s.now (known_of c.args.k.now)) (sym (plain_roll _)) w.right
-
-pub returns-in-Some-low-clause-rows : goal.returns-in-Some-low-clause-rows
-returns-in-Some-low-clause-rows t c =
-    let at = goal.at.returns-in-Some-low-clause-rows t c in
-    let done = c.place_below-in-Some-low.ensures in
-    let w = low_left c.place_below-in-Some-low.result (goes t at.In_default-enter Low (way t at.In-Some) c.in-Low.is) (low_out t at.After-deref_mut-in-Some-low) done.right done.rows in
-    subst (λ m. IsPermutation (rows_below (plain c.args.n.now) ++ arc_value c.args.row ∷ []) (rows_below m ++ back c.place_below-in-Some-low.result)) (sym (plain_roll _)) w.same
+    record {
+      right = subst (IsRight c.args.s.now (known_of c.args.k.now)) (sym (plain_roll _)) w.right;
+      rows = subst (λ m. IsPermutation (rows_below (plain c.args.n.now) ++ arc_value c.args.row ∷ []) (rows_below m ++ back c.place_below-in-Some-low.result)) (sym (plain_roll _)) w.same;
+      same = done.same;
+    }
 
 pub place_below-requires-in-Some-high : goal.place_below-requires-in-Some-high
 place_below-requires-in-Some-high t c =
     let at = goal.at.place_below-requires-in-Some-high t c in
     (search (rules, the_lemmas), high_takes (goes t at.In_default-enter High (way t at.In-Some) c.in-High.is) (high_out t at.After-deref_mut-in-Some-high))
 
-pub returns-in-Some-high-clause-right : goal.returns-in-Some-high-clause-right
-returns-in-Some-high-clause-right t c =
-    let at = goal.at.returns-in-Some-high-clause-right t c in
+pub returns-in-Some-high : goal.returns-in-Some-high
+returns-in-Some-high t c =
+    let at = goal.at.returns-in-Some-high t c in
     let done = c.place_below-in-Some-high.ensures in
     let w = high_left c.place_below-in-Some-high.result (goes t at.In_default-enter High (way t at.In-Some) c.in-High.is) (high_out t at.After-deref_mut-in-Some-high) done.right done.rows in
-    subst (IsRight c.args.s.now (known_of c.args.k.now)) (sym (plain_roll _)) w.right
-
-pub returns-in-Some-high-clause-rows : goal.returns-in-Some-high-clause-rows
-returns-in-Some-high-clause-rows t c =
-    let at = goal.at.returns-in-Some-high-clause-rows t c in
-    let done = c.place_below-in-Some-high.ensures in
-    let w = high_left c.place_below-in-Some-high.result (goes t at.In_default-enter High (way t at.In-Some) c.in-High.is) (high_out t at.After-deref_mut-in-Some-high) done.right done.rows in
-    subst (λ m. IsPermutation (rows_below (plain c.args.n.now) ++ arc_value c.args.row ∷ []) (rows_below m ++ back c.place_below-in-Some-high.result)) (sym (plain_roll _)) w.same
+    record {
+      right = subst (IsRight c.args.s.now (known_of c.args.k.now)) (sym (plain_roll _)) w.right;
+      rows = subst (λ m. IsPermutation (rows_below (plain c.args.n.now) ++ arc_value c.args.row ∷ []) (rows_below m ++ back c.place_below-in-Some-high.result)) (sym (plain_roll _)) w.same;
+      same = done.same;
+    }
 
 pub index_mut-requires : goal.index_mut-requires
 index_mut-requires t c =
@@ -128,22 +122,16 @@ place_below-requires t c =
     let q = c.index_mut.result.now in
     (search (rules, the_lemmas), part_takes (out-Node c.args.n.now).parts.items c.in-Some.place q (goes t at.In_default-enter (Part (out-Part q).attr) v z.2) (plain_out c.args.n.now) z.0 c.index_mut.ensures.value z.1)
 
-pub returns-in-Part-clause-right : goal.returns-in-Part-clause-right
-returns-in-Part-clause-right t c =
-    let at = goal.at.returns-in-Part-clause-right t c in
+pub returns-in-Part : goal.returns-in-Part
+returns-in-Part t c =
+    let at = goal.at.returns-in-Part t c in
     let v = way t at.In-Some in
     let z = lent t at.After-deref_mut (part_there t at.In-Part v) in
     let q = c.index_mut.result.now in
     let done = c.place_below.ensures in
     let w = part_left (out-Node c.args.n.now).parts.items c.in-Some.place (with_root q c.place_below.new.n) q c.place_below.result (goes t at.In_default-enter (Part (out-Part q).attr) v z.2) (plain_out c.args.n.now) z.0 c.index_mut.ensures.value z.1 (root_is q c.place_below.new.n) done.right done.rows in
-    subst (IsRight c.args.s.now (known_of c.args.k.now)) (sym (plain_roll _)) w.right
-
-pub returns-in-Part-clause-rows : goal.returns-in-Part-clause-rows
-returns-in-Part-clause-rows t c =
-    let at = goal.at.returns-in-Part-clause-rows t c in
-    let v = way t at.In-Some in
-    let z = lent t at.After-deref_mut (part_there t at.In-Part v) in
-    let q = c.index_mut.result.now in
-    let done = c.place_below.ensures in
-    let w = part_left (out-Node c.args.n.now).parts.items c.in-Some.place (with_root q c.place_below.new.n) q c.place_below.result (goes t at.In_default-enter (Part (out-Part q).attr) v z.2) (plain_out c.args.n.now) z.0 c.index_mut.ensures.value z.1 (root_is q c.place_below.new.n) done.right done.rows in
-    subst (λ m. IsPermutation (rows_below (plain c.args.n.now) ++ arc_value c.args.row ∷ []) (rows_below m ++ back c.place_below.result)) (sym (plain_roll _)) w.same
+    record {
+      right = subst (IsRight c.args.s.now (known_of c.args.k.now)) (sym (plain_roll _)) w.right;
+      rows = subst (λ m. IsPermutation (rows_below (plain c.args.n.now) ++ arc_value c.args.row ∷ []) (rows_below m ++ back c.place_below.result)) (sym (plain_roll _)) w.same;
+      same = done.same;
+    }

@@ -1,4 +1,4 @@
-use Rattle.std.proofs.Common.{◌≡◌, ◌++◌, ◌∷◌, [], true, sym, ◌∙◌, subst}
+use Rattle.std.proofs.Common.{◌≡◌, ◌++◌, ◌∷◌, [], true, sym, ◌∙◌, subst, refl}
 use Rattle.std.specs.Prelude.{IsPermutation}
 use Rattle.std.specs.Arc.{arc_value}
 use Rattle.be_model.specs.Forms.{IsConj}
@@ -38,22 +38,13 @@ invariant_of-t c =
     let k = (placement s (plain t.root) m row c.place_below.result (root_of t) c.requires.new right rows c.place_below.ensures.same).root in
     record { alpha_is_share = t.alpha_is_share; lie = k.lie; placed = k.placed; drawn = k.drawn; pruned = k.pruned; settled = k.settled }
 
-pub returns-clause-put : goal.returns-clause-put
-returns-clause-put c =
+pub returns : goal.returns
+returns c =
     let t = c.args.t.now in
     let s = arc_value t.schema in
     let m = plain c.place_below.new.n in
     let row = arc_value c.args.row in
     let right = subst (λ b. IsRight b nothing m) c.deref-2.ensures (subst (λ k. IsRight c.deref-2.result.now k m) c.root-spot.ensures c.place_below.ensures.right) in
     let rows = subst (λ n. IsPermutation (rows_below n ++ row ∷ []) (rows_below m ++ back c.place_below.result)) (plain_roll _ ∙ sym (plain_out t.root)) c.place_below.ensures.rows in
-    (placement s (plain t.root) m row c.place_below.result (root_of t) c.requires.new right rows c.place_below.ensures.same).put
-
-pub returns-clause-refused : goal.returns-clause-refused
-returns-clause-refused c =
-    let t = c.args.t.now in
-    let s = arc_value t.schema in
-    let m = plain c.place_below.new.n in
-    let row = arc_value c.args.row in
-    let right = subst (λ b. IsRight b nothing m) c.deref-2.ensures (subst (λ k. IsRight c.deref-2.result.now k m) c.root-spot.ensures c.place_below.ensures.right) in
-    let rows = subst (λ n. IsPermutation (rows_below n ++ row ∷ []) (rows_below m ++ back c.place_below.result)) (plain_roll _ ∙ sym (plain_out t.root)) c.place_below.ensures.rows in
-    (placement s (plain t.root) m row c.place_below.result (root_of t) c.requires.new right rows c.place_below.ensures.same).refused
+    let done = placement s (plain t.root) m row c.place_below.result (root_of t) c.requires.new right rows c.place_below.ensures.same in
+    record { put = done.put; refused = done.refused; back = c.place_below.ensures.same; schema = refl; alpha = refl }

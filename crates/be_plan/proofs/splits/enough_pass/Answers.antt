@@ -5,8 +5,7 @@ use Rattle.std.proofs.lemmas.List.{at_drop_all}
 use Rattle.be_model.specs.Lies.{row_lies}
 use Rattle.be_model.proofs.Attributes.{all_at}
 use Rattle.be_shape.specs.Children.{may_pass}
-use Rattle.be_plan.specs.Splits.{few_fail}
-use Rattle.be_plan.proofs.Fails.{few_enough, passes_on, fails_on}
+use Rattle.be_plan.proofs.Fails.{few_fail, few_enough, passes_on, fails_on}
 use Rattle.be_plan.proofs.splits.enough_pass.Goals.{then-not-may_pass_at+else-spare-eq0, else-not-may_pass_at}
 use Rattle.be_plan.proofs.splits.enough_pass.Goals as goal
 

@@ -7,7 +7,8 @@ use Rattle.be_score.specs.Scores.{IsCandidate, IsPick}
 use Rattle.std.specs.Int.{w128}
 use Rattle.std.proofs.lemmas.Int.{to_z-of_z}
 use Rattle.be_model.specs.Schemas.{numbered}
-use Rattle.be_score.specs.Tallies.{IsBestBelow, better_of}
+use Rattle.be_score.specs.Tallies.{better_of}
+use Rattle.be_score.proofs.BestSoFar.{IsBestBelow}
 use Rattle.be_score.proofs.Choosing.{fits_count, fits_gain, step_on, step_off, step_used, chosen_pick, chosen_none}
 use Rattle.be_score.proofs.Picks.{pick_is}
 use Rattle.be_score.proofs.scores.pick_attr.Goals as goal

@@ -1,4 +1,4 @@
-use Rattle.be_score.specs.Tallies.{IsBestBelow}
+use Rattle.be_score.proofs.BestSoFar.{IsBestBelow}
 use Rattle.be_score.proofs.scores.pick_attr.Given as goal
 
 abbrev pub invariant-loop-number : goal.invariant-loop-number

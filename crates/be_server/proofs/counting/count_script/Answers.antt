@@ -5,7 +5,7 @@ use Rattle.be_model.specs.Schemas.{Attributes}
 use Rattle.std.proofs.lemmas.List.{nil_from_length}
 use Rattle.be_change.specs.History.{Entry}
 use Rattle.be_change.specs.Requests.{Request}
-use Rattle.be_transcript.specs.Readings.{reading}
+use Rattle.be_protocol.specs.Readings.{reading}
 use Rattle.be_workload.specs.Asked as made
 use Rattle.be_server.specs.Sums.{no_sums, MayCount, Counts}
 use Rattle.be_server.proofs.ScriptSteps.{Serving, serve_begin, serve_goes_on, serve_first, serve_may, serve_step, serve_end}

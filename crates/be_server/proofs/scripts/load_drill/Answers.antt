@@ -1,8 +1,8 @@
 use Rattle.std.proofs.Common.{◌≡◌, Err, map, option_map, subst, rules}
 use Rattle.be_base.specs.Readers.{now_of}
-use Rattle.be_server.specs.Drills.{drill_files, LoadsScripts, LoadsDrill}
+use Rattle.be_server.specs.Drill.{drill_files, LoadsScripts, LoadsDrill}
 use Rattle.be_server.proofs.Asking.{asks_run, asks_behind}
-use Rattle.be_server.proofs.DrillEnded.{scripts_refused, same_told}
+use Rattle.be_server.proofs.DrillEnds.{scripts_refused, same_told}
 use Rattle.be_server.proofs.scripts.load_drill.Goals as goal
 
 pub returns-in_err-schema-clause-asked : goal.returns-in_err-schema-clause-asked

@@ -4,10 +4,10 @@ use Rattle.std.proofs.lemmas.List.Elements.{All-push}
 use Rattle.std.proofs.lemmas.List.{length-map, map-append}
 use Rattle.be_base.specs.Readers.{now_of}
 use Rattle.be_base.specs.declared.limits.TheConstants.{FILE_BYTES}
-use Rattle.be_server.specs.Drills.{AreScripts, LoadsScripts}
+use Rattle.be_server.specs.Drill.{AreScripts, LoadsScripts}
 use Rattle.be_server.specs.Status.{status_of_shelf}
 use Rattle.be_server.proofs.Asking.{asks_file}
-use Rattle.be_server.proofs.DrillEnded.{asks_at, asks_all, asked_at, refused_at, read_at, scripts_count, was_pushed, take_end}
+use Rattle.be_server.proofs.DrillEnds.{asks_at, asks_all, asked_at, refused_at, read_at, scripts_count, was_pushed, take_end}
 use Rattle.be_server.proofs.scripts.load_scripts.Goals as goal
 
 pub returns-in_err-script-clause-loads : goal.returns-in_err-script-clause-loads

@@ -3,7 +3,7 @@ use Rattle.std.proofs.Common.{◌≡◌, ℕ, ◌≤◌, ◌++◌, List, length,
 use Rattle.std.specs.List.{All}
 use Rattle.be_base.specs.Readers.{now_of}
 use Rattle.be_base.specs.declared.limits.TheConstants.{FILE_BYTES}
-use Rattle.be_server.specs.Drills.{AreScripts}
+use Rattle.be_server.specs.Drill.{AreScripts}
 use Rattle.be_server.proofs.scripts.load_scripts.Given as goal
 
 abbrev pub invariant-loop-name : goal.invariant-loop-name

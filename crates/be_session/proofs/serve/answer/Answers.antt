@@ -5,10 +5,10 @@ use Rattle.be_io.specs.Sink.{SinkState}
 use Rattle.be_model.specs.Schemas.{Attributes}
 use Rattle.be_change.specs.Requests as asked
 use Rattle.be_board.specs.State.{BoardState}
-use Rattle.be_session.specs.declared.requests.Request.{Request}
-use Rattle.be_session.specs.declared.short.Short.TheVariants.{Refused}
-use Rattle.be_session.specs.Requests.{plain_request, plain_refusal}
-use Rattle.be_session.specs.Short.{plain_reply}
+use Rattle.be_protocol.specs.declared.requests.Request.{Request}
+use Rattle.be_protocol.specs.declared.short.Short.TheVariants.{Refused}
+use Rattle.be_protocol.specs.Requests.{plain_request, plain_refusal}
+use Rattle.be_protocol.specs.Short.{plain_reply}
 use Rattle.be_session.specs.Steps.{Replies}
 use Rattle.be_session.specs.Turns.{TurnsAfter}
 use Rattle.be_session.proofs.LineTurns.{replies_refused, short_turn, quit_turn, built_turn, taken_turn}

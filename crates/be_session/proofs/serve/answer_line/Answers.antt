@@ -3,7 +3,7 @@ use Rattle.std.proofs.Common.{sym, subst}
 use Rattle.be_io.specs.Lines as line
 use Rattle.be_io.specs.Outside.{sink_state}
 use Rattle.be_change.specs.Requests as asked
-use Rattle.be_transcript.specs.Readings.{reading}
+use Rattle.be_protocol.specs.Readings.{reading}
 use Rattle.be_session.specs.Turns.{TurnsAfter}
 use Rattle.be_session.proofs.LineTurns.{unread_turn}
 use Rattle.be_session.proofs.serve.answer_line.Goals as goal

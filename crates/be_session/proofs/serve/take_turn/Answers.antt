@@ -7,7 +7,7 @@ use Rattle.be_io.specs.Outside.{LinkState, link_state}
 use Rattle.be_io.specs.Reader.{GivesLine, FitsLine}
 use Rattle.be_io.specs.declared.lines.Line.{Line}
 use Rattle.be_io.specs.declared.lines.Line.TheVariants.{Text, Long, End}
-use Rattle.be_transcript.specs.Readings.{reading}
+use Rattle.be_protocol.specs.Readings.{reading}
 use Rattle.be_session.specs.Turns.{TurnState, TurnsAfter}
 use Rattle.be_session.proofs.LineTurns.{took_text, took_long, turned_so, was_going}
 use Rattle.be_session.proofs.serve.take_turn.Goals as goal

@@ -2,7 +2,7 @@ use Rattle.std.proofs.Common.{◌++◌, ◌<◌, length, sym, ap, ◌∙◌, sub
 use Rattle.be_shape.specs.declared.nodes.Node.TheViews.{out-Node}
 use Rattle.be_shape.specs.Plain.{plain, parts_as, half_as, rows_below, rows_in_parts, rows_in_half}
 use Rattle.be_shape.proofs.Plains.{plain_out}
-use Rattle.be_match.proofs.Fronts.{on_refusal}
+use Rattle.be_index.proofs.Adding.{on_refusal}
 use Rattle.be_tree.specs.Gathered.{wanted}
 use Rattle.be_tree.proofs.Gathering.{put_levels, some_in_node}
 use Rattle.be_tree.proofs.gathers.+gathers.Goals as goal

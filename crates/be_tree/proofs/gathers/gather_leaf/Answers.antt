@@ -1,9 +1,9 @@
 use Rattle.std.proofs.Common.{◌+◌, ◌++◌, ◌∷◌, [], ◌<◌, drop, length, arith}
 use Rattle.std.specs.Arc.{arc_value}
 use Rattle.be_base.proofs.Beginnings.{BeginsWith-along}
-use Rattle.be_match.proofs.Fronts.{on_refusal, put_step, some_first, some_from}
+use Rattle.be_index.proofs.Adding.{on_refusal}
 use Rattle.be_tree.specs.Gathered.{wanted}
-use Rattle.be_tree.proofs.Gathering.{wanted_at}
+use Rattle.be_tree.proofs.Gathering.{wanted_at, put_step, some_first, some_from}
 use Rattle.be_tree.proofs.gathers.gather_leaf.Goals as goal
 
 pub loop-place-preserved : goal.loop-place-preserved

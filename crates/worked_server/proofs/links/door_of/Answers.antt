@@ -1,5 +1,5 @@
 -- A link that nobody has used.
-use Rattle.std.proofs.Common.{Some, ap}
+use Rattle.std.proofs.Common.{Some, ap, refl}
 use Rattle.worked_server.proofs.links.door_of.Goals as goal
 
 pub make-requires-clause-unused : goal.make-requires-clause-unused
@@ -12,4 +12,5 @@ make-requires-clause-unused g c k d less =
       no_write_failed = fresh.no_write_failed;
       none_refused = fresh.none_refused;
       none_held = fresh.none_held;
+      none_kept_back = refl;
     }

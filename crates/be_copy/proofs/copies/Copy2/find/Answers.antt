@@ -7,6 +7,7 @@ use Rattle.be_model.proofs.RowsByIds.{rows_of-filter}
 use Rattle.be_model.proofs.RisingIds.{Rising-filter, SayIds-filter}
 use Rattle.be_change.specs.Entries.{IdsArePlaces}
 use Rattle.be_change.specs.History.{live, hit_rows}
+use Rattle.be_index.proofs.Adding.{rows_put}
 use Rattle.be_index.specs.Promise.{IsMap}
 use Rattle.be_copy.proofs.InOrder.{in_order, room_kept}
 use Rattle.be_copy.proofs.Kept.{kept_map}
@@ -22,7 +23,7 @@ returns-clause-found g c =
     let none : c.clear.new.self.rows ≡ [] = search rules in
     let same : g.I.Index.rows c.index-index.result.now ≡ live h = search rules in
     in_order (hit_rows h e) c.clear.new.self.rows c.find.new.found.rows c.order.new.self.rows (Rising-filter p (live h) map.rising) (SayIds-filter p (live h) map.say) none
-    (subst (λ rows. PutsEach rows c.clear.new.self.rows c.find.new.found.rows) (ap (λ m. satisfied e (rows_of m)) same ∙ sym (rows_of-filter (λ row. satisfies e row.conj) (live h))) c.in_ok-cost.ensures.found)
+    (subst (λ rows. PutsEach rows c.clear.new.self.rows c.find.new.found.rows) (ap (λ m. satisfied e (rows_of m)) same ∙ sym (rows_of-filter (λ row. satisfies e row.conj) (live h))) (rows_put _ _ _ c.in_ok-cost.ensures.found))
     c.order.ensures.same c.order.ensures.rising
 
 pub returns-clause-room : goal.returns-clause-room

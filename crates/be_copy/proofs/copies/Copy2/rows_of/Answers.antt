@@ -1,6 +1,4 @@
 -- The wanted rows are the session's live rows.
-use Rattle.std.proofs.Common.{◌++◌, [], ap, ◌∙◌}
-use Rattle.be_model.specs.ByIds.{session_rows}
 use Rattle.be_copy.proofs.Kept.{kept_listed, kept_map}
 use Rattle.be_copy.proofs.copies.Copy2.rows_of.Goals as goal
 

@@ -4,9 +4,9 @@ use Rattle.be_base.specs.Text.{Text}
 use Rattle.be_model.specs.Rows.{rows_in}
 use Rattle.be_change.specs.History.{hit_rows, hits}
 use Rattle.be_change.specs.Requests.{hit}
-use Rattle.be_transcript.specs.Replies.{reply_text}
-use Rattle.be_session.specs.Texts.{names_in}
-use Rattle.be_session.proofs.ReplyTexts.{names_in-rows_of}
+use Rattle.be_protocol.specs.Replies.{reply_text}
+use Rattle.be_protocol.specs.Texts.{names_in}
+use Rattle.be_protocol.proofs.ReplyTexts.{names_in-rows_of}
 use Rattle.be_follow.proofs.reads.Room.hits.Goals as goal
 
 pub returns : goal.returns

@@ -4,7 +4,7 @@ use Rattle.std.proofs.lemmas.Result.{err_from_is_err_and}
 use Rattle.be_io.specs.Reader.{ReaderState}
 use Rattle.be_io.specs.Reading.{IsReading}
 use Rattle.be_io.specs.Buffer.{Takes}
-use Rattle.be_io.proofs.ReadingLemmas.{IsReading-start, IsReading-counted, IsReading-skip, IsReading-fill, IsReading-close, IsReading-finish, IsReading-broken, IsReading-unbroken}
+use Rattle.be_io.proofs.ReadingLemmas.{IsReading-start, IsReading-counted, IsReading-skip, IsReading-fill, IsReading-close, IsReading-finish, IsReading-broken, IsReading-unbroken, IsReading-ahead}
 use Rattle.be_io.proofs.lines.LineReader.read_line.Goals as goal
 
 pub loop-len-init : goal.loop-len-init
@@ -14,6 +14,7 @@ loop-len-init g c = record {
   faults = refl;
   taken = omega arith;
   beside = refl;
+  ahead = λ _. refl;
 }
 
 pub close-requires-clause-counted : goal.close-requires-clause-counted
@@ -44,6 +45,16 @@ returns-in_err-fill-clause-unbroken g c =
     let p = err_from_is_err_and c.from_residual.result c.from_residual.ensures.1 in
     rw (p.1) unbroken
 
+pub returns-in_err-fill-clause-ahead : goal.returns-in_err-fill-clause-ahead
+returns-in_err-fill-clause-ahead g c =
+    let skip = IsReading-skip c.loop-len.invariant.reading c.in_default.ensures c.skip.ensures.exact c.skip.ensures.after in
+    λ ahead. IsReading-ahead skip ahead
+
+pub returns-in_err-fill-clause-last : goal.returns-in_err-fill-clause-last
+returns-in_err-fill-clause-last g c =
+    let skip = IsReading-skip c.loop-len.invariant.reading c.in_default.ensures c.skip.ensures.exact c.skip.ensures.after in
+    λ _. IsReading-unbroken skip
+
 pub finish-requires : goal.finish-requires
 finish-requires g c =
     let skip = IsReading-skip c.loop-len.invariant.reading c.in_default.ensures c.skip.ensures.exact c.skip.ensures.after in
@@ -58,6 +69,16 @@ returns-then-branch-eq0-clause-line g c =
     let takes = subst (λ k. Takes c.skip.new.self.unread c.fill.new.self.unread (g.S.Source.left c.loop-len.src) (g.S.Source.left c.fill.new.src) k) zero c.in_ok-fill.ensures.takes in
     IsReading-finish (g.S.Source.left c.fill.new.src) skip after takes c.finish.ensures.line c.finish.ensures.after
 
+pub returns-then-branch-eq0-clause-ahead : goal.returns-then-branch-eq0-clause-ahead
+returns-then-branch-eq0-clause-ahead g c =
+    let skip = IsReading-skip c.loop-len.invariant.reading c.in_default.ensures c.skip.ensures.exact c.skip.ensures.after in
+    λ ahead. IsReading-ahead skip ahead
+
+pub returns-then-branch-eq0-clause-last : goal.returns-then-branch-eq0-clause-last
+returns-then-branch-eq0-clause-last g c =
+    let skip = IsReading-skip c.loop-len.invariant.reading c.in_default.ensures c.skip.ensures.exact c.skip.ensures.after in
+    λ _. IsReading-unbroken skip
+
 pub loop-len-preserved : goal.loop-len-preserved
 loop-len-preserved g c =
     let skip = IsReading-skip c.loop-len.invariant.reading c.in_default.ensures c.skip.ensures.exact c.skip.ensures.after in
@@ -70,4 +91,5 @@ loop-len-preserved g c =
       faults = c.in_ok-fill.ensures.sound ∙ c.loop-len.invariant.faults;
       taken = omega (arith, c.in_ok-fill.ensures.taken, c.loop-len.invariant.taken, before, after, c.skip.ensures.taken);
       beside = c.fill.ensures.beside ∙ c.loop-len.invariant.beside;
+      ahead = λ ahead. IsReading-ahead skip ahead;
     }

@@ -4,8 +4,8 @@ use Rattle.be_io.specs.Lines as line
 use Rattle.be_model.specs.Bounds.{IsWithinBound}
 use Rattle.be_model.specs.Schemas.{Attributes}
 use Rattle.be_change.specs.Walk.{live_rows}
-use Rattle.be_transcript.specs.Readings.{reading}
-use Rattle.be_session.specs.Requests.{plain_request}
+use Rattle.be_protocol.specs.Readings.{reading}
+use Rattle.be_protocol.specs.Requests.{plain_request}
 use Rattle.be_server.proofs.CountedReplies.{cost_fits}
 use Rattle.be_server.proofs.counting.Counting.answer.Goals as goal
 

@@ -3,8 +3,8 @@ use Rattle.std.proofs.Common.{◌≡◌, true, IfErr, refl, sym, ap, ◌∙◌, 
 use Rattle.std.proofs.lemmas.Result.{err_from_is_err_and}
 use Rattle.be_change.specs.Requests as asked
 use Rattle.be_board.specs.State.{BoardState}
-use Rattle.be_session.specs.declared.short.Short.{Short}
-use Rattle.be_session.specs.Short.{plain_reply}
+use Rattle.be_protocol.specs.declared.short.Short.{Short}
+use Rattle.be_protocol.specs.Short.{plain_reply}
 use Rattle.be_session.specs.Steps.{Replies}
 use Rattle.be_session.proofs.Looking.{found, refused_read, wanted_memory}
 use Rattle.std.specs.Prelude.{All}
@@ -13,7 +13,7 @@ use Rattle.be_model.specs.Rows.{rows_in}
 use Rattle.be_model.specs.Schemas.{Attributes}
 use Rattle.be_model.specs.declared.changes.Row.{Row}
 use Rattle.be_change.specs.Walk.{live_rows}
-use Rattle.be_transcript.specs.Replies.{reply_text}
+use Rattle.be_protocol.specs.Replies.{reply_text}
 use Rattle.be_session.proofs.LiveLies.{live_lies}
 use Rattle.be_session.proofs.room.Room.dumped.Goals as goal
 

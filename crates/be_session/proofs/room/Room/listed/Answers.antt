@@ -4,17 +4,17 @@ use Rattle.std.proofs.lemmas.Result.{err_from_is_err_and}
 use Rattle.be_change.specs.History.{Entry, live}
 use Rattle.be_change.specs.Requests as asked
 use Rattle.be_board.specs.State.{BoardState}
-use Rattle.be_session.specs.declared.short.Short.{Short}
-use Rattle.be_session.specs.Short.{plain_reply}
+use Rattle.be_protocol.specs.declared.short.Short.{Short}
+use Rattle.be_protocol.specs.Short.{plain_reply}
 use Rattle.be_session.specs.Steps.{Replies}
 use Rattle.be_session.proofs.Looking.{found, refused_read, wanted_memory}
 use Rattle.std.proofs.Common.{filter}
 use Rattle.be_model.specs.ByIds.{rows_of, is_of}
 use Rattle.be_model.specs.Rows.{rows_in}
 use Rattle.be_change.specs.Walk.{names_of_session}
-use Rattle.be_transcript.specs.Replies.{reply_text}
-use Rattle.be_session.specs.Texts.{names_in}
-use Rattle.be_session.proofs.ReplyTexts.{names_in-rows_of}
+use Rattle.be_protocol.specs.Replies.{reply_text}
+use Rattle.be_protocol.specs.Texts.{names_in}
+use Rattle.be_protocol.proofs.ReplyTexts.{names_in-rows_of}
 use Rattle.be_session.proofs.room.Room.listed.Goals as goal
 
 pub returns-in_err-n-clause-refused : goal.returns-in_err-n-clause-refused

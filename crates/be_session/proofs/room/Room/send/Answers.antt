@@ -2,8 +2,8 @@
 use Rattle.std.proofs.Common.{sym, subst}
 use Rattle.be_board.specs.State.{BoardState}
 use Rattle.be_change.specs.Requests as asked
-use Rattle.be_session.specs.declared.short.Short.{Short}
-use Rattle.be_session.specs.Short.{plain_reply}
+use Rattle.be_protocol.specs.declared.short.Short.{Short}
+use Rattle.be_protocol.specs.Short.{plain_reply}
 use Rattle.be_session.specs.Steps.{Replies}
 use Rattle.be_session.proofs.SendingOn.{refused_send}
 use Rattle.be_session.proofs.room.Room.send.Goals as goal

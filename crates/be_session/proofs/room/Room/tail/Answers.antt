@@ -4,15 +4,15 @@ use Rattle.std.proofs.lemmas.Result.{err_from_is_err_and}
 use Rattle.be_change.specs.History.{Entry}
 use Rattle.be_change.specs.Requests as asked
 use Rattle.be_board.specs.State.{BoardState}
-use Rattle.be_session.specs.declared.short.Short.{Short}
-use Rattle.be_session.specs.Short.{plain_reply}
+use Rattle.be_protocol.specs.declared.short.Short.{Short}
+use Rattle.be_protocol.specs.Short.{plain_reply}
 use Rattle.be_session.specs.Steps.{Replies}
 use Rattle.be_session.proofs.Looking.{found, refused_read, wanted_memory}
 use Rattle.be_model.specs.Schemas.{Attributes}
 use Rattle.be_change.specs.Entries.{entries_in}
 use Rattle.be_change.specs.Sound.{all_lie}
 use Rattle.be_change.specs.Walk.{tail_from}
-use Rattle.be_transcript.specs.Replies.{reply_text}
+use Rattle.be_protocol.specs.Replies.{reply_text}
 use Rattle.be_session.proofs.LiveLies.{tail_lies}
 use Rattle.be_session.proofs.room.Room.tail.Goals as goal
 

@@ -1,0 +1,165 @@
+-- The words after the program's name: what each command takes.
+use Rattle.std.specs.Prelude.{◌≡◌, ℕ, ◌<◌, ◌≤◌, ◌&&◌, List, [], ◌∷◌, length, map, Option, Some, None, option_map, option_and_then, codes, string_bytes, nat_le, find, Result, Ok, Err, if◌then◌else◌}
+use Rattle.std.specs.declared.alloc.Global.{Global}
+use Rattle.std.specs.declared.string.String.{String}
+use Rattle.be_base.specs.Numbers.{count_of}
+use Rattle.be_base.specs.Readers.{now_of}
+use Rattle.be_base.specs.Text.{Text, same_text, name_of}
+use Rattle.be_base.specs.declared.names.NameFault.{NameFault}
+use Rattle.be_base.specs.declared.limits.TheConstants.{GENERATED_SUBSCRIPTIONS, GENERATED_EVENTS, LINKS, ROUNDS, SEATS}
+use Rattle.be_command_line.specs.declared.words.TheConstants.{PORTS}
+use Rattle.be_command_line.specs.Arguments.{Arguments, arguments}
+use Rattle.be_command_line.specs.declared.words.Request.{Request as WordsRequest}
+use Rattle.be_command_line.specs.declared.words.Request.TheVariants.{Run, Gen, Cover, Drill, Heat, Serve, Follow}
+use Rattle.be_command_line.specs.declared.words.Sessions.{Sessions as WordsSessions}
+use Rattle.be_command_line.specs.declared.words.WordsFault.{WordsFault}
+use Rattle.be_command_line.specs.declared.words.WordsFault.TheVariants.{Refused, NoMemory}
+
+pub data Request : Type 0 where
+  -- one session over the input and the output, with the schema in this file and the opening table in that one
+  run : Text → Option Text → Request
+  -- a generated workload of this number, with so many subscriptions and events
+  gen : ℕ → ℕ → ℕ → Request
+  -- which rows of a load file are covered by the one of this name: the schema's file, the load file, the name
+  cover : Text → Text → Text → Request
+  -- workers over one list, a session a file, beside a maintainer of so many calls: the schema's file, the opening table in that
+  -- one, the calls, the sessions' files
+  drill : Text → Option Text → ℕ → List Text → Request
+  -- as a drill without an opening table, with counts of what the answered events ask for
+  heat : Text → ℕ → List Text → Request
+  -- workers over one list, a session a link: the schema's file, the opening table in that one, the port, the seats, the links
+  serve : Text → Option Text → ℕ → ℕ → ℕ → Request
+  -- events answered from a list of changes that another server wrote: the schema's file, and that of the changes
+  follow : Text → Text → Request
+
+-- FILE of `--load` stands once or not at all
+abbrev pub once_loaded : List Text → Option (Option Text)
+once_loaded [] = Some None
+once_loaded (file ∷ []) = Some (Some file)
+once_loaded _ = None
+
+abbrev pub load_once : (Option Text → Request) → List Text → Option Request
+load_once request loads = option_map request (once_loaded loads)
+
+abbrev pub run_of : List Text → List Text → Option Request
+run_of (schema ∷ []) loads = load_once (run schema) loads
+run_of _ loads = None
+
+-- a count of this number at most
+abbrev pub count_within : ℕ → Text → Option ℕ
+count_within most text = option_and_then (λ count. if nat_le count most then Some count else None) (count_of text)
+
+-- a count from 1 to this number
+abbrev pub count_from_one : ℕ → Text → Option ℕ
+count_from_one most text = option_and_then (λ count. if nat_le 1 count then Some count else None) (count_within most text)
+
+abbrev pub gen_of_counts : Option ℕ → Option ℕ → Option ℕ → Option Request
+gen_of_counts (Some number) (Some subs) (Some events) = Some (gen number subs events)
+gen_of_counts _ _ _ = None
+
+abbrev pub gen_of : List Text → List Text → Option Request
+gen_of (number ∷ subs ∷ events ∷ []) [] =
+    gen_of_counts (count_of number) (count_within GENERATED_SUBSCRIPTIONS subs) (count_within GENERATED_EVENTS events)
+gen_of _ _ = None
+
+abbrev pub if_named : Result Text NameFault → Request → Option Request
+if_named (Ok name) request = Some request
+if_named (Err fault) request = None
+
+abbrev pub cover_of : List Text → List Text → Option Request
+cover_of (schema ∷ file ∷ name ∷ []) [] = if_named (name_of name) (cover schema file name)
+cover_of _ _ = None
+
+-- a file at least, and no more than there may be seats
+abbrev pub some_files : List Text → Option (List Text)
+some_files files = if nat_le 1 (length files) && nat_le (length files) SEATS then Some files else None
+
+-- what `drill` and `heat` take: the schema's file, the maintainer's calls, and the sessions' files
+pub record Sessions : Type 0 where
+  pub schema : Text
+  pub rounds : ℕ
+  pub files : List Text
+
+abbrev pub sessions_with : Text → Option ℕ → Option (List Text) → Option Sessions
+sessions_with schema (Some rounds) (Some files) = Some (record { schema = schema; rounds = rounds; files = files })
+sessions_with _ _ _ = None
+
+abbrev pub sessions_of : List Text → Option Sessions
+sessions_of (schema ∷ rounds ∷ files) = sessions_with schema (count_within ROUNDS rounds) (some_files files)
+sessions_of _ = None
+
+abbrev pub drill_of : List Text → List Text → Option Request
+drill_of words loads = option_and_then (λ load. option_map (λ (s : Sessions). drill s.schema load s.rounds s.files) (sessions_of words)) (once_loaded loads)
+
+abbrev pub heat_of : List Text → List Text → Option Request
+heat_of words [] = option_map (λ (s : Sessions). heat s.schema s.rounds s.files) (sessions_of words)
+heat_of _ _ = None
+
+abbrev pub serve_with : Text → Option ℕ → Option ℕ → Option ℕ → List Text → Option Request
+serve_with schema (Some port) (Some seats) (Some links) loads = load_once (λ load. serve schema load port seats links) loads
+serve_with _ _ _ _ _ = None
+
+abbrev pub serve_of : List Text → List Text → Option Request
+serve_of (schema ∷ port ∷ seats ∷ links ∷ []) loads =
+    serve_with schema (count_from_one PORTS port) (count_from_one SEATS seats) (count_from_one LINKS links) loads
+serve_of _ _ = None
+
+abbrev pub follow_of : List Text → List Text → Option Request
+follow_of (schema ∷ file ∷ []) [] = Some (follow schema file)
+follow_of _ _ = None
+
+-- a command's word, and what it makes of the words by their places and of the FILEs of `--load`
+pub record Row : Type 0 where
+  pub word : Text
+  pub request : List Text → List Text → Option Request
+
+abbrev pub commands : List Row
+commands =
+    record { word = codes "run"; request = run_of }
+    ∷ record { word = codes "gen"; request = gen_of }
+    ∷ record { word = codes "cover"; request = cover_of }
+    ∷ record { word = codes "drill"; request = drill_of }
+    ∷ record { word = codes "serve"; request = serve_of }
+    ∷ record { word = codes "heat"; request = heat_of }
+    ∷ record { word = codes "follow"; request = follow_of }
+    ∷ []
+
+abbrev pub row_of : Text → Option Row
+row_of command = find (λ row. same_text row.word command) commands
+
+abbrev pub request_of : Text → Arguments → Option Request
+request_of command a = option_and_then (λ row. row.request a.words a.loads) (row_of command)
+
+-- what the words ask for: the first one is the command
+abbrev pub reading : List Text → Option Request
+reading [] = None
+reading (command ∷ words) = option_and_then (request_of command) (arguments words)
+
+abbrev pub words_of : List (String Global) → List Text
+words_of words = map (λ word. string_bytes word) words
+
+abbrev pub plain_request : WordsRequest → Request
+plain_request (Run schema load) = run schema.now (option_map now_of load)
+plain_request (Gen number subs events) = gen number subs events
+plain_request (Cover schema file name) = cover schema.now file.now name.now
+plain_request (Drill schema load rounds files) = drill schema.now (option_map now_of load) rounds (map now_of files.items)
+plain_request (Heat schema rounds files) = heat schema.now rounds (map now_of files.items)
+plain_request (Serve schema load port seats links) = serve schema.now (option_map now_of load) port seats links
+plain_request (Follow schema file) = follow schema.now file.now
+
+abbrev pub plain_sessions : WordsSessions → Sessions
+plain_sessions s = record { schema = s.schema.now; rounds = s.rounds; files = map now_of s.files.items }
+
+-- the request exactly where the words have a reading, and the refusal exactly where they have none, want of memory aside
+abbrev pub IsAnswerTo : List Text → Result WordsRequest WordsFault → Type 0
+IsAnswerTo words (Ok request) = reading words ≡ Some (plain_request request)
+IsAnswerTo words (Err Refused) = reading words ≡ None
+IsAnswerTo words (Err NoMemory) = Unit {0}
+
+-- what a request asks for is within the limits
+abbrev pub IsWithin : WordsRequest → Type 0
+IsWithin (Gen number subs events) = (subs ≤ GENERATED_SUBSCRIPTIONS) × (events ≤ GENERATED_EVENTS)
+IsWithin (Drill schema load rounds files) = (rounds ≤ ROUNDS) × (0 < length files.items) × (length files.items ≤ SEATS)
+IsWithin (Heat schema rounds files) = (rounds ≤ ROUNDS) × (0 < length files.items) × (length files.items ≤ SEATS)
+IsWithin (Serve schema load port seats links) = (0 < seats) × (seats ≤ SEATS) × (0 < links) × (links ≤ LINKS)
+IsWithin request = Unit {0}

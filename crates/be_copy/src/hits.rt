@@ -1,0 +1,81 @@
+//! The hits of an event by their ids and their names.
+
+ghost use Rattle.std.specs.Prelude.{◌≡◌, ◌<◌, ◌++◌, [], true, length, OnOk, OnErr, IfOk};
+ghost use Rattle.be_model.specs.Bounds.{IsWithinBound};
+ghost use Rattle.be_model.specs.Lies.{event_lies};
+ghost use Rattle.be_model.specs.Matching.{FindsSome};
+ghost use Rattle.be_change.specs.History.{hit_rows, hits};
+ghost use Rattle.be_change.specs.Walk.{live_rows};
+ghost use Rattle.be_index.specs.Ids.{ids_of};
+ghost use Rattle.be_index.specs.Names.{spaced};
+ghost use Rattle.be_copy.specs.Hits.{name_at, names_at};
+
+use crate::copies::Copy2;
+use be_base::{Id, NoMemory};
+use be_change::ChangeLog;
+use be_index::{Ids, Index};
+use be_model::{Cost, Event};
+
+impl<I: Index> Copy2<I> {
+    /// Finds the ids of the live rows that the event satisfies, by rising id, by one search, and their names, each after a space, and
+    /// drops what was found before. It takes no reference to a row.
+    pub fn hits(&self, event: &Event, ids: &mut Ids, names: &mut Vec<u8>) -> Result<Cost, NoMemory>
+        requires { event_lies (I.schema self.now.index) event.now ≡ true }
+        ensures ids { OnOk result (ids.new.ids ≡ ids_of (hit_rows self.now.list event.now)) }
+        ensures names { OnOk result (names.new.items ≡ spaced (hits self.now.list event.now)) }
+        ensures none { OnErr result (names.new.items ≡ []) }
+        // It is refused only where there is something to find.
+        ensures some { OnErr result (FindsSome event.now (live_rows self.now.list)) }
+        ensures cost { IfOk result (λ cost. cost ≡ I.cost_of self.now.index event.now) }
+        ensures bound { IfOk result (λ cost. I.is_bounded self.now.index ≡ true → IsWithinBound (I.schema self.now.index) event.now (live_rows self.now.list) cost) }
+    {
+        names.clear();
+        let cost = self.hit_ids(event, ids)?;
+        match push_names(self.log(), ids.ids(), names) {
+            Ok(()) => Ok(cost),
+            Err(NoMemory) => {
+                names.clear();
+                Err(NoMemory)
+            }
+        }
+    }
+
+    // The ids of the live rows that the event satisfies, by rising id.
+    fn hit_ids(&self, event: &Event, ids: &mut Ids) -> Result<Cost, NoMemory>
+        requires { event_lies (I.schema self.now.index) event.now ≡ true }
+        ensures ids { OnOk result (ids.new.ids ≡ ids_of (hit_rows self.now.list event.now)) }
+        ensures some { OnErr result (FindsSome event.now (live_rows self.now.list)) }
+        ensures cost { IfOk result (λ cost. cost ≡ I.cost_of self.now.index event.now) }
+        ensures bound { IfOk result (λ cost. I.is_bounded self.now.index ≡ true → IsWithinBound (I.schema self.now.index) event.now (live_rows self.now.list) cost) }
+    {
+        let index = self.index();
+        // That ids rise comes to light at the length of the list.
+        let _ = self.log().len();
+        ids.clear();
+        let cost = index.find(event, ids)?;
+        ids.sort();
+        Ok(cost)
+    }
+}
+
+// Puts the names of the rows at these places last, each after a space.
+fn push_names(log: &ChangeLog, ids: &[u64], names: &mut Vec<u8>) -> Result<(), NoMemory>
+    ensures put { OnOk result (names.new.items ≡ names.old.items ++ spaced (names_at log.now.list ids.now)) }
+    ensures some { OnErr result (0 < length ids.now) }
+{
+    for id in ids {
+        names.extend_from_slice(b" ")?;
+        names.extend_from_slice(name_at(log, *id))?;
+    }
+    Ok(())
+}
+
+// The name of the row at a place, or no text where none is there.
+fn name_at(log: &ChangeLog, id: u64) -> &[u8]
+    ensures { result.now ≡ name_at log.now.list id }
+{
+    match log.row(Id(id)) {
+        Some(row) => row.name.bytes(),
+        None => &[],
+    }
+}

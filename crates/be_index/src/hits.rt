@@ -1,0 +1,63 @@
+//! What a search puts rows into.
+
+ghost use Rattle.std.specs.Prelude.{◌≡◌, ◌<◌, ◌≤◌, ◌∷◌, [], length, take, OnOk, OnErr};
+ghost use Rattle.std.specs.Arc.{arc_value};
+ghost use Rattle.be_index.specs.Puts.{Adds, KeepsPlaces};
+
+use be_base::NoMemory;
+use be_model::{Found, Row};
+use std::sync::Arc;
+
+/// A list with an item for each row that was put, and room for more.
+pub trait Hits {
+    ghost use Rattle.be_model.specs.declared.changes.Row.{Row};
+    ghost use Rattle.be_index.specs.Puts.{Held};
+
+    type Item;
+
+    /// What is kept of a row.
+    ghost item_of: { Row → Self.Item };
+
+    ghost held: { Self → Held Self.Item };
+
+    /// Puts a row last.
+    fn put(&mut self, row: &Arc<Row>) -> Result<(), NoMemory>
+        ensures put { OnOk result (Adds (held self.old) (held self.new) (item_of (arc_value row.now) ∷ [])) }
+        ensures refused { OnErr result ((held self.old).sure < 1) }
+        ensures same { OnErr result ((held self.new).items ≡ (held self.old).items) }
+        ensures room { KeepsPlaces (held self.old) (held self.new) };
+
+    /// How many rows were put.
+    fn count(&self) -> usize
+        ensures { result ≡ length (held self.now).items };
+
+    /// Keeps the first `n` rows.
+    fn keep(&mut self, n: usize)
+        requires { n ≤ length (held self.old).items }
+        ensures items { (held self.new).items ≡ take n (held self.old).items }
+        ensures room { KeepsPlaces (held self.old) (held self.new) };
+}
+
+/// Each row that is put takes a further reference, which may be refused whatever room there is.
+impl Hits for Found {
+    ghost use Rattle.std.specs.Prelude.{◌+◌, length};
+
+    type Item = Row;
+
+    ghost item_of = { λ row. row };
+
+    ghost held = { λ f. record { items = f.rows; sure = 0; places = length f.rows + f.spare } };
+
+    fn put(&mut self, row: &Arc<Row>) -> Result<(), NoMemory> {
+        self.reserve(1)?;
+        self.push_again(row)
+    }
+
+    fn count(&self) -> usize {
+        self.len()
+    }
+
+    fn keep(&mut self, n: usize) {
+        self.cut(n);
+    }
+}

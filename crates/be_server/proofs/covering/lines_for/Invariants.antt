@@ -1,7 +1,0 @@
-use Rattle.std.proofs.Common.{◌≡◌, take}
-use Rattle.std.specs.List.{flat_map}
-use Rattle.be_server.specs.Covers.{line_of}
-use Rattle.be_server.proofs.covering.lines_for.Given as goal
-
-abbrev pub invariant-loop-row : goal.invariant-loop-row
-invariant-loop-row l = l.text.items ≡ flat_map (line_of l.schema l.asked) (take l.row-index l.rows)

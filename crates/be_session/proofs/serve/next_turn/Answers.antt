@@ -1,0 +1,32 @@
+-- A turn was taken, and what was written was handed on.
+use Rattle.std.proofs.Common.{◌≡◌, Bool, ap, ◌∙◌, sym, subst}
+use Rattle.be_io.specs.Kept.{KeptByWrite}
+use Rattle.be_io.specs.Outside.{LinkState, link_state}
+use Rattle.be_io.specs.Source.{SourceState}
+use Rattle.be_session.specs.Turns.{TakesAlike, Turned, HandsOnAfter}
+use Rattle.be_session.proofs.Handing.{still_next}
+use Rattle.be_session.proofs.serve.next_turn.Goals as goal
+
+pub returns-clause-turned : goal.returns-clause-turned
+returns-clause-turned g c =
+    let written : LinkState = link_state g.L.Source g.L.Sink c.take_turn-answered.new.link in
+    let after : LinkState = link_state g.L.Source g.L.Sink c.hand_over_after-turn.new.out in
+    let still : after.source ≡ written.source =
+    sym (g.met.L.Link.writes_leave_the_source c.hand_over_after-turn.new.out) ∙ (ap (λ (k : KeptByWrite). k.source) c.hand_over_after-turn.ensures.beside ∙ g.met.L.Link.writes_leave_the_source c.take_turn-answered.new.link) in (
+      written.sink,
+      c.take_turn-answered.result,
+      subst (λ (x : SourceState). Turned c.args.schema.now (record { reader = c.args.reader.now; link = link_state g.L.Source g.L.Sink c.args.link.now; board = g.B.Board.state c.args.board.now })
+          (record { reader = c.take_turn-answered.new.reader; link = record { source = x; sink = written.sink }; board = g.B.Board.state c.take_turn-answered.new.board }) c.take_turn-answered.result) (sym still) c.take_turn-answered.ensures.turned,
+      subst (λ (ahead : Bool). HandsOnAfter ahead c.take_turn-answered.result written.sink after.sink c.hand_over_after-turn.result) c.has_line.ensures c.hand_over_after-turn.ensures.handed,
+    )
+
+pub returns-clause-alike : goal.returns-clause-alike
+returns-clause-alike g c =
+    let written : LinkState = link_state g.L.Source g.L.Sink c.take_turn-answered.new.link in
+    let after : LinkState = link_state g.L.Source g.L.Sink c.hand_over_after-turn.new.out in
+    let still : after.source ≡ written.source =
+    sym (g.met.L.Link.writes_leave_the_source c.hand_over_after-turn.new.out) ∙ (ap (λ (k : KeptByWrite). k.source) c.hand_over_after-turn.ensures.beside ∙ g.met.L.Link.writes_leave_the_source c.take_turn-answered.new.link) in
+    subst (λ (x : SourceState). TakesAlike c.args.reader.now.taken c.take_turn-answered.new.reader.taken (g.L.Source.taken c.args.link.now) x.taken) (sym still) c.take_turn-answered.ensures.alike
+
+pub returns-clause-progress : goal.returns-clause-progress
+returns-clause-progress g c = λ is. c.take_turn-answered.ensures.progress (still_next _ _ _ _ _ c.hand_over_after-turn.ensures.handed is)
