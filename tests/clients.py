@@ -15,13 +15,14 @@ import time
 
 TOP = os.path.dirname(os.path.dirname(os.path.abspath(__file__)))
 sys.dont_write_bytecode = True
+import ports  # noqa: E402
+
 sys.path.insert(0, os.path.join(TOP, "examples", "client"))
 from justmeadow import Connection  # noqa: E402
 
 PROGRAM, COMMAND = sys.argv[1], sys.argv[2:]
 WAIT = 15  # seconds for what is expected to come
 counts, lock = {True: 0, False: 0}, threading.Lock()
-ports = iter(range(20000 + os.getpid() * 32 % 12000, 32768))
 
 
 def case(what, given, wanted):
@@ -47,32 +48,17 @@ def listening(port=0):
     return listener
 
 
-def free_port():
-    """A port below those that the system gives out, so that no connection of another test takes it before the server does."""
-    with lock:
-        for port in ports:
-            with contextlib.suppress(OSError), listening(port):
-                return port
-    raise OSError("no port is free")
-
-
 class Server:
     """The program, serving a free port. `watcher` is a session of its own, which makes no change while it lasts."""
 
     def __init__(self, schema, seats, links, *load):
-        self.port = free_port()
-        words = [PROGRAM, "serve", schema, str(self.port), str(seats), str(links), *load]
-        self.process = subprocess.Popen(words, stdin=subprocess.DEVNULL, stdout=subprocess.DEVNULL)
+        def words(port):
+            return [PROGRAM, "serve", schema, str(port), str(seats), str(links), *load]
+
+        self.process, self.port = ports.serving(words, stdin=subprocess.DEVNULL, stdout=subprocess.DEVNULL)
 
     def watcher(self):
-        until = time.monotonic() + WAIT
-        while True:
-            try:
-                return Connection(self.port, within=WAIT)
-            except ConnectionRefusedError:
-                if time.monotonic() > until:
-                    raise
-                time.sleep(0.01)
+        return Connection(self.port, within=WAIT)
 
     def __enter__(self):
         return self

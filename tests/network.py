@@ -10,24 +10,26 @@ sys.dont_write_bytecode = True
 import legal
 import letters
 import model
+import ports
 from changes import History, Illegal, number, require
 
 WAIT = 60
 
 
-def free_port():
-    with socket.socket() as probe:
-        probe.bind(("127.0.0.1", 0))
-        return probe.getsockname()[1]
-
-
 class Server:
-    """The program, serving so many links of a free port. `end` waits for it, and gives its status, its output and its faults."""
+    """The program, serving so many links of a free port, or of this one. `end` waits for it, and gives its status, its output and
+    its faults."""
 
     def __init__(self, program, schema, seats, links, load=(), port=None):
-        self.port, self.seats = port or free_port(), seats
-        words = [program, "serve", schema, str(self.port), str(seats), str(links), *load]
-        self.process = subprocess.Popen(words, stdin=subprocess.DEVNULL, stdout=subprocess.PIPE, stderr=subprocess.PIPE)
+        def words(port):
+            return [program, "serve", schema, str(port), str(seats), str(links), *load]
+
+        options = {"stdin": subprocess.DEVNULL, "stdout": subprocess.PIPE, "stderr": subprocess.PIPE}
+        self.port, self.seats = port, seats
+        if port:
+            self.process = subprocess.Popen(words(port), **options)
+        else:
+            self.process, self.port = ports.serving(words, **options)
 
     def end(self):
         out, err = self.process.communicate(timeout=WAIT)
