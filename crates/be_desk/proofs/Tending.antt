@@ -6,7 +6,7 @@ use Rattle.be_desk.specs.Desks.{DeskState}
 use Rattle.be_desk.specs.Tends.{AreNotDue, TendsComeDue}
 use Rattle.be_desk.specs.declared.patience.TheConstants.{ROWS_RESHAPED}
 
-earned_more : (n p p' rows : ℕ) → n * 64 ≤ p → p' ≡ raised 64 p → p' < rows → rows ≤ last_count → (suc n * 64 ≤ p') × (suc n * 64 ≤ rows)
+earned_more : (n p p' rows : ℕ) → n * 4 ≤ p → p' ≡ raised 4 p → p' < rows → rows ≤ last_count → (suc n * 4 ≤ p') × (suc n * 4 ≤ rows)
 earned_more n p p' rows enough is below few = (omega (arith, enough, is, below, few), omega (arith, enough, is, below, few))
 
 -- where enough rows are live, a look is put off for want of what was earned
@@ -14,7 +14,7 @@ not_earned : (p rows : ℕ) → ROWS_RESHAPED ≤ rows → (rows < ROWS_RESHAPED
 not_earned p rows many (inl few) = omega (arith, many, few)
 not_earned p rows many (inr below) = below
 
-earned : (n : ℕ) (d d' : DeskState) → ROWS_RESHAPED ≤ length (live d.list) → length (live d.list) ≤ last_count → AreNotDue n d d' → (d'.list ≡ d.list) × (n * 64 ≤ d'.patience) × (n * 64 ≤ length (live d.list))
+earned : (n : ℕ) (d d' : DeskState) → ROWS_RESHAPED ≤ length (live d.list) → length (live d.list) ≤ last_count → AreNotDue n d d' → (d'.list ≡ d.list) × (n * 4 ≤ d'.patience) × (n * 4 ≤ length (live d.list))
 earned zero d d' many few is = (ap (λ x. x.list) is, omega arith, omega arith)
 earned (suc n) d d' many few (m, before, tended) =
     let so_far = earned n d m many few before in

@@ -9,9 +9,9 @@ use std::marker::Model;
 /// that changes earn take about a tenth of the time that the changes take.
 pub const WORK_A_CHANGE: u64 = 8;
 
-/// What a tend earns: without any change a look comes after as many tends as there are live rows, divided by 64, where
+/// What a tend earns: without any change a look comes after as many tends as a quarter of the live rows, where
 /// these are enough for a look.
-pub const WORK_A_TEND: u64 = 64;
+pub const WORK_A_TEND: u64 = 4;
 
 /// A tend looks for no step where fewer rows are live: a split made in a small tree stays while it grows, and makes it dear to
 /// search.
