@@ -198,3 +198,12 @@ line_short s place e valid names low w lies =
     let len2 : length (codes "AT" ++ number place) ≡ 2 + length (number place) = length-append (codes "AT") (number place) in
     let few : length ((codes "AT" ++ number place) ++ part (change_text s e)) ≤ 262144 = omega (arith, text, digits, len, len2) in
     grind (arith, nat_tests)
+
+pub ended_short : (n count : ℕ) → n < COUNT_END → count < COUNT_END → nat_lt FEED_LINE_BYTES (length ((codes "TAILED" ++ number n) ++ number count)) ≡ false
+ended_short n count low low2 =
+    let digits : length (decimal n) ≤ 19 = count_short n low in
+    let digits2 : length (decimal count) ≤ 19 = count_short count low2 in
+    let len : length ((codes "TAILED" ++ number n) ++ number count) ≡ length (codes "TAILED" ++ number n) + length (number count) = length-append (codes "TAILED" ++ number n) (number count) in
+    let len2 : length (codes "TAILED" ++ number n) ≡ 6 + length (number n) = length-append (codes "TAILED") (number n) in
+    let few : length ((codes "TAILED" ++ number n) ++ number count) ≤ 262144 = omega (arith, digits, digits2, len, len2) in
+    grind (arith, nat_tests)

@@ -5,7 +5,9 @@ pub mod Placed
 pub mod Taken
 pub mod CleanTexts
 pub mod Lengths
+pub mod LeaderLines
 pub mod Feeding
+pub mod Capturing
 pub mod OneMeaning
 pub mod Answering
 pub mod Handing
