@@ -1,5 +1,5 @@
 -- Whose the live row of a name is.
-use Rattle.std.proofs.Common.{◌≡◌, ◌⊎◌, inl, inr, ℕ, Bool, true, false, not, ◌&&◌, ◌||◌, cond, List, [], ◌∷◌, Option, Some, option_map, refl, sym, ap, ◌∙◌}
+use Rattle.std.proofs.Common.{◌≡◌, ◌⊎◌, inl, inr, ℕ, Bool, true, false, not, ◌&&◌, ◌||◌, cond, List, [], ◌∷◌, Option, Some, None, option_map, refl, sym, ap, ◌∙◌}
 use Rattle.std.specs.Prelude.{find}
 use Rattle.std.proofs.lemmas.Bool.{and_parts, and_from, or_left, or_right, eqb-true, eq-eqb, not-true}
 use Rattle.be_base.specs.Text.{Text}
@@ -8,21 +8,33 @@ use Rattle.be_model.specs.declared.changes.Row.{Row}
 use Rattle.be_change.specs.History.{Entry, ByIds, live, has_name, is_of, is_live_name, is_live_name_of, names_of, IsWellFormed}
 use Rattle.be_change.specs.LiveRows.{is_among_texts, all_differ}
 use Rattle.be_change.proofs.Names.{live_differ}
+use Rattle.be_follow.specs.Placing.{owner_of}
 
--- the first row of a name
-abbrev pub row_named : Text → ByIds → Option Row
-row_named name l = option_map (λ (r : ℕ × Row). r.1) (find (has_name name) l)
+-- the first row of a name is its owner's
+pub owner_by : (o : Option (ℕ × Row)) (row : Row) → option_map (λ (r : ℕ × Row). r.1) o ≡ Some row → option_map (λ (r : ℕ × Row). r.1.session.0) o ≡ Some row.session.0
+owner_by None row e = absurd cc
+owner_by (Some r) row e = let same : r.1 ≡ row = cc in ap (λ (x : Row). Some x.session.0) same
+
+-- and a name that has none is free
+pub free_name : (name : Text) (l : ByIds) → owner_of name l ≡ None → is_live_name name l ≡ false
+free_name name [] e = refl
+free_name name (r ∷ l) e = step (has_name name r) refl e (free_name name l)
+  where
+    step : (b : Bool) → has_name name r ≡ b → option_map (λ (x : ℕ × Row). x.1.session.0) (cond b (Some r) (find (has_name name) l)) ≡ None → (owner_of name l ≡ None → is_live_name name l ≡ false)
+        → (b || is_live_name name l) ≡ false
+    step true h e rest = absurd cc
+    step false h e rest = rest e
 
 -- where it is a session's, the session has a live row of the name
-pub first_owned : (k : ℕ) (name : Text) (l : ByIds) (row : Row) → row.session.0 ≡ k → row_named name l ≡ Some row → is_live_name_of k name l ≡ true
-first_owned k name [] row of e = absurd cc
-first_owned k name (r ∷ l) row of e = step (has_name name r) refl (first_owned k name l row of) e
+pub first_owned : (k : ℕ) (name : Text) (l : ByIds) → owner_of name l ≡ Some k → is_live_name_of k name l ≡ true
+first_owned k name [] e = absurd cc
+first_owned k name (r ∷ l) e = step (has_name name r) refl (first_owned k name l) e
   where
-    step : (b : Bool) → has_name name r ≡ b → (row_named name l ≡ Some row → is_live_name_of k name l ≡ true) → option_map (λ (x : ℕ × Row). x.1) (cond b (Some r) (find (has_name name) l)) ≡ Some row
+    step : (b : Bool) → has_name name r ≡ b → (owner_of name l ≡ Some k → is_live_name_of k name l ≡ true) → option_map (λ (x : ℕ × Row). x.1.session.0) (cond b (Some r) (find (has_name name) l)) ≡ Some k
         → is_live_name_of k name (r ∷ l) ≡ true
     step true h rest e =
-        let same : r.1 ≡ row = cc in
-        or_left (is_of k r && has_name name r) (is_live_name_of k name l) (and_from (is_of k r) (has_name name r) (eq-eqb r.1.session.0 k (ap (λ (x : Row). x.session.0) same ∙ of)) h)
+        let same : r.1.session.0 ≡ k = cc in
+        or_left (is_of k r && has_name name r) (is_live_name_of k name l) (and_from (is_of k r) (has_name name r) (eq-eqb r.1.session.0 k same) h)
     step false h rest e = or_right (is_of k r && has_name name r) (is_live_name_of k name l) (rest e)
 
 -- a live name of a session is live
@@ -39,10 +51,10 @@ names_live : (name : Text) (l : ByIds) → is_among_texts name (names_of l) ≡ 
 names_live name [] = refl
 names_live name (r ∷ l) = ap (λ b. has_name name r || b) (names_live name l)
 
-first_owner : (k : ℕ) (name : Text) (l : ByIds) (row : Row) → all_differ (names_of l) ≡ true → row_named name l ≡ Some row → is_live_name_of k name l ≡ true → row.session.0 ≡ k
-first_owner k name [] row d e t = absurd cc
-first_owner k name (r ∷ l) row d e t =
-    by_first (has_name name r) refl e t (λ x. first_owner k name l row (and_parts (not (is_among_texts r.1.name (names_of l))) (all_differ (names_of l)) d).1 x)
+first_owner : (k j : ℕ) (name : Text) (l : ByIds) → all_differ (names_of l) ≡ true → owner_of name l ≡ Some j → is_live_name_of k name l ≡ true → j ≡ k
+first_owner k j name [] d e t = absurd cc
+first_owner k j name (r ∷ l) d e t =
+    by_first (has_name name r) refl e t (λ x. first_owner k j name l (and_parts (not (is_among_texts r.1.name (names_of l))) (all_differ (names_of l)) d).1 x)
   where
     none_later : has_name name r ≡ true → is_live_name_of k name l ≡ true → ⊥
     none_later h later =
@@ -51,17 +63,17 @@ first_owner k name (r ∷ l) row d e t =
         let there : is_among_texts r.1.name (names_of l) ≡ true = ap (λ (n : Text). is_among_texts n (names_of l)) same ∙ names_live name l ∙ owned_is_live k name l later in
         absurd cc
 
-    here : has_name name r ≡ true → r.1 ≡ row → (is_of k r ≡ true) ⊎ (is_live_name_of k name l ≡ true) → row.session.0 ≡ k
-    here h same (inl of) = ap (λ (x : Row). x.session.0) (sym same) ∙ eqb-true r.1.session.0 k of
+    here : has_name name r ≡ true → r.1.session.0 ≡ j → (is_of k r ≡ true) ⊎ (is_live_name_of k name l ≡ true) → j ≡ k
+    here h same (inl of) = sym same ∙ eqb-true r.1.session.0 k of
     here h same (inr later) = absurd (none_later h later)
 
     split : (b c : Bool) → c ≡ true → ((b && c) || is_live_name_of k name l) ≡ true → (b ≡ true) ⊎ (is_live_name_of k name l ≡ true)
     split true c h t = inl refl
     split false c h t = inr t
 
-    by_first : (b : Bool) → has_name name r ≡ b → option_map (λ (x : ℕ × Row). x.1) (cond b (Some r) (find (has_name name) l)) ≡ Some row
-        → ((is_of k r && has_name name r) || is_live_name_of k name l) ≡ true → (row_named name l ≡ Some row → is_live_name_of k name l ≡ true → row.session.0 ≡ k) → row.session.0 ≡ k
-    by_first true h e t rest = let same : r.1 ≡ row = cc in here h same (split (is_of k r) (has_name name r) h t)
+    by_first : (b : Bool) → has_name name r ≡ b → option_map (λ (x : ℕ × Row). x.1.session.0) (cond b (Some r) (find (has_name name) l)) ≡ Some j
+        → ((is_of k r && has_name name r) || is_live_name_of k name l) ≡ true → (owner_of name l ≡ Some j → is_live_name_of k name l ≡ true → j ≡ k) → j ≡ k
+    by_first true h e t rest = let same : r.1.session.0 ≡ j = cc in here h same (split (is_of k r) (has_name name r) h t)
     by_first false h e t rest = rest e (later (is_of k r) (has_name name r) h t)
       where
         later : (b c : Bool) → c ≡ false → ((b && c) || is_live_name_of k name l) ≡ true → is_live_name_of k name l ≡ true
@@ -70,6 +82,6 @@ first_owner k name (r ∷ l) row d e t =
         later true false f t = t
         later false false f t = t
 
--- where a session has a live row of the name, the first row of the name is its row
-pub owner : (k : ℕ) (name : Text) (h : List Entry) (row : Row) → IsWellFormed h → row_named name (live h) ≡ Some row → is_live_name_of k name (live h) ≡ true → row.session.0 ≡ k
-owner k name h row formed e t = first_owner k name (live h) row (live_differ h formed) e t
+-- where a session has a live row of the name, the session is its owner
+pub owner : (k j : ℕ) (name : Text) (h : List Entry) → IsWellFormed h → owner_of name (live h) ≡ Some j → is_live_name_of k name (live h) ≡ true → j ≡ k
+owner k j name h formed e t = first_owner k j name (live h) (live_differ h formed) e t

@@ -8,9 +8,10 @@ use Rattle.be_base.specs.Tokens.{tokens}
 use Rattle.be_io.specs.Lines.{has_lf, closed_lines, open_line}
 use Rattle.be_io.specs.Reading.{IsFirstLf}
 use Rattle.be_model.specs.Schemas.{Attributes}
+use Rattle.be_change.specs.History.{Entry}
 use Rattle.be_follow.specs.declared.faults.FeedKind.{FeedKind}
 use Rattle.be_follow.specs.Feeds.{PlainSaid, faulty, said, said_of, Fed, none_fed, TakesLineAt, TakesLine, TakesLines, Means, Judges}
-use Rattle.be_follow.specs.Followers.{FollowerState, kept_bytes, Follows}
+use Rattle.be_follow.specs.Followers.{FollowerState, IntakeState, kept_bytes, Follows}
 use Rattle.be_follow.proofs.LinesOn.{closed_lines-on, part_closes, part_opens, lf_closes, lf_opens}
 
 -- lines, and then more of them
@@ -113,9 +114,11 @@ taken_then bytes piece taken count =
     ∙ ap (λ (x : List ℕ). bytes ++ x) (sym (take-add taken count piece))
 
 -- behind a faulty line nothing changed, from piece to piece
-pub stays_on : (a b c : FollowerState) → IfSome a.fed.fault (λ kind. b ≡ a) → IfSome b.fed.fault (λ kind. c ≡ b) → IfSome a.fed.fault (λ kind. c ≡ a)
-stays_on a b c p q = by_fault a.fed.fault refl p
+pub stays_on : (a b c : IntakeState) (g h k : List Entry) → IfSome a.fault (λ kind. (b ≡ a) × (h ≡ g)) → IfSome b.fault (λ kind. (c ≡ b) × (k ≡ h)) → IfSome a.fault (λ kind. (c ≡ a) × (k ≡ g))
+stays_on a b c g h k p q = by_fault a.fault refl p
   where
-    by_fault : (o : Option FeedKind) → a.fed.fault ≡ o → IfSome o (λ kind. b ≡ a) → IfSome o (λ kind. c ≡ a)
+    by_fault : (o : Option FeedKind) → a.fault ≡ o → IfSome o (λ kind. (b ≡ a) × (h ≡ g)) → IfSome o (λ kind. (c ≡ a) × (k ≡ g))
     by_fault None is p = tt
-    by_fault (Some kind) is p = subst (λ (o : Option FeedKind). IfSome o (λ kind. c ≡ b)) (ap (λ (x : FollowerState). x.fed.fault) p ∙ is) q ∙ p
+    by_fault (Some kind) is p =
+        let later = subst (λ (o : Option FeedKind). IfSome o (λ kind. (c ≡ b) × (k ≡ h))) (ap (λ (x : IntakeState). x.fault) p.0 ∙ is) q in
+        (later.0 ∙ p.0, later.1 ∙ p.1)

@@ -1,17 +1,23 @@
 -- What a line says as a value, and a change at a place of a list.
-use Rattle.std.specs.Prelude.{◌≡◌, ℕ, Bool, true, List, Option, Some, None, Result, Ok, Err, IfSome}
+use Rattle.std.specs.Prelude.{◌≡◌, ℕ, Bool, true, List, Option, Some, None, option_map, find, Result, Ok, Err, IfSome}
 use Rattle.std.specs.List.{list_all}
 use Rattle.be_base.specs.declared.names.NoMemory.{NoMemory}
+use Rattle.be_model.specs.ByIds.{ByIds}
 use Rattle.be_model.specs.Entries.{Entry, entry_of}
 use Rattle.be_model.specs.Lies.{entry_lies}
 use Rattle.be_model.specs.Schemas.{Attributes}
-use Rattle.be_change.specs.History.{is_opening, IsWellFormed}
+use Rattle.be_model.specs.declared.changes.Row.{Row}
+use Rattle.be_change.specs.History.{Text, has_name, is_opening, IsWellFormed}
 use Rattle.be_follow.specs.Stands.{AreStands}
 use Rattle.be_follow.specs.declared.stands.Stands.{Stands}
 use Rattle.be_follow.specs.declared.faults.FeedKind.{FeedKind}
 use Rattle.be_follow.specs.declared.saying.Said.{Said}
 use Rattle.be_follow.specs.declared.saying.Said.TheVariants.{Nothing, At, Faulty}
 use Rattle.be_follow.specs.Feeds.{PlainSaid, nothing, at, faulty, said, Judges}
+
+-- whose the first row of this name is
+abbrev pub owner_of : Text → ByIds → Option ℕ
+owner_of name m = option_map (λ (r : ℕ × Row). r.1.session.0) (find (has_name name) m)
 
 abbrev pub plain_said : Said → PlainSaid
 plain_said Nothing = nothing

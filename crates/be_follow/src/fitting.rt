@@ -4,28 +4,21 @@ ghost use Rattle.std.specs.Prelude.{◌≡◌, ◌↔◌, ◌≤◌, ◌&&◌, I
 ghost use Rattle.std.specs.List.{list_all};
 ghost use Rattle.be_base.specs.declared.limits.TheConstants.{LOG_CHANGES};
 ghost use Rattle.be_change.specs.Entries.{entry_of};
-ghost use Rattle.be_change.specs.History.{Entry, session_of, serial_of, is_sub, is_opening, Opens, IsAllowed, live, is_live_name, is_live_name_of, MayFollow, IsWellFormed};
-ghost use Rattle.be_follow.specs.Placing.{IsFollowed};
-ghost use Rattle.be_follow.specs.Stands.{AreStands, IsNext, stand_by};
+ghost use Rattle.be_change.specs.History.{Entry, session_of, serial_of, is_sub, is_opening, Opens, IsAllowed, live, is_live_name, is_live_name_of, stand, MayFollow};
+ghost use Rattle.be_follow.specs.Stands.{IsNext, stand_by};
 
-use crate::stands::Stands;
+use crate::feed_list::FeedList;
 use be_base::{COUNT_END, Name, SessionNo};
 use be_change::{ChangeLog, is_leave_of, session_of};
-use be_copy::Copy2;
-use be_index::Index;
 use be_model::{Change, Row};
 
-/// Whether the list stays well formed where the change is put last. The flag says whether the list is an opening so far.
-pub fn may_follow<I: Index>(
-    copy: &Copy2<I>,
-    opening: bool,
-    stands: &Stands,
-    change: &Change,
-) -> bool
-    requires { IsFollowed copy.now.list opening stands.now }
-    ensures { IsTrue result ↔ MayFollow copy.now.list (entry_of change.now) }
+/// Whether the list stays well formed where the change is put last.
+pub fn may_follow<F: FeedList>(list: &F, change: &Change) -> bool
+    ensures { IsTrue result ↔ MayFollow (F.list list.now) (entry_of change.now) }
 {
-    may_open(opening, change) && is_due(copy.log(), stands, change) && is_allowed(copy, change)
+    let log = list.log();
+    let number = list.stand(session_of(change));
+    may_open(list.is_opening(), change) && is_due(log, number, change) && is_allowed(list, change)
 }
 
 /// Where the change's session stands after it.
@@ -75,13 +68,12 @@ fn serial_of(change: &Change) -> u64
 }
 
 // Whether its session hasn't left, and this is its next serial.
-fn is_due(log: &ChangeLog, stands: &Stands, change: &Change) -> bool
-    requires { AreStands stands.now log.now.list }
+fn is_due(log: &ChangeLog, number: u64, change: &Change) -> bool
+    requires { number ≡ stand (session_of (entry_of change.now)) log.now.list }
     ensures { IsTrue result ↔ IsNext (session_of (entry_of change.now)) log.now.list (serial_of (entry_of change.now)) }
 {
     // How long the list may be comes to light at its length.
     let _ = log.len();
-    let number = stands.of(session_of(change));
     if number == COUNT_END {
         return false;
     }
@@ -89,34 +81,35 @@ fn is_due(log: &ChangeLog, stands: &Stands, change: &Change) -> bool
 }
 
 // What its kind asks of the list before it.
-fn is_allowed<I: Index>(copy: &Copy2<I>, change: &Change) -> bool
-    requires { IsWellFormed copy.now.list }
-    ensures { IsTrue result ↔ IsAllowed copy.now.list (entry_of change.now) }
+fn is_allowed<F: FeedList>(list: &F, change: &Change) -> bool
+    ensures { IsTrue result ↔ IsAllowed (F.list list.now) (entry_of change.now) }
 {
     match change {
-        Change::Sub { session, row, .. } => may_add(copy, *session, row),
-        Change::Unsub { session, name, .. } => may_remove(copy, *session, name),
+        Change::Sub { session, row, .. } => may_add(list, *session, row),
+        Change::Unsub { session, name, .. } => may_remove(list, *session, name),
         Change::Bye { .. } => true,
     }
 }
 
 // The row's name is free, and the row says its place and its session.
-fn may_add<I: Index>(copy: &Copy2<I>, session: SessionNo, row: &Row) -> bool
-    ensures { IsTrue result ↔ ((is_live_name row.now.name (live copy.now.list) ≡ false) × (row.now.id.0 ≡ length copy.now.list) × (row.now.session.0 ≡ session.0)) }
+fn may_add<F: FeedList>(list: &F, session: SessionNo, row: &Row) -> bool
+    ensures { IsTrue result ↔ ((is_live_name row.now.name (live (F.list list.now)) ≡ false) × (row.now.id.0 ≡ length (F.list list.now)) × (row.now.session.0 ≡ session.0)) }
 {
-    match copy.named(&row.name) {
+    let len = list.log().len();
+    match list.owner(&row.name) {
         Some(_) => false,
-        None => row.id.0 == copy.log().len() && row.session.0 == session.0,
+        None => row.id.0 == len && row.session.0 == session.0,
     }
 }
 
 // The session has a live row of the name.
-fn may_remove<I: Index>(copy: &Copy2<I>, session: SessionNo, name: &Name) -> bool
-    requires { IsWellFormed copy.now.list }
-    ensures { IsTrue result ↔ (is_live_name_of session.0 name.now (live copy.now.list) ≡ true) }
+fn may_remove<F: FeedList>(list: &F, session: SessionNo, name: &Name) -> bool
+    ensures { IsTrue result ↔ (is_live_name_of session.0 name.now (live (F.list list.now)) ≡ true) }
 {
-    match copy.named(name) {
-        Some(row) => row.session.0 == session.0,
+    // That the list is well formed comes to light at its changes.
+    let _ = list.log();
+    match list.owner(name) {
+        Some(owner) => owner.0 == session.0,
         None => false,
     }
 }

@@ -1,19 +1,15 @@
 //! A list that follows a leader's, with an index of what is live in it.
 
-ghost use Rattle.std.specs.Prelude.{◌≡◌, ◌<◌, ◌++◌, ◌∷◌, [], length, true, IfSome, None, Some, IfOk, OnOk, OnErr, slice_get};
-ghost use Rattle.std.specs.List.{list_all};
+ghost use Rattle.std.specs.Prelude.{◌≡◌, [], length, true, OnOk, OnErr};
 ghost use Rattle.be_model.specs.ByIds.{rows_of};
-ghost use Rattle.be_model.specs.Lies.{entry_lies, event_lies};
-ghost use Rattle.be_change.specs.Entries.{entry_of};
-ghost use Rattle.be_change.specs.History.{hit_rows, is_opening, IsWellFormed, MayFollow};
-ghost use Rattle.be_follow.specs.Feeds.{Places};
-ghost use Rattle.be_follow.specs.Placing.{judged};
+ghost use Rattle.be_model.specs.Lies.{event_lies};
+ghost use Rattle.be_change.specs.History.{hit_rows, IsWellFormed};
 
-use crate::faults::FeedKind;
-use crate::fitting::{may_follow, stand_by, stays_open};
+use crate::feed_list::FeedList;
+use crate::fitting::{stand_by, stays_open};
 use crate::stands::Stands;
-use be_base::NoMemory;
-use be_change::session_of;
+use be_base::{Name, NoMemory, SessionNo};
+use be_change::{ChangeLog, session_of};
 use be_copy::{Copy2, Edit};
 use be_index::Index;
 use be_model::{Change, Event, Found};
@@ -74,61 +70,35 @@ impl<I: Index> Followed<I> {
         self.copy.find(event, found)?;
         Ok(())
     }
+}
 
-    /// Takes the change at this place of the leader's list, or says what is wrong with it.
-    pub fn place(
-        &mut self,
-        alloc: Global,
-        place: u64,
-        change: Change,
-    ) -> Result<Option<FeedKind>, NoMemory>
-        requires { entry_lies (I.schema self.old.index) (entry_of change) ≡ true }
-        ensures places { IfOk result (λ fault. Places self.old.list place (entry_of change) (judged self.new.list fault)) }
-        ensures kept { IfOk result (λ fault. IfSome fault (λ kind. self.new.list ≡ self.old.list)) }
-        ensures refused { OnErr result (self.new.list ≡ self.old.list) }
-        ensures schema { I.schema self.new.index ≡ I.schema self.old.index }
-    {
-        let len = self.len();
-        if place > len {
-            return Ok(Some(FeedKind::Gap));
-        }
-        if place < len {
-            return Ok(self.again(place, &change));
-        }
-        if !may_follow(&self.copy, self.opening, &self.stands, &change) {
-            return Ok(Some(FeedKind::Unfit));
-        }
-        self.append(alloc, change)?;
-        Ok(None)
+impl<I: Index> FeedList for Followed<I> {
+    ghost list = { λ f. f.list };
+
+    ghost schema = { λ f. I.schema f.index };
+
+    fn log(&self) -> &ChangeLog {
+        self.copy.log()
     }
 
-    // Compares the change with the one that stands at its place.
-    fn again(&self, place: u64, change: &Change) -> Option<FeedKind>
-        requires { place < length self.now.list }
-        ensures same { result ≡ None → slice_get self.now.list place ≡ Some (entry_of change.now) }
-        ensures other { IfSome result (λ kind. (kind ≡ FeedKind.Fork) × (slice_get self.now.list place ≡ Some (entry_of change.now) → ⊥)) }
-    {
-        if self.copy.log().at(place).same_as(change) {
-            None
-        } else {
-            Some(FeedKind::Fork)
-        }
+    fn is_opening(&self) -> bool {
+        self.opening
     }
 
-    // Puts a change last, or changes nothing where memory is wanting.
-    fn append(&mut self, alloc: Global, change: Change) -> Result<(), NoMemory>
-        requires follows { MayFollow self.old.list (entry_of change) }
-        requires lies { entry_lies (I.schema self.old.index) (entry_of change) ≡ true }
-        ensures appended { OnOk result (self.new.list ≡ self.old.list ++ entry_of change ∷ []) }
-        ensures refused { OnErr result (self.new.list ≡ self.old.list) }
-        ensures schema { I.schema self.new.index ≡ I.schema self.old.index }
-    {
+    fn stand(&self, session: SessionNo) -> u64 {
+        self.stands.of(session)
+    }
+
+    fn owner(&self, name: &Name) -> Option<SessionNo> {
+        Some(self.copy.named(name)?.session)
+    }
+
+    fn append(&mut self, change: Arc<Change>) -> Result<(), NoMemory> {
         // How long the list may be comes to light at its length.
         let _ = self.copy.log().len();
         let session = session_of(&change);
         let stand = stand_by(&change);
         let opening = stays_open(self.opening, &change);
-        let change = Arc::new(alloc, change).map_err(|_| NoMemory)?;
         self.stands.make_room(session)?;
         self.copy.absorb(&Edit::Change(change))?;
         self.stands.set(session, stand);
