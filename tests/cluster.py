@@ -173,46 +173,66 @@ def tail(session):
         lines += some
 
 
-def killed_in_turn(c):
-    """Each part, with changes meanwhile and after."""
-    relay = Relay(c.port)
-    teller, putter = c.start_telling(relay.port)
-    getter = c.start_getting(0)
+def all_parts_run(c):
+    c.relay = Relay(c.port)
+    c.teller, c.putter = c.start_telling(c.relay.port)
+    c.getter = c.start_getting(0)
     c.change(1500)
-    c.all_arrive("the first changes arrive")
-    c.kill(putter)
+    c.all_arrive("the first changes")
+
+
+def outlives_put(c):
+    c.kill(c.putter)
     c.change(100)
-    wait_until("tell.py ends where nobody reads", lambda: teller.poll() == 1)
-    teller, putter = c.start_telling(relay.port)
-    c.all_arrive("put.py goes on")
-    c.kill(teller)
+    wait_until("tell.py ends where nobody reads", lambda: c.teller.poll() == 1)
+    c.teller, c.putter = c.start_telling(c.relay.port)
+    c.all_arrive("the changes once put.py is started again")
+
+
+def outlives_tell(c):
+    c.kill(c.teller)
     c.change(100)
-    wait_until("put.py ends with its input", lambda: putter.poll() == 0)
-    teller, putter = c.start_telling(relay.port)
-    c.kill(getter)
-    wait_until("tell.py goes on", lambda: c.stored() == c.length())
+    wait_until("put.py ends with its input", lambda: c.putter.poll() == 0)
+    c.teller, c.putter = c.start_telling(c.relay.port)
+    c.all_arrive("the changes once tell.py is started again")
+
+
+def outlives_get(c):
+    """It goes on behind the whole lines of its file."""
+    c.kill(c.getter)
+    c.change(100)
+    wait_until("the stream has the changes", lambda: c.stored() == c.length())
     feed = c.room / "feed"
     whole = feed.read_bytes()
     feed.write_bytes(whole[: whole.rfind(b"\n") + 1])
-    getter = c.start_getting(c.arrived())
-    c.all_arrive("get.py goes on")
+    c.getter = c.start_getting(c.arrived())
+    c.all_arrive("the changes once get.py is started again")
+
+
+def outlives_redis(c):
     c.kill(c.server)
     c.change(100)
+    time.sleep(0.2)
     c.start_redis()
-    c.all_arrive("put.py and get.py outlive Redis")
-    relay.stop()
+    c.all_arrive("the changes once Redis is started again")
+
+
+def outlives_connection(c):
+    c.relay.stop()
     c.change(100)
     time.sleep(0.2)
-    relay.start()
-    c.all_arrive("tell.py outlives its connection")
+    c.relay.start()
+    c.all_arrive("the changes once the leader can be reached again")
+
+
+def has_two_tellers(c):
     second = c.start_telling(c.port)
     c.change(300)
-    c.all_arrive("two tellers at once")
+    c.all_arrive("the changes of two tellers")
     time.sleep(0.3)
-    running = [process.poll() for process in (teller, putter, getter, *second)]
+    running = [process.poll() for process in (c.teller, c.putter, c.getter, *second)]
     if running != [None] * 5:
         raise Failed(f"a part has ended: {running}")
-    return relay, teller
 
 
 def is_the_leaders(c):
@@ -231,18 +251,18 @@ def is_followed(c):
         raise Failed(f"the follower ended with {given.returncode}: {given.stderr.decode()}")
 
 
-def is_another_list(c, relay, teller):
+def is_another_list(c):
     """A leader that was started anew has another list, which is told apart on both sides."""
     c.kill(c.leader)
     c.start_leader()
     c.writer.subscribe("other", "all")
-    relay.target = c.port
-    wait_until("tell.py sees another list", lambda: teller.poll() == 3)
+    c.relay.target = c.port
+    wait_until("tell.py sees another list", lambda: c.teller.poll() == 3)
     _, putter = c.start_telling(c.port)
     wait_until("put.py sees another list", lambda: putter.poll() == 3)
 
 
-def is_away():
+def is_away(_):
     """Nothing is there at the start."""
     port = str(free_port())
     stream = ["feed", "--redis", f"redis://127.0.0.1:{port}"]
@@ -252,18 +272,19 @@ def is_away():
             raise Failed(f"{name} ended with {ended.returncode}: {ended.stderr.decode()}")
 
 
+CASES = [all_parts_run, outlives_put, outlives_tell, outlives_get, outlives_redis, outlives_connection, has_two_tellers, is_the_leaders, is_followed, is_another_list, is_away]
+
+
 def main(program, room):
     passed, cluster = 0, Cluster(program, room)
     try:
         cluster.start_redis()
         cluster.start_leader()
-        relay, teller = killed_in_turn(cluster)
-        passed += 1
-        for case in (is_the_leaders, is_followed, lambda c: is_another_list(c, relay, teller), lambda c: is_away()):
+        for case in CASES:
             case(cluster)
             passed += 1
     except (Failed, OSError) as fault:
-        print(f"FAILED: the example of a cluster: {fault}")
+        print(f"FAILED: the example of a cluster: {CASES[passed].__name__}: {fault}")
         with contextlib.suppress(OSError):
             print((pathlib.Path(room) / "said").read_text(encoding="utf-8")[-2000:])
         print(f"{passed} passed, 1 failed")
