@@ -1,0 +1,299 @@
+"""Drives the example of a cluster: `serve`, tell.py, put.py, a Redis of its own, get.py and `follow`, each of which is killed in turn
+and started again. Then the feed has the leader's list and nothing else, and `follow` answers from it as the leader does. Its words:
+the program, and a folder to work in. Its last line is `N passed, N failed`."""
+import contextlib
+import os
+import pathlib
+import select
+import signal
+import socket
+import subprocess
+import sys
+import threading
+import time
+
+import redis
+
+TOP = pathlib.Path(__file__).resolve().parent.parent
+sys.dont_write_bytecode = True
+sys.path.insert(0, str(TOP / "examples" / "client"))
+from justmeadow import Connection  # noqa: E402
+
+CLUSTER, SCHEMA = TOP / "examples" / "cluster", TOP / "examples" / "follower" / "schema.txt"
+PATIENCE = 20  # seconds until what is waited for counts as a failure
+
+
+class Failed(Exception):
+    pass
+
+
+def free_port():
+    with socket.socket() as probe:
+        probe.bind(("127.0.0.1", 0))
+        return probe.getsockname()[1]
+
+
+def wait_until(what, holds):
+    until = time.monotonic() + PATIENCE
+    while not holds():
+        if time.monotonic() > until:
+            raise Failed(f"not within {PATIENCE} seconds: {what}")
+        time.sleep(0.01)
+
+
+def connected(port):
+    """A session of a server that has just been started."""
+    until = time.monotonic() + PATIENCE
+    while True:
+        try:
+            return Connection(port)
+        except ConnectionRefusedError:
+            if time.monotonic() > until:
+                raise
+            time.sleep(0.01)
+
+
+class Relay:
+    """Stands between tell.py and the leader, so that their connections can be broken."""
+
+    def __init__(self, port):
+        self.port, self.target, self.open = free_port(), port, []
+        self.start()
+
+    def start(self):
+        self.door = socket.create_server(("127.0.0.1", self.port))
+        threading.Thread(target=self.serve, args=(self.door,), daemon=True).start()
+
+    def serve(self, door):
+        with contextlib.suppress(OSError):
+            while True:
+                pair = [door.accept()[0], socket.create_connection(("127.0.0.1", self.target))]
+                self.open += pair
+                threading.Thread(target=self.carry, args=(pair,), daemon=True).start()
+
+    def carry(self, pair):
+        with contextlib.suppress(OSError, ValueError):
+            while True:
+                for end in select.select(pair, [], [])[0]:
+                    piece = end.recv(65536)
+                    if not piece:
+                        return [each.close() for each in pair]
+                    pair[pair[0] is end].sendall(piece)
+
+    def stop(self):
+        for each in [self.door, *self.open]:
+            with contextlib.suppress(OSError):
+                each.shutdown(socket.SHUT_RDWR)
+            each.close()
+        self.open = []
+
+
+class Cluster:
+    def __init__(self, program, room):
+        self.program, self.room, self.started = program, pathlib.Path(room), []
+        self.count = 0
+        self.redis_port = free_port()
+        self.url = f"redis://127.0.0.1:{self.redis_port}"
+        self.store = redis.Redis(port=self.redis_port)
+
+    def start(self, *words, **pipes):
+        process = subprocess.Popen([str(word) for word in words], **pipes)
+        self.started.append(process)
+        return process
+
+    def start_redis(self):
+        self.server = self.start(
+            "redis-server", "--port", self.redis_port, "--bind", "127.0.0.1", "--dir", self.room, "--save", "", "--appendonly", "yes", "--appendfsync", "always",
+            stdout=subprocess.DEVNULL,
+        )  # fmt: skip
+
+    def start_leader(self):
+        self.port = free_port()
+        self.leader = self.start(self.program, "serve", SCHEMA, self.port, "6", "1000", stdin=subprocess.DEVNULL, stdout=subprocess.DEVNULL)
+        self.writer = connected(self.port)
+
+    def start_telling(self, port):
+        """tell.py and put.py, with a pipe between them."""
+        read, write = os.pipe()
+        with open(self.room / "said", "a", encoding="utf-8") as said:
+            teller = self.start(sys.executable, CLUSTER / "tell.py", port, stdout=write, stderr=said)
+            putter = self.start(sys.executable, CLUSTER / "put.py", "feed", "--redis", self.url, stdin=read, stderr=said)
+        os.close(read)
+        os.close(write)
+        return teller, putter
+
+    def start_getting(self, place):
+        with open(self.room / "feed", "ab") as feed, open(self.room / "said", "a", encoding="utf-8") as said:
+            return self.start(sys.executable, CLUSTER / "get.py", "feed", "--redis", self.url, "--place", place, stdout=feed, stderr=said)
+
+    def kill(self, *processes):
+        for process in processes:
+            process.send_signal(signal.SIGKILL)
+            process.wait()
+
+    def change(self, count):
+        """Subscriptions, of which every seventh is removed again."""
+        for number in range(self.count, self.count + count):
+            self.writer.subscribe(f"s{number}", f"price between {number % 900} and {number % 900 + 50} and side != {['buy', 'sell', 'hold'][number % 3]}")
+            if number % 7 == 0:
+                self.writer.unsubscribe(f"s{number}")
+        self.count += count
+
+    def stored(self):
+        """How many changes the stream has."""
+        try:
+            return self.store.xlen("feed")
+        except redis.ConnectionError:
+            return -1
+
+    def arrived(self):
+        return (self.room / "feed").read_bytes().count(b"\n")
+
+    def length(self):
+        """How many changes the leader has, with the leaves of tellers that are gone."""
+        return int(self.writer.ask("TAIL 0 0").split(" ")[1])
+
+    def all_arrive(self, what):
+        wait_until(what, lambda: self.arrived() == self.length())
+
+    def stop(self):
+        for process in self.started:
+            if process.poll() is None:
+                process.kill()
+                process.wait()
+
+
+def tail(session):
+    """All lines of changes that the leader has."""
+    lines = []
+    while True:
+        *some, _ = session.ask(f"TAIL {len(lines)} 1000").split("\n")
+        if not some:
+            return "".join(line + "\n" for line in lines)
+        lines += some
+
+
+def all_parts_run(c):
+    c.relay = Relay(c.port)
+    c.teller, c.putter = c.start_telling(c.relay.port)
+    c.getter = c.start_getting(0)
+    c.change(1500)
+    c.all_arrive("the first changes")
+
+
+def outlives_put(c):
+    c.kill(c.putter)
+    c.change(100)
+    wait_until("tell.py ends where nobody reads", lambda: c.teller.poll() == 1)
+    c.teller, c.putter = c.start_telling(c.relay.port)
+    c.all_arrive("the changes once put.py is started again")
+
+
+def outlives_tell(c):
+    c.kill(c.teller)
+    c.change(100)
+    wait_until("put.py ends with its input", lambda: c.putter.poll() == 0)
+    c.teller, c.putter = c.start_telling(c.relay.port)
+    c.all_arrive("the changes once tell.py is started again")
+
+
+def outlives_get(c):
+    """It goes on behind the whole lines of its file."""
+    c.kill(c.getter)
+    c.change(100)
+    wait_until("the stream has the changes", lambda: c.stored() == c.length())
+    feed = c.room / "feed"
+    whole = feed.read_bytes()
+    feed.write_bytes(whole[: whole.rfind(b"\n") + 1])
+    c.getter = c.start_getting(c.arrived())
+    c.all_arrive("the changes once get.py is started again")
+
+
+def outlives_redis(c):
+    c.kill(c.server)
+    c.change(100)
+    time.sleep(0.2)
+    c.start_redis()
+    c.all_arrive("the changes once Redis is started again")
+
+
+def outlives_connection(c):
+    c.relay.stop()
+    c.change(100)
+    time.sleep(0.2)
+    c.relay.start()
+    c.all_arrive("the changes once the leader can be reached again")
+
+
+def has_two_tellers(c):
+    second = c.start_telling(c.port)
+    c.change(300)
+    c.all_arrive("the changes of two tellers")
+    time.sleep(0.3)
+    running = [process.poll() for process in (c.teller, c.putter, c.getter, *second)]
+    if running != [None] * 5:
+        raise Failed(f"a part has ended: {running}")
+
+
+def is_the_leaders(c):
+    wait_until("the feed has the leader's lines", lambda: (c.room / "feed").read_text(encoding="ascii") == tail(c.writer))
+    once = subprocess.run([sys.executable, CLUSTER / "get.py", "feed", "--redis", c.url, "--once"], capture_output=True, check=False)
+    if once.returncode or once.stdout.decode() != tail(c.writer):
+        raise Failed(f"get.py --once ended with {once.returncode}: {once.stderr.decode()}")
+
+
+def is_followed(c):
+    events = [f"price={price} side={side}" for price in range(0, 1000, 97) for side in ("buy", "sell", "hold")] + ["-", "price={1,500} side={buy,sell}"]
+    wanted = [c.writer.ask(f"PUB {event}") for event in events]
+    asked = "".join(f"PUB {event}\n" for event in events) + "QUIT\n"
+    given = subprocess.run([c.program, "follow", SCHEMA, c.room / "feed"], input=asked.encode(), capture_output=True, check=False)
+    if given.returncode or given.stdout.decode().split("\n") != [*wanted, f"BYE {c.length()}", ""]:
+        raise Failed(f"the follower ended with {given.returncode}: {given.stderr.decode()}")
+
+
+def is_another_list(c):
+    """A leader that was started anew has another list, which is told apart on both sides."""
+    c.kill(c.leader)
+    c.start_leader()
+    c.writer.subscribe("other", "all")
+    c.relay.target = c.port
+    wait_until("tell.py sees another list", lambda: c.teller.poll() == 3)
+    _, putter = c.start_telling(c.port)
+    wait_until("put.py sees another list", lambda: putter.poll() == 3)
+
+
+def is_away(_):
+    """Nothing is there at the start."""
+    port = str(free_port())
+    stream = ["feed", "--redis", f"redis://127.0.0.1:{port}"]
+    for name, words in (("tell.py", [port]), ("put.py", stream), ("get.py", stream)):
+        ended = subprocess.run([sys.executable, CLUSTER / name, *words, "--patience", "0.2"], stdin=subprocess.DEVNULL, capture_output=True, check=False)
+        if ended.returncode != 1 or b": no " not in ended.stderr or ended.stdout:
+            raise Failed(f"{name} ended with {ended.returncode}: {ended.stderr.decode()}")
+
+
+CASES = [all_parts_run, outlives_put, outlives_tell, outlives_get, outlives_redis, outlives_connection, has_two_tellers, is_the_leaders, is_followed, is_another_list, is_away]
+
+
+def main(program, room):
+    passed, cluster = 0, Cluster(program, room)
+    try:
+        cluster.start_redis()
+        cluster.start_leader()
+        for case in CASES:
+            case(cluster)
+            passed += 1
+    except (Failed, OSError) as fault:
+        print(f"FAILED: the example of a cluster: {CASES[passed].__name__}: {fault}")
+        with contextlib.suppress(OSError):
+            print((pathlib.Path(room) / "said").read_text(encoding="utf-8")[-2000:])
+        print(f"{passed} passed, 1 failed")
+        return 1
+    finally:
+        cluster.stop()
+    print(f"{passed} passed, 0 failed")
+    return 0
+
+
+if __name__ == "__main__":
+    sys.exit(main(*sys.argv[1:]))
