@@ -15,6 +15,7 @@ mod Answering
 mod CoreSteps
 mod CoreRuns
 mod Openings
+mod Plans
 mod Tending
 pub mod Places
 pub mod Closing

@@ -1,8 +1,9 @@
 -- What a call of the maintainer makes of the desk, for each answer.
-use Rattle.std.specs.Prelude.{◌≡◌, ◌<◌, ◌≤◌, ◌⊎◌, [], ◌∷◌, ◌++◌, length, Option, Some, None}
+use Rattle.std.specs.Prelude.{◌≡◌, ℕ, ◌<◌, ◌≤◌, ◌⊎◌, List, [], ◌∷◌, ◌++◌, length, Option, Some, None}
 use Rattle.be_base.specs.Counts.{raised}
-use Rattle.be_change.specs.History.{live}
+use Rattle.be_change.specs.History.{Entry, live}
 use Rattle.be_model.specs.declared.paths.Step.{Step}
+use Rattle.be_published.specs.Copies.{Plans}
 use Rattle.be_published.specs.States.{one_shut, one_none, one_plan}
 use Rattle.be_desk.specs.Desks.{DeskState, freed, HasHeld, HasPending}
 use Rattle.be_desk.specs.declared.patience.TheConstants.{ROWS_RESHAPED, WORK_A_TEND}
@@ -29,11 +30,17 @@ IsMaintained d d' (Freed n) = HasHeld d × (d' ≡ freed d) × (n ≡ length d.l
 -- none was held, and this step was planned, put and published
 IsMaintained d d' (Stepped step) = (d.published ≡ d.list) × (d' ≡ freed (with_step step (planned step d)))
 -- none was held, and no step was found
-IsMaintained d d' Idle = (d.published ≡ d.list) × (d' ≡ record (freed d) { glass = one_none d.glass })
+IsMaintained d d' Idle = (d.published ≡ d.list) × (mark : ℕ) × (d' ≡ record (freed d) { glass = one_none mark d.glass })
 -- none was held, and the reader was refused an entry
 IsMaintained d d' Shut = (d.published ≡ d.list) × (d' ≡ record (freed d) { glass = one_shut d.glass })
 -- memory was wanting to the publishing of what was pending, to the plan, or to the step that it found
 IsMaintained d d' NoMemory = (d' ≡ d) ⊎ ((d.published ≡ d.list) × IsCutShort d d')
+
+-- the step that was made, or that there is none, came of a plan of a copy that the desk's reader entered
+abbrev pub IsByPlan : {X : Type 0} → (X → List Entry) → (X → Option Step) → (X → ℕ) → DeskState → DeskState → Maintained → Type 0
+IsByPlan list planned mark d d' (Stepped step) = Plans list planned mark d.glass d'.glass (Some step)
+IsByPlan list planned mark d d' Idle = Plans list planned mark d.glass d'.glass None
+IsByPlan list planned mark d d' answer = Unit {0}
 
 -- this step is put and published, or not for want of memory: then it isn't put, or is pending
 abbrev pub OnStep : DeskState → DeskState → Step → Maintained → Type 0

@@ -1,10 +1,10 @@
 //! What a maintainer does at the desk.
 
-ghost use Rattle.std.specs.Prelude.{◌≡◌, ◌≤◌, ◌<◌, length, IfOk, MatchBool};
+ghost use Rattle.std.specs.Prelude.{◌≡◌, ◌≤◌, ◌<◌, length, IfOk, IfSome, MatchBool};
 ghost use Rattle.be_base.specs.Counts.{raised};
 ghost use Rattle.be_change.specs.History.{live};
 ghost use Rattle.be_desk.specs.Desks.{freed};
-ghost use Rattle.be_desk.specs.Maintained.{IsDue, IsMaintained, IsPutOff, IsTended, OnStep};
+ghost use Rattle.be_desk.specs.Maintained.{IsByPlan, IsDue, IsMaintained, IsPutOff, IsTended, OnStep};
 
 use crate::broom::Broom;
 use crate::desk::Desk;
@@ -37,6 +37,7 @@ impl<T: Sheet<J>, J: Naming + BoxNames> Desk<T, J> {
     pub fn tend<R: Wait>(&mut self, rt: &R, broom: &mut Broom) -> Option<Maintained>
         ensures broom { broom.new ≡ raised 1 broom.old }
         ensures done { IsTended self.old self.new result }
+        ensures plan { IfSome result (IsByPlan T.list T.planned T.mark_of self.old self.new) }
     {
         self.patience.earn(WORK_A_TEND);
         if !self.is_due() {
@@ -69,6 +70,7 @@ impl<T: Sheet<J>, J: Naming + BoxNames> Desk<T, J> {
     pub fn maintain<R: Wait>(&mut self, rt: &R, broom: &mut Broom) -> Maintained
         ensures broom { broom.new ≡ raised 1 broom.old }
         ensures done { IsMaintained self.old self.new result }
+        ensures plan { IsByPlan T.list T.planned T.mark_of self.old self.new result }
     {
         broom.calls = broom.calls.saturating_add(1);
         let held = self.press.has_changes();

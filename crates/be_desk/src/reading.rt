@@ -13,6 +13,7 @@ ghost use Rattle.be_index.specs.Ids.{ids_of};
 ghost use Rattle.be_index.specs.Names.{spaced};
 ghost use Rattle.be_board.specs.Reads.{Looks, IsReadAt, Refuses};
 ghost use Rattle.be_desk.specs.Boards.{OnBoards};
+ghost use Rattle.be_published.specs.Copies.{OfCopy};
 
 use crate::seat::Seat;
 use be_base::NoRead;
@@ -61,6 +62,7 @@ impl<T: Sheet<J>, J: Naming + BoxNames> Seat<T, J> {
         ensures looks { OnBoards J.schema Looks self.old self.new }
         ensures read { IfOk result (λ r. OnBoards J.schema (λ b b'. IsReadAt b b' r.0) self.old self.new) }
         ensures bound { IfOk result (λ r. IsWithinBound J.schema event.now (live_rows self.new.glass.known) r.1) }
+        ensures exact { IfOk result (λ r. OfCopy T.list self.new.glass.known (λ copy. r.1 ≡ T.cost_of copy event.now)) }
         ensures refused { IfErr result (λ why. OnBoards J.schema (λ b b'. Refuses b b' why) self.old self.new) }
         ensures memory { result ≢ Err NoRead.NoMemory }
         ensures seat { self.new ≡ record self.old { glass = self.new.glass } }

@@ -24,10 +24,10 @@ abbrev pub Refuses : GlassState → GlassState → NoRead → Type 0
 Refuses g g' Shut = g' ≡ one_shut g
 Refuses g g' NoMemory = g' ≡ g
 
--- a plan found no step, which is counted, or this one
-abbrev pub after_plan : GlassState → Option Step → GlassState
-after_plan g None = one_none g
-after_plan g (Some step) = one_plan step g
+-- a plan found no step in the copy of this mark, or this one
+abbrev pub after_plan : ℕ → GlassState → Option Step → GlassState
+after_plan mark g None = one_none mark g
+after_plan mark g (Some step) = one_plan step g
 
 -- what was known before, or what was told where that is longer. Both are beginnings of it
 pub record Learns (known what known' : List Entry) : Type 0 where

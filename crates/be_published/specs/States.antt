@@ -1,5 +1,5 @@
 -- What contracts see of the writer and of a reader.
-use Rattle.std.specs.Prelude.{ℕ, ◌<◌, ◌⊎◌, List, [], ◌∷◌, ◌++◌, length}
+use Rattle.std.specs.Prelude.{ℕ, ◌<◌, ◌⊎◌, List, [], ◌∷◌, ◌++◌, length, Option, Some, None}
 use Rattle.be_base.specs.Counts.{raised}
 use Rattle.be_change.specs.History.{Entry}
 use Rattle.be_model.specs.declared.paths.Step.{Step}
@@ -31,10 +31,12 @@ pub record GlassState : Type 0 where
   pub nones : ℕ
   -- the steps that plans found, in order
   pub plans : List Step
+  -- the mark of the copy in which a plan last found none
+  pub bare : Option ℕ
 
 -- a reader that knows the list, and counted nothing
 abbrev pub new_glass : List Entry → GlassState
-new_glass known = record { known = known; shuts = 0; reads = 0; nones = 0; plans = [] }
+new_glass known = record { known = known; shuts = 0; reads = 0; nones = 0; plans = []; bare = None }
 
 abbrev pub knowing : List Entry → GlassState → GlassState
 knowing known g = record g { known = known }
@@ -45,8 +47,8 @@ one_shut g = record g { shuts = raised 1 g.shuts }
 abbrev pub one_read : List Entry → GlassState → GlassState
 one_read known g = record g { known = known; reads = raised 1 g.reads }
 
-abbrev pub one_none : GlassState → GlassState
-one_none g = record g { nones = raised 1 g.nones }
+abbrev pub one_none : ℕ → GlassState → GlassState
+one_none mark g = record g { nones = raised 1 g.nones; bare = Some mark }
 
 abbrev pub one_plan : Step → GlassState → GlassState
 one_plan step g = record g { plans = g.plans ++ step ∷ [] }

@@ -1,6 +1,6 @@
 //! A reader.
 
-ghost use Rattle.std.specs.Prelude.{◌≡◌, ◌≢◌, ◌++◌, ◌↔◌, [], true, length, max, None, Ok, Err, IfOk, IfErr, IfSome, OnOk, OnErr, MatchResult, option_map};
+ghost use Rattle.std.specs.Prelude.{◌≡◌, ◌≢◌, ◌++◌, ◌↔◌, [], true, length, max, None, Ok, Err, IfOk, IfErr, IfSome, IsSome, OnOk, OnErr, MatchResult, option_map};
 ghost use Rattle.std.specs.Option.{IfNone};
 ghost use Rattle.be_base.specs.Lists.{BeginsWith};
 ghost use Rattle.be_model.specs.Bounds.{IsWithinBound};
@@ -12,6 +12,7 @@ ghost use Rattle.be_change.specs.Sound.{Sound};
 ghost use Rattle.be_change.specs.Walk.{live_rows, tail_from};
 ghost use Rattle.be_index.specs.Ids.{ids_of};
 ghost use Rattle.be_index.specs.Names.{spaced};
+ghost use Rattle.be_published.specs.Copies.{OfCopy, IsPlanIn, Plans};
 ghost use Rattle.be_published.specs.Reads.{Meets, IsReadAt, Refuses, after_plan, Learns};
 ghost use Rattle.be_published.specs.States.{knowing, one_shut, one_read, new_glass};
 
@@ -32,12 +33,14 @@ use std::sync::{Arc, Wait};
 /// The copy that was entered.
 type Entered<T> = Reading<T, (), Unruled>;
 
+/// What enters copies. It is away while a copy is entered.
+type Door<T> = Option<Reader<T, (), Unruled>>;
+
 /// A reader of the published copy. No call of it but `meet` takes a lock or may wait. Contracts see the longest list that it
-/// has seen or learnt, and what it counted.
+/// has seen or learnt, and what it counted. Each call leaves the copy that it entered: between calls the door is there.
 #[derive(Drop)]
 pub struct Glass<T: Sheet<J>, J: Naming> {
-    // It is away while a copy is entered.
-    reader: Option<Reader<T, (), Unruled>>,
+    door: Door<T>,
     front: Front<J>,
     shuts: u64,
     reads: u64,
@@ -49,11 +52,14 @@ pub struct Glass<T: Sheet<J>, J: Naming> {
 }
 
 impl<T: Sheet<J>, J: Naming> Model for Glass<T, J> {
+    ghost use Rattle.std.specs.Prelude.{IsSome};
     ghost use Rattle.be_published.specs.States.{GlassState};
 
     ghost Value = { GlassState };
 
-    ghost view = { λ g. record { known = g.front; shuts = g.shuts; reads = g.reads; nones = g.nones; plans = g.plans.items } };
+    ghost view = { λ g. record { known = g.front; shuts = g.shuts; reads = g.reads; nones = g.nones; plans = g.plans.items; bare = g.bare } };
+
+    ghost invariant = { λ g. IsSome g.door };
 }
 
 impl<T: Sheet<J>, J: Naming> Glass<T, J> {
@@ -61,7 +67,7 @@ impl<T: Sheet<J>, J: Naming> Glass<T, J> {
         ensures { result ≡ new_glass front }
     {
         Glass {
-            reader: Some(reader),
+            door: Some(reader),
             front,
             shuts: 0,
             reads: 0,
@@ -118,11 +124,12 @@ impl<T: Sheet<J>, J: Naming> Glass<T, J> {
         ensures none { OnErr result (found.new.rows ≡ []) }
     {
         found.clear();
-        let Some(entered) = self.enter() else {
+        let Some(entered) = enter(&mut self.door, &self.front) else {
             return Err(self.refuse());
         };
         let done = entered.get().find(event, found);
-        self.answer(entered, done)
+        let front = leave(&mut self.door, entered);
+        self.answer(front, done)
     }
 
     /// Finds the ids of the live rows that the event satisfies, by rising id, and their names, each after a space, by one search, and
@@ -136,11 +143,12 @@ impl<T: Sheet<J>, J: Naming> Glass<T, J> {
         ensures none { OnErr result (names.new.items ≡ []) }
     {
         names.clear();
-        let Some(entered) = self.enter() else {
+        let Some(entered) = enter(&mut self.door, &self.front) else {
             return Err(self.refuse());
         };
         let done = entered.get().hits(event, ids, names);
-        Ok(self.answer(entered, done)?.0)
+        let front = leave(&mut self.door, entered);
+        Ok(self.answer(front, done)?.0)
     }
 
     /// What a search for the event costs. It takes no memory.
@@ -148,14 +156,16 @@ impl<T: Sheet<J>, J: Naming> Glass<T, J> {
         requires lies { event_lies J.schema event.now ≡ true }
         ensures read { IfOk result (λ r. IsReadAt self.old self.new r.0) }
         ensures bound { IfOk result (λ r. IsWithinBound J.schema event.now (live_rows self.new.known) r.1) }
+        ensures exact { IfOk result (λ r. OfCopy T.list self.new.known (λ copy. r.1 ≡ T.cost_of copy event.now)) }
         ensures refused { IfErr result (Refuses self.old self.new) }
         ensures memory { result ≢ Err NoRead.NoMemory }
     {
-        let Some(entered) = self.enter() else {
+        let Some(entered) = enter(&mut self.door, &self.front) else {
             return Err(self.refuse());
         };
         let cost = entered.get().cost(event);
-        Ok((self.read(entered), cost))
+        let front = leave(&mut self.door, entered);
+        Ok((self.read(front), cost))
     }
 
     /// Finds the session's live rows, by rising id.
@@ -166,11 +176,12 @@ impl<T: Sheet<J>, J: Naming> Glass<T, J> {
         ensures none { OnErr result (found.new.rows ≡ []) }
     {
         found.clear();
-        let Some(entered) = self.enter() else {
+        let Some(entered) = enter(&mut self.door, &self.front) else {
             return Err(self.refuse());
         };
         let done = entered.get().rows_of(session, found);
-        Ok(self.answer(entered, done)?.0)
+        let front = leave(&mut self.door, entered);
+        Ok(self.answer(front, done)?.0)
     }
 
     /// Finds all live rows, by rising id.
@@ -181,11 +192,12 @@ impl<T: Sheet<J>, J: Naming> Glass<T, J> {
         ensures none { OnErr result (found.new.rows ≡ []) }
     {
         found.clear();
-        let Some(entered) = self.enter() else {
+        let Some(entered) = enter(&mut self.door, &self.front) else {
             return Err(self.refuse());
         };
         let done = entered.get().all(found);
-        Ok(self.answer(entered, done)?.0)
+        let front = leave(&mut self.door, entered);
+        Ok(self.answer(front, done)?.0)
     }
 
     /// Appends the changes from the place `from` on, at most `max`.
@@ -200,29 +212,26 @@ impl<T: Sheet<J>, J: Naming> Glass<T, J> {
         ensures refused { IfErr result (Refuses self.old self.new) }
         ensures kept { OnErr result (changes.new.items ≡ changes.old.items) }
     {
-        let Some(entered) = self.enter() else {
+        let Some(entered) = enter(&mut self.door, &self.front) else {
             return Err(self.refuse());
         };
         let done = entered.get().tail(from, max, changes);
-        Ok(self.answer(entered, done)?.0)
+        let front = leave(&mut self.door, entered);
+        Ok(self.answer(front, done)?.0)
     }
 
     /// The step that reshapes the published copy next, where there is one. It goes through the copy only where that changed since
     /// a plan of this reader found none in it.
     pub fn plan(&mut self) -> Result<Option<Step>, NoRead>
-        ensures counted { IfOk result (λ step. self.new ≡ after_plan self.old step) }
+        ensures plans { IfOk result (Plans T.list T.planned T.mark_of self.old self.new) }
         ensures refused { IfErr result (Refuses self.old self.new) }
     {
-        let Some(entered) = self.enter() else {
+        let Some(entered) = enter(&mut self.door, &self.front) else {
             return Err(self.refuse());
         };
         let mark = entered.get().mark();
-        let done = if self.bare == Some(mark) {
-            Ok(None)
-        } else {
-            entered.get().plan()
-        };
-        self.leave(entered);
+        let done = plan_in(entered.get(), self.bare);
+        leave(&mut self.door, entered);
         match done {
             Ok(step) => {
                 self.note_plan(mark, step.as_ref());
@@ -237,8 +246,9 @@ impl<T: Sheet<J>, J: Naming> Glass<T, J> {
         ensures { Meets self.old self.new result }
     {
         for _ in rt.forever() {
-            if let Some(entered) = self.enter() {
-                return self.see(entered);
+            if let Some(entered) = enter(&mut self.door, &self.front) {
+                let front = leave(&mut self.door, entered);
+                return self.see(front);
             }
         }
         unreachable!()
@@ -251,68 +261,31 @@ impl<T: Sheet<J>, J: Naming> Glass<T, J> {
         Shade::of(self.shuts)
     }
 
-    // Enters the published copy. A copy that is older than what is known is left again.
-    fn enter(&mut self) -> Option<Entered<T>>
-        ensures same { self.new ≡ self.old }
-        ensures begins { IfSome result (λ entered. BeginsWith (T.list entered.part.value) self.old.known) }
+    // The list of a copy that was entered is known from now on.
+    fn see(&mut self, front: Front<J>) -> u64
+        ensures known { self.new ≡ knowing front self.old }
+        ensures length { result ≡ length front }
     {
-        match self.reader.take()?.enter_as::<Unruled>() {
-            Err(reader) => {
-                self.reader = Some(reader);
-                None
-            }
-            Ok(entered) => {
-                let front = entered.get().front();
-                if front.len() < self.front.len() {
-                    self.reader = Some(entered.leave());
-                    return None;
-                }
-                self.front.begins(front);
-                Some(entered)
-            }
-        }
-    }
-
-    fn leave(&mut self, entered: Entered<T>)
-        ensures { self.new ≡ self.old }
-    {
-        self.reader = Some(entered.leave());
-    }
-
-    // Leaves the copy. Its list is known from now on.
-    fn see(&mut self, entered: Entered<T>) -> u64
-        ensures known { self.new ≡ knowing (T.list entered.part.value) self.old }
-        ensures length { result ≡ length (T.list entered.part.value) }
-    {
-        let front = entered.get().front().again();
-        self.reader = Some(entered.leave());
         self.front = front;
         self.front.len()
     }
 
     // The same, of a read that is answered.
-    fn read(&mut self, entered: Entered<T>) -> u64
-        ensures known { self.new ≡ one_read (T.list entered.part.value) self.old }
-        ensures length { result ≡ length (T.list entered.part.value) }
+    fn read(&mut self, front: Front<J>) -> u64
+        ensures known { self.new ≡ one_read front self.old }
+        ensures length { result ≡ length front }
     {
-        let n = self.see(entered);
+        let n = self.see(front);
         self.reads = self.reads.saturating_add(1);
         n
     }
 
-    fn answer<X>(
-        &mut self,
-        entered: Entered<T>,
-        done: Result<X, NoMemory>,
-    ) -> Result<(u64, X), NoRead>
-        ensures { MatchResult done (λ x. (result ≡ Ok (length (T.list entered.part.value), x)) × (self.new ≡ one_read (T.list entered.part.value) self.old)) (λ _. (result ≡ Err NoRead.NoMemory) × (self.new ≡ self.old)) }
+    fn answer<X>(&mut self, front: Front<J>, done: Result<X, NoMemory>) -> Result<(u64, X), NoRead>
+        ensures { MatchResult done (λ x. (result ≡ Ok (length front, x)) × (self.new ≡ one_read front self.old)) (λ _. (result ≡ Err NoRead.NoMemory) × (self.new ≡ self.old)) }
     {
         match done {
-            Ok(x) => Ok((self.read(entered), x)),
-            Err(NoMemory) => {
-                self.leave(entered);
-                Err(NoRead::NoMemory)
-            }
+            Ok(x) => Ok((self.read(front), x)),
+            Err(NoMemory) => Err(NoRead::NoMemory),
         }
     }
 
@@ -326,7 +299,7 @@ impl<T: Sheet<J>, J: Naming> Glass<T, J> {
 
     // Counts what a plan found in the copy of this mark.
     fn note_plan(&mut self, mark: u64, found: Option<&Step>)
-        ensures { self.new ≡ after_plan self.old (option_map (λ step. step.now) found.entry) }
+        ensures { self.new ≡ after_plan mark self.old (option_map (λ step. step.now) found.entry) }
     {
         match found {
             Some(step) => self.plans = self.plans.and(step),
@@ -336,4 +309,47 @@ impl<T: Sheet<J>, J: Naming> Glass<T, J> {
             }
         }
     }
+}
+
+// Enters the published copy. A copy that is older than what is known is left again.
+fn enter<T: Sheet<J>, J: Naming>(door: &mut Door<T>, known: &Front<J>) -> Option<Entered<T>>
+    requires there { IsSome door.old }
+    ensures begins { IfSome result (λ entered. BeginsWith (T.list entered.part.value) known.now) }
+    ensures back { IfNone result (IsSome door.new) }
+{
+    match door.take().unwrap().enter_as::<Unruled>() {
+        Err(reader) => {
+            *door = Some(reader);
+            None
+        }
+        Ok(entered) => {
+            let front = entered.get().front();
+            if front.len() < known.len() {
+                *door = Some(entered.leave());
+                return None;
+            }
+            known.begins(front);
+            Some(entered)
+        }
+    }
+}
+
+// Leaves the copy, and says which list it has.
+fn leave<T: Sheet<J>, J: Naming>(door: &mut Door<T>, entered: Entered<T>) -> Front<J>
+    ensures list { result ≡ T.list entered.part.value }
+    ensures back { IsSome door.new }
+{
+    let front = entered.get().front().again();
+    *door = Some(entered.leave());
+    front
+}
+
+// What a plan finds in the copy. It goes through it only where the copy hasn't the mark in which one found none.
+fn plan_in<T: Sheet<J>, J: Naming>(copy: &T, bare: Option<u64>) -> Result<Option<Step>, NoMemory>
+    ensures { IfOk result (IsPlanIn T.planned T.mark_of bare copy.now) }
+{
+    if bare == Some(copy.mark()) {
+        return Ok(None);
+    }
+    copy.plan()
 }

@@ -105,7 +105,9 @@ pub struct Opened {
 }
 
 impl Opened {
-    pub fn new() -> Opened {
+    pub fn new() -> Opened
+        ensures { result.seen.log ≡ [] }
+    {
         let (seen, mut first, _second) = Seen::open(Start::alone(), 0, 0);
         Opened {
             head: Word::tracked(0, &mut first),

@@ -24,7 +24,7 @@ pub(crate) const SECOND_MARK: u64 = 1;
 // What a note adds to a mark.
 const MARKS_A_NOTE: u64 = 2;
 
-/// A copy that names the beginning of the history that its list is. Contracts see it as its list.
+/// A copy that names the beginning of the history that its list is. Contracts see its list, its index and its mark.
 #[derive(Drop)]
 pub struct Page<I: Index, J: Naming> {
     copy: Copy2<I>,
@@ -34,12 +34,12 @@ pub struct Page<I: Index, J: Naming> {
 }
 
 impl<I: Index, J: Naming> Model for Page<I, J> {
-    ghost use Rattle.std.specs.Prelude.{◌≡◌, List, true};
-    ghost use Rattle.be_change.specs.History.{Entry};
+    ghost use Rattle.std.specs.Prelude.{◌≡◌, true};
+    ghost use Rattle.be_published.specs.Copies.{Paged};
 
-    ghost Value = { List Entry };
+    ghost Value = { Paged I };
 
-    ghost view = { λ p. p.copy.list };
+    ghost view = { λ p. record { list = p.copy.list; index = p.copy.index; mark = p.mark } };
 
     ghost invariant = { λ p. (p.front ≡ p.copy.list) × (I.schema p.copy.index ≡ J.schema) × (I.is_bounded p.copy.index ≡ true) };
 }
@@ -51,7 +51,7 @@ impl<I: Index, J: Naming> Page<I, J> {
         requires schema { I.schema index ≡ J.schema }
         requires bounded { I.is_bounded index ≡ true }
         requires first { front ≡ [] }
-        ensures { result ≡ [] }
+        ensures { result.list ≡ [] }
     {
         Page {
             copy: Copy2::make(alloc, index),
@@ -62,7 +62,7 @@ impl<I: Index, J: Naming> Page<I, J> {
 
     /// Takes in a note whole, or nothing of it. A change that isn't the next is passed over.
     pub(crate) fn take_in(&mut self, note: &Note<J>) -> Result<(), NoMemory>
-        ensures { MatchResult result (λ _. self.new ≡ noted self.old note.now) (λ _. self.new ≡ self.old) }
+        ensures { MatchResult result (λ _. self.new.list ≡ noted self.old.list note.now) (λ _. self.new.list ≡ self.old.list) }
     {
         self.mark = self.mark.wrapping_add(MARKS_A_NOTE);
         match &note.edit {
@@ -85,9 +85,9 @@ impl<I: Index, J: Naming> Page<I, J> {
 }
 
 impl<I: Index, J: Naming> Absorb<Note<J>> for Page<I, J> {
-    type State = Page<I, J>;
+    type State = Front<J>;
 
-    ghost state = { λ p. p };
+    ghost state = { λ p. p.list };
 
     ghost applied = { noted };
 
@@ -100,7 +100,13 @@ impl<I: Index, J: Naming> Absorb<Note<J>> for Page<I, J> {
 }
 
 impl<I: Index, J: Naming> Sheet<J> for Page<I, J> {
-    ghost list = { λ p. p };
+    ghost list = { λ p. p.list };
+
+    ghost cost_of = { λ p event. I.cost_of p.index event };
+
+    ghost planned = { λ p. I.planned p.index };
+
+    ghost mark_of = { λ p. p.mark };
 
     ghost follows = { λ x y notes e. e };
 

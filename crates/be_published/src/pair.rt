@@ -79,7 +79,7 @@ pub fn open_pair<I: Index, J: Naming, R: Wait>(
     match glasses_of(alloc, &press, readers) {
         Ok(glasses) => Ok((press, glasses)),
         Err(NoMemory) => {
-            press.end(rt);
+            drop(press.end(rt));
             Err(NoMemory)
         }
     }
@@ -121,11 +121,11 @@ fn add_row<I: Index, J: Naming>(
     row: Row,
 ) -> Result<Front<J>, NoMemory>
     requires may { MayAppend J.schema front.now (subscribed 0 (length front.now) row) }
-    requires first { first.old ≡ front.now }
-    requires second { second.old ≡ front.now }
+    requires first { first.old.list ≡ front.now }
+    requires second { second.old.list ≡ front.now }
     ensures front { IfOk result (λ next. next ≡ front.now ++ subscribed 0 (length front.now) row ∷ []) }
-    ensures first { IfOk result (λ next. first.new ≡ next) }
-    ensures second { IfOk result (λ next. second.new ≡ next) }
+    ensures first { IfOk result (λ next. first.new.list ≡ next) }
+    ensures second { IfOk result (λ next. second.new.list ≡ next) }
 {
     let row = Arc::new(alloc, row).map_err(|_| NoMemory)?;
     let change = Change::Sub {

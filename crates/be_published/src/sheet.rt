@@ -20,10 +20,24 @@ use be_model::{Change, Cost, Event, Found, Step};
 use left_right::Absorb;
 use std::sync::Arc;
 
-/// A copy that the writer shows to readers. Contracts see of it its list. The writer and the readers take it as a
-/// parameter: a field of theirs can't name a `Page` of any index.
+/// A copy that the writer shows to readers. Contracts see of it its list, what a search costs in it, and what a plan finds. The
+/// writer and the readers take it as a parameter: a field of theirs can't name a `Page` of any index.
 pub trait Sheet<J: Naming>: Absorb<Note<J>> + Drop {
+    ghost use Rattle.std.specs.Prelude.{ℕ, Option};
+    ghost use Rattle.be_model.specs.declared.costs.Cost.{Cost};
+    ghost use Rattle.be_model.specs.declared.paths.Step.{Step};
+    ghost use Rattle.be_model.specs.Matching.{Assignments};
+
     ghost list: { Self → List Entry };
+
+    /// What a search for the event costs in this copy.
+    ghost cost_of: { Self → Assignments → Cost };
+
+    /// The step that is to be made next in this copy.
+    ghost planned: { Self → Option Step };
+
+    /// The copy's mark.
+    ghost mark_of: { Self → ℕ };
 
     /// The beginning of the history that its list is.
     fn front(&self) -> &Front<J>
@@ -46,7 +60,8 @@ pub trait Sheet<J: Naming>: Absorb<Note<J>> + Drop {
 
     fn cost(&self, event: &Event) -> Cost
         requires { event_lies J.schema event.now ≡ true }
-        ensures { IsWithinBound J.schema event.now (live_rows (list self.now)) result };
+        ensures cost { result ≡ cost_of self.now event.now }
+        ensures bound { IsWithinBound J.schema event.now (live_rows (list self.now)) result };
 
     /// Finds the session's live rows, by rising id.
     fn rows_of(&self, session: SessionNo, found: &mut Found) -> Result<(), NoMemory>
@@ -64,11 +79,13 @@ pub trait Sheet<J: Naming>: Absorb<Note<J>> + Drop {
         ensures refused { OnErr result (changes.new.items ≡ changes.old.items) };
 
     /// The step that is to be made next, where there is one.
-    fn plan(&self) -> Result<Option<Step>, NoMemory>;
+    fn plan(&self) -> Result<Option<Step>, NoMemory>
+        ensures { IfOk result (λ step. step ≡ planned self.now) };
 
     /// Names the copy and its present state among the two copies of a press: the same number is the same copy, which took
     /// in no note between.
-    fn mark(&self) -> u64;
+    fn mark(&self) -> u64
+        ensures { result ≡ mark_of self.now };
 
     /// Notes lead its list as `noted` says.
     ghost follows: { (x y : Self) (notes : List Noted) → Self.state y ≡ fold Self.applied (Self.state x) notes → list y ≡ fold noted (list x) notes };

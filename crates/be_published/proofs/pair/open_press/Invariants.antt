@@ -9,5 +9,5 @@ invariant-loop-row g l =
     (goal.iterator-loop-row g).is_finite l.row-iterator ×
     (l.fn.rows.items ≡ l.yielded ++ l.row-iterator.rest.items) ×
     (l.front ≡ opening_of l.yielded) ×
-    (l.first ≡ l.front) ×
-    (l.second ≡ l.front)
+    (l.first.list ≡ l.front) ×
+    (l.second.list ≡ l.front)

@@ -54,3 +54,19 @@ returns-clause-goes g c =
       known = subst (λ s. BeginsWith c.meet-front.new.self.known s.glass.known) c.seat.view_is l.1;
       glass = subst (λ s. c.meet-front.new.self ≡ knowing c.meet-front.new.self.known s.glass) c.seat.view_is l.0;
     }
+
+pub invariant_of-seat-else-seat-stand : goal.invariant_of-seat-else-seat-stand
+invariant_of-seat-else-seat-stand g c =
+    let l = looked c.seat.inside.glass c.learn.new.self c.meet-front.new.self c.tell.result c.meet-front.result c.learn.ensures.counts c.learn.ensures.learns c.meet-front.ensures in
+    let i = c.seat.invariant in
+    (i.0, seat_knowing g.J.BoxNames.boxes c.seat.inside.serial c.seat.inside.gone _ c.meet-front.new.self l.1 i.1, i.2)
+
+pub returns-else-seat-stand-clause-goes : goal.returns-else-seat-stand-clause-goes
+returns-else-seat-stand-clause-goes g c =
+    let l = looked c.seat.inside.glass c.learn.new.self c.meet-front.new.self c.tell.result c.meet-front.result c.learn.ensures.counts c.learn.ensures.learns c.meet-front.ensures in
+    record {
+      session = ap (λ s. s.session) c.seat.view_is;
+      passes = ap (λ s. s.passes) c.seat.view_is;
+      known = subst (λ s. BeginsWith c.meet-front.new.self.known s.glass.known) c.seat.view_is l.1;
+      glass = subst (λ s. c.meet-front.new.self ≡ knowing c.meet-front.new.self.known s.glass) c.seat.view_is l.0;
+    }

@@ -21,4 +21,4 @@ returns-in_ok-absorb-in-Change g c =
     let taken = next_taken g.J.Naming.schema (g.I.Index.schema c.self.inside.copy.index) h c.self.inside.front next c.note.inside.edit is c.self.invariant.1 c.self.invariant.0 c.note.invariant c.begins.ensures len c.len-there.ensures.sound in
     c.in_ok-absorb-in-Change.ensures.list ∙ (taken
     ∙ (sym (noted_next h next c.note.inside.edit is (len ∙ ap (λ l. length l + 1) c.self.invariant.0))
-    ∙ (ap (λ l. noted l (leads_to c.note.inside.edit next)) c.self.view_is ∙ ap (noted c.args.self.now) c.note.view_is)))
+    ∙ (ap (λ v. noted v.list (leads_to c.note.inside.edit next)) c.self.view_is ∙ ap (noted c.args.self.now.list) c.note.view_is)))

@@ -1,0 +1,28 @@
+-- Copies, as contracts see them.
+use Rattle.std.specs.Prelude.{◌≡◌, ℕ, ◌⊎◌, List, Option, Some, None}
+use Rattle.be_base.specs.Lists.{BeginsWith}
+use Rattle.be_change.specs.History.{Entry}
+use Rattle.be_model.specs.declared.paths.Step.{Step}
+use Rattle.be_published.specs.States.{GlassState}
+use Rattle.be_published.specs.Reads.{after_plan}
+
+-- the list, the index that holds what is live in it, and the mark
+pub record Paged (X : Type 0) : Type 0 where
+  pub list : List Entry
+  pub index : X
+  pub mark : ℕ
+
+-- it holds of a copy that has this list
+abbrev pub OfCopy : {X : Type 0} → (X → List Entry) → List Entry → (X → Type 0) → Type 0
+OfCopy {X} list h P = (copy : X) × (list copy ≡ h) × P copy
+
+-- the plan of a copy is this step, or none; or it is none, and the copy has the mark of one in which a plan found none
+abbrev pub IsPlanIn : {X : Type 0} → (X → Option Step) → (X → ℕ) → Option ℕ → X → Option Step → Type 0
+IsPlanIn planned mark bare copy found = (found ≡ planned copy) ⊎ ((found ≡ None) × (bare ≡ Some (mark copy)))
+
+-- a copy was entered whose list goes on where all known ends, and a plan found this in it, which was counted
+pub record Plans {X : Type 0} (list : X → List Entry) (planned : X → Option Step) (mark : X → ℕ) (g g' : GlassState) (found : Option Step) : Type 0 where
+  pub copy : X
+  pub known : BeginsWith (list copy) g.known
+  pub found_is : IsPlanIn planned mark g.bare copy found
+  pub counts : g' ≡ after_plan (mark copy) g found
