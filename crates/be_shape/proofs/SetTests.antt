@@ -1,13 +1,12 @@
 -- What is told of a small set is true of it.
-use Rattle.std.proofs.Common.{◌≡◌, ℕ, ℤ, pos, ◌||◌, ◌==◌, ◌≤◌, ◌<◌, zero, suc, Bool, true, false, List, [], ◌∷◌, length, get_or, slice_get, Option, Some, None, refl, sym, ap, subst, ◌∙◌, arith}
+use Rattle.std.proofs.Common.{◌≡◌, ℕ, ℤ, pos, ◌||◌, ◌==◌, ◌≤◌, ◌<◌, Bool, true, false, List, [], ◌∷◌, length, get_or, Option, Some, None, refl, sym, ap, ◌∙◌, arith}
 use Rattle.std.specs.Prelude.{unsigned_abs}
 use Rattle.std.specs.List.{list_any}
 use Rattle.std.specs.Ordering.{int_eq}
-use Rattle.std.proofs.lemmas.Bool.{and_parts, eq-eqb}
+use Rattle.std.proofs.lemmas.Bool.{eq-eqb}
 use Rattle.be_model.specs.declared.ops.Op.TheVariants.{OneOf}
-use Rattle.be_model.specs.declared.preds.Pred.{Pred}
 use Rattle.be_model.specs.Hulls.{first_of_values, last_of_values}
-use Rattle.be_model.specs.Matching.{Assignments, values_of, is_among, is_met, satisfies}
+use Rattle.be_model.specs.Matching.{is_among, is_met}
 use Rattle.be_shape.specs.Listed.{low_part}
 use Rattle.be_shape.specs.SmallSets.{may_be, may_be_any}
 use Rattle.be_shape.proofs.ToldTests.{any_more, equal_from}
@@ -37,11 +36,3 @@ pub may_if_met : (xs : List ℤ) (ends : ℤ × ℤ) (m : ℕ) (o : Option (List
     → ((v : ℤ) → is_among xs v ≡ true → may_be (first_of_values xs, last_of_values xs) m v ≡ true) → is_met o (OneOf xs) ≡ true → may_be_any ends m o ≡ true
 may_if_met xs ends m None e f h = absurd (cc)
 may_if_met xs ends m (Some vs) e f h = ap (λ z. list_any (may_be z m) vs) e ∙ any_more (is_among xs) (may_be (first_of_values xs, last_of_values xs) m) vs f h
-
--- an event that satisfies a condition meets each of its predicates
-pub met_at : (e : Assignments) (conj : List Pred) (i : ℕ) (p : Pred) → slice_get conj i ≡ Some p → satisfies e conj ≡ true → is_met (values_of e p.attr) p.op ≡ true
-met_at e [] i p s h = absurd (cc)
-met_at e (q ∷ qs) zero p s h =
-    let same : q ≡ p = cc in
-    subst (λ (r : Pred). is_met (values_of e r.attr) r.op ≡ true) same (and_parts (is_met (values_of e q.attr) q.op) (satisfies e qs) h).0
-met_at e (q ∷ qs) (suc i) p s h = met_at e qs i p s (and_parts (is_met (values_of e q.attr) q.op) (satisfies e qs) h).1
