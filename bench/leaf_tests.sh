@@ -4,7 +4,7 @@
 # of its own.
 # shellcheck source=common.sh
 . "$(dirname "${BASH_SOURCE[0]}")/common.sh"
-crates=(be_base be_io be_model be_expr be_event be_shape be_score be_match be_insert)
+crates=(be_base be_io be_model be_index be_expr be_event be_shape be_score be_match be_insert)
 
 # build: proves and builds the program in this room, with the tree that grows of `worked_help` and the rows of `worked_growth`.
 build() {

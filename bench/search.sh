@@ -3,7 +3,7 @@
 # found, beyond the time of as many searches without a row. It builds, and so proves, a program of its own.
 # shellcheck source=common.sh
 . "$(dirname "${BASH_SOURCE[0]}")/common.sh"
-own_crate search be_base be_model be_shape be_match
+own_crate search be_base be_model be_index be_shape be_match
 build_own search 0
 
 # measure ROWS: the least seconds of processor time of five runs

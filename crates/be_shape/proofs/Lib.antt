@@ -1,6 +1,7 @@
 pub mod Commons
 pub mod ToldTests
 pub mod ToldSpans
+pub mod SetTests
 pub mod FewAttrs
 pub mod LeafRows
 pub mod Plains

@@ -147,7 +147,7 @@ bounds_hold (OneOf xs) f =
     (λ m n. record { inside = λ v k. (let z = within_parts (x, y) v (set_in xs v f k) in in_from x y v z.0 z.1); all = λ e v k. absurd (cc) }) tt) tt
 bounds_hold (NoneOf xs) f = record { inside = λ v k. refl; all = λ e v k. absurd (cc) }
 
-any_more : (p q : ℤ → Bool) (vs : List ℤ) → ((v : ℤ) → p v ≡ true → q v ≡ true) → list_any p vs ≡ true → list_any q vs ≡ true
+pub any_more : (p q : ℤ → Bool) (vs : List ℤ) → ((v : ℤ) → p v ≡ true → q v ≡ true) → list_any p vs ≡ true → list_any q vs ≡ true
 any_more p q [] f h = h
 any_more p q (v ∷ vs) f h =
     ⊎_elim (λ e. or_left (q v) (list_any q vs) (f v e)) (λ e. or_right (q v) (list_any q vs) (any_more p q vs f e)) (or_cases (p v) (list_any p vs) h)

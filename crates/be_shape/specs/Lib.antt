@@ -3,6 +3,7 @@ pub mod Leaves
 pub mod Glances
 pub mod FewTests
 pub mod Listed
+pub mod SmallSets
 pub mod Held
 pub mod Plain
 pub mod Shape

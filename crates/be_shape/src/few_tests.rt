@@ -1,22 +1,25 @@
 //! At most three tests of a row.
 
-ghost use Rattle.std.specs.Prelude.{◌≡◌, ◌<◌, true, [], ◌∷◌, ◌++◌, length, nat_le};
+ghost use Rattle.std.specs.Prelude.{◌≡◌, ◌<◌, ℕ, true, [], ◌∷◌, ◌++◌, length, nat_le, IfSome};
 ghost use Rattle.be_model.specs.Forms.{IsConj};
 ghost use Rattle.be_model.specs.Hulls.{span_in};
 ghost use Rattle.be_model.specs.Lies.{conj_lies};
-ghost use Rattle.be_model.specs.Matching.{satisfies};
+ghost use Rattle.be_model.specs.Matching.{Assignments, is_met, satisfies, values_of};
 ghost use Rattle.be_model.specs.Rows.{has};
 ghost use Rattle.be_model.specs.Schemas.{numbered};
+ghost use Rattle.be_shape.specs.declared.glances.Extent.TheVariants.{Few};
 ghost use Rattle.be_shape.specs.FewTests.{has_first, has_second, has_third};
 ghost use Rattle.be_shape.specs.Glances.{may_meet, test_on, glance, glance_of};
 ghost use Rattle.be_shape.specs.Listed.{attrs_told};
+ghost use Rattle.be_shape.specs.SmallSets.{extent_of, passes_set, passes_told, LosesNone};
 
 use crate::glances::{Ends, Extent, hull_in};
 use crate::listings::RowAttrs;
 use crate::looks::has_attr;
 use crate::sights::Sight;
+use crate::small_sets::{Told, middle_of};
 use be_base::AttrNo;
-use be_model::{Conj, Row, Schema};
+use be_model::{Conj, Op, Pred, Row, Schema};
 use std::marker::Model;
 
 /// How many tests there are.
@@ -70,6 +73,14 @@ impl Count {
     {
         matches!(self, Count::Three)
     }
+}
+
+// Whether the test of a number of an attribute is on this attribute, between these ends.
+fn is_test(number: u8, test: Ends, a: AttrNo, ends: (i64, i64)) -> bool
+    ensures attr { result ≡ true → numbered number ≡ a }
+    ensures ends { result ≡ true → test ≡ ends }
+{
+    u16::from(number) == a.0 && test.0 as i64 == ends.0 && test.1 as i64 == ends.1
 }
 
 fn numbered(a: u8) -> AttrNo
@@ -136,6 +147,67 @@ impl FewTests {
             && (!self.count.has_third() || e.may_have(self.third, numbered(self.third_attr)))
     }
 
+    // Whether the event may have a number of the set that is told.
+    fn may_have_set(&self, told: Told, middle: u8, e: &Sight) -> bool
+        ensures { passes_told told middle self.now e.now ≡ true → result ≡ true }
+    {
+        match told {
+            Told::FirstIsSet => {
+                !self.count.has_first() || e.may_be(self.first, middle, numbered(self.first_attr))
+            }
+            Told::SecondIsSet => {
+                !self.count.has_second()
+                    || e.may_be(self.second, middle, numbered(self.second_attr))
+            }
+            Told::ThirdIsSet => {
+                !self.count.has_third() || e.may_be(self.third, middle, numbered(self.third_attr))
+            }
+            Told::AsWhole | Told::AsFew | Told::AsPart => true,
+        }
+    }
+
+    /// What is told where the test on the attribute is of a set of these ends.
+    pub(crate) fn set_at(&self, a: AttrNo, ends: (i64, i64)) -> Option<Told>
+        ensures few { IfSome result (λ told. extent_of told ≡ Few) }
+        ensures passes { IfSome result (λ told. (e : Assignments) (m : ℕ) → passes_set e m (a, ends) ≡ true → passes_told told m self.now e ≡ true) }
+    {
+        if self.count.has_first() && is_test(self.first_attr, self.first, a, ends) {
+            Some(Told::FirstIsSet)
+        } else if self.count.has_second() && is_test(self.second_attr, self.second, a, ends) {
+            Some(Told::SecondIsSet)
+        } else if self.count.has_third() && is_test(self.third_attr, self.third, a, ends) {
+            Some(Told::ThirdIsSet)
+        } else {
+            None
+        }
+    }
+
+    // What is told where the predicate is of a small set, on which there is a test.
+    fn set_told(&self, pred: &Pred) -> Option<(Told, u8)>
+        ensures few { IfSome result (λ set. extent_of set.0 ≡ Few) }
+        ensures passes { IfSome result (λ set. (e : Assignments) → is_met (values_of e pred.now.attr) pred.now.op ≡ true → passes_told set.0 set.1 self.now e ≡ true) }
+    {
+        let Op::OneOf(xs) = &pred.op else {
+            return None;
+        };
+        let middle = middle_of(xs)?;
+        let told = self.set_at(pred.attr, xs.ends())?;
+        Some((told, middle))
+    }
+
+    /// What is told of the first small set of the condition on which there is a test.
+    pub(crate) fn set_among(&self, conj: &Conj) -> (Told, u8)
+        ensures few { extent_of result.0 ≡ Few }
+        ensures set { LosesNone conj.now result.0 result.1 self.now }
+    {
+        for pred in conj.preds() {
+            if let Some(set) = self.set_told(pred) {
+                return set;
+            }
+        }
+        (Told::AsFew, 0)
+    }
+
     // Whether the event passes.
     fn may_meet(&self, e: &Sight) -> bool
         ensures { result ≡ may_meet e.now self.now }
@@ -160,14 +232,22 @@ impl FewTests {
         }
     }
 
+    // Whether what is seen of the event lets it pass the tests, and the set that is told.
+    fn may_be_met(&self, told: Told, middle: u8, e: &Sight) -> bool
+        ensures { may_meet e.now self.now ≡ true → passes_told told middle self.now e.now ≡ true → result ≡ true }
+    {
+        self.is_worth(e) && self.may_have_set(told, middle, e)
+    }
+
     /// Whether the event satisfies the condition of which this is told.
-    pub(crate) fn is_met(&self, extent: Extent, conj: &Conj, e: &Sight) -> bool
-        requires told { glance self.now extent ≡ glance_of conj.now }
+    pub(crate) fn is_met(&self, told: Told, middle: u8, conj: &Conj, e: &Sight) -> bool
+        requires told { glance self.now (extent_of told) ≡ glance_of conj.now }
         requires form { IsConj conj.now }
+        requires set { LosesNone conj.now told middle self.now }
         ensures { result ≡ satisfies e.now conj.now }
     {
-        if self.is_worth(e) {
-            self.is_met_by_values(extent, conj, e)
+        if self.may_be_met(told, middle, e) {
+            self.is_met_by_values(told.extent(), conj, e)
         } else {
             false
         }

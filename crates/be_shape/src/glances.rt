@@ -6,8 +6,10 @@ ghost use Rattle.be_model.specs.declared.ops.Op.{Op};
 ghost use Rattle.be_model.specs.Forms.{IsConj};
 ghost use Rattle.be_model.specs.Matching.{values_of};
 ghost use Rattle.be_shape.specs.Glances.{is_in, has_in, small, bounds_of, is_whole, is_part, glance, with_test, with_pred, glance_of, hull_low, hull_high, hull_in};
+ghost use Rattle.be_shape.specs.SmallSets.{extent_of, LosesNone};
 
 use crate::few_tests::FewTests;
+use crate::small_sets::Told;
 use be_base::AttrNo;
 use be_model::{Conj, Event, Op, Pred, Values};
 
@@ -234,5 +236,17 @@ impl Glance {
             glance = glance.with_pred(pred);
         }
         glance
+    }
+
+    /// Of which set something is told, and the lower bits of the number between its ends.
+    pub(crate) fn set_of(&self, conj: &Conj) -> (Told, u8)
+        ensures extent { extent_of result.0 ≡ self.now.extent }
+        ensures set { LosesNone conj.now result.0 result.1 self.now.tests }
+    {
+        match self.extent {
+            Extent::Whole => (Told::AsWhole, 0),
+            Extent::Few => self.tests.set_among(conj),
+            Extent::Part => (Told::AsPart, 0),
+        }
     }
 }

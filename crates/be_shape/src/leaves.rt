@@ -12,8 +12,9 @@ ghost use Rattle.be_model.specs.Matching.{satisfies};
 
 use crate::hints::Hints;
 use crate::listings::RowAttrs;
-use crate::places::{Kept, low_part};
+use crate::places::Kept;
 use crate::sights::Sight;
+use crate::small_sets::low_part;
 use crate::tallies::common_of;
 use be_base::AttrNo;
 use be_model::{Row, RowList, Schema};
@@ -136,7 +137,7 @@ impl Leaf {
         requires { place < length self.now }
         ensures { IsTrue result ↔ (slice_get self.now place ≡ Some row.now) }
     {
-        self.kept(place).low_part() == low_part(row.id) && self.row(place).same_as(row)
+        self.kept(place).low_part() == low_part(row.id.0) && self.row(place).same_as(row)
     }
 
     /// Where the row stands. A row whose id has other lower bits isn't looked at.

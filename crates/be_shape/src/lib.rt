@@ -17,6 +17,7 @@ mod nodes;
 mod places;
 mod ranges;
 mod sights;
+mod small_sets;
 mod spots;
 mod swaps;
 mod tallies;

@@ -9,9 +9,10 @@ ghost use Rattle.be_model.specs.Rows.{has};
 ghost use Rattle.be_shape.specs.Listed.{attrs_of, low_part};
 
 use crate::few_tests::FewTests;
-use crate::glances::{Extent, Glance};
+use crate::glances::Glance;
 use crate::listings::RowAttrs;
 use crate::sights::Sight;
+use crate::small_sets::{Told, low_part};
 use be_base::{AttrNo, Id};
 use be_model::{Row, Schema};
 use std::marker::Model;
@@ -22,8 +23,10 @@ use std::sync::Arc;
 pub(crate) enum Held {
     Blank,
     Full {
-        extent: Extent,
-        low_part: u16,
+        told: Told,
+        low_part: u8,
+        /// Of the set that is told, the lower bits of the number between its ends.
+        middle: u8,
         tests: FewTests,
         row: Arc<Row>,
     },
@@ -59,22 +62,17 @@ impl Default for Kept {
     }
 }
 
-/// The lower 16 bits of an id. Most other ids have others.
-pub(crate) fn low_part(id: Id) -> u16
-    ensures { result ≡ low_part id.0 }
-{
-    (id.0 % 65536) as u16
-}
-
 impl Kept {
     pub(crate) fn of(row: Arc<Row>) -> Kept
         ensures { result ≡ Some (arc_value row) }
     {
         let glance = Glance::of(&row.conj);
+        let (told, middle) = glance.set_of(&row.conj);
         Kept {
             held: Held::Full {
-                extent: glance.extent,
-                low_part: low_part(row.id),
+                told,
+                low_part: low_part(row.id.0),
+                middle,
                 tests: glance.tests,
                 row,
             },
@@ -101,8 +99,8 @@ impl Kept {
         }
     }
 
-    /// The lower 16 bits of the row's id.
-    pub(crate) fn low_part(&self) -> u16
+    /// The lower 8 bits of the row's id.
+    pub(crate) fn low_part(&self) -> u8
         requires { IsSome self.now }
         ensures { option_map (λ row. low_part row.id.0) self.now ≡ Some result }
     {
@@ -126,7 +124,7 @@ impl Kept {
         ensures { option_map (λ row. attrs_of row.conj) self.now ≡ Some result }
     {
         match &self.held {
-            Held::Full { extent, tests, .. } => tests.attrs(*extent),
+            Held::Full { told, tests, .. } => tests.attrs(told.extent()),
             Held::Blank => unreachable!(),
         }
     }
@@ -138,11 +136,11 @@ impl Kept {
     {
         match &self.held {
             Held::Full {
-                extent,
+                told,
                 tests,
                 row,
                 ..
-            } => tests.has_attr(*extent, row, a),
+            } => tests.has_attr(told.extent(), row, a),
             Held::Blank => unreachable!(),
         }
     }
@@ -154,11 +152,12 @@ impl Kept {
     {
         match &self.held {
             Held::Full {
-                extent,
+                told,
+                middle,
                 tests,
                 row,
                 ..
-            } => tests.is_met(*extent, &row.conj, e),
+            } => tests.is_met(*told, *middle, &row.conj, e),
             Held::Blank => unreachable!(),
         }
     }
@@ -171,11 +170,11 @@ impl Kept {
     {
         match &self.held {
             Held::Full {
-                extent,
+                told,
                 tests,
                 row,
                 ..
-            } => tests.span(*extent, &row.conj, s, a),
+            } => tests.span(told.extent(), &row.conj, s, a),
             Held::Blank => unreachable!(),
         }
     }

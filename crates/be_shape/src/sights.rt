@@ -6,10 +6,12 @@ ghost use Rattle.be_model.specs.Matching.{attrs_of, values_of, is_assigned};
 ghost use Rattle.be_shape.specs.Glances.{has_in};
 ghost use Rattle.be_shape.specs.Ranges.{is_rising};
 ghost use Rattle.be_shape.specs.Search.{holds_value};
+ghost use Rattle.be_shape.specs.SmallSets.{may_be_any};
 ghost use Rattle.be_shape.specs.Sights.{AreSmall, clamped, overlaps, IsExact, IsHull, IsSight};
 
 use crate::glances::{Ends, has_in, is_in};
 use crate::ranges::{NodeRange, holds_value};
+use crate::small_sets::may_be;
 use be_base::AttrNo;
 use be_model::{Event, Values};
 use std::marker::Model;
@@ -136,6 +138,17 @@ impl<'a> Sight<'a> {
             overlaps(ends, self.hulls[usize::from(a.0)])
         } else {
             true
+        }
+    }
+
+    /// Whether a value of the attribute may be in the set of these ends, whose number between them has these lower bits.
+    pub(crate) fn may_be(&self, ends: Ends, middle: u8, a: AttrNo) -> bool
+        ensures { may_be_any ends middle (values_of self.now a) ≡ true → result ≡ true }
+    {
+        match self.only_value(a) {
+            Some(Some(v)) => may_be(ends, middle, v),
+            Some(None) => false,
+            None => true,
         }
     }
 

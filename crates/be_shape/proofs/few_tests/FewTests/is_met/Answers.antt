@@ -1,16 +1,19 @@
-use Rattle.std.proofs.Common.{◌≡◌, Bool, true, false, ◌&&◌, ◌||◌, refl, sym}
+use Rattle.std.proofs.Common.{◌≡◌, Bool, true, false, ◌&&◌, ◌||◌, refl}
 use Rattle.be_model.specs.Matching.{satisfies}
 use Rattle.be_shape.specs.Glances.{may_meet, is_whole}
+use Rattle.be_shape.specs.SmallSets.{extent_of, passes_told}
 use Rattle.be_shape.proofs.ToldTests.{told}
 use Rattle.be_shape.proofs.few_tests.FewTests.is_met.Goals as goal
 
-not_worth : (r m w s : Bool) → (m ≡ true → r ≡ true) → r ≡ false → s ≡ (m && w) → false ≡ s
-not_worth r true w s f h e = absurd (let k = f refl in cc)
-not_worth r false w s f h e = sym e
+not_met : (r m p w s : Bool) → (m ≡ true → p ≡ true → r ≡ true) → r ≡ false → (s ≡ true → p ≡ true) → s ≡ (m && (w || s)) → false ≡ s
+not_met r m p w false f h g e = refl
+not_met r false p w true f h g e = absurd (cc)
+not_met r true p w true f h g e = absurd (let k = f refl (g refl) in cc)
 
-pub returns-else-is_worth : goal.returns-else-is_worth
-returns-else-is_worth c =
+pub returns-else-may_be_met : goal.returns-else-may_be_met
+returns-else-may_be_met c =
     let e = c.args.e.now in
     let conj = c.args.conj.now in
     let tests = c.args.self.now in
-    not_worth c.is_worth.result (may_meet e tests) (is_whole c.args.extent || satisfies e conj) (satisfies e conj) c.is_worth.ensures c.if-is_worth.false (told e conj tests c.args.extent c.requires.told c.requires.form)
+    let extent = extent_of c.args.told in
+    not_met c.may_be_met.result (may_meet e tests) (passes_told c.args.told c.args.middle tests e) (is_whole extent) (satisfies e conj) c.may_be_met.ensures c.if-may_be_met.false (c.requires.set e) (told e conj tests extent c.requires.told c.requires.form)

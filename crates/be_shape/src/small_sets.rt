@@ -1,0 +1,60 @@
+//! What is told of a small set of numbers, one of which a row wants of an attribute, so that most events are refused without a
+//! look at the row.
+
+ghost use Rattle.std.specs.Prelude.{◌≡◌, ℤ, true, IfSome, unsigned_abs};
+ghost use Rattle.be_model.specs.Hulls.{first_of_values, last_of_values};
+ghost use Rattle.be_model.specs.Matching.{is_among};
+ghost use Rattle.be_shape.specs.Listed.{low_part};
+ghost use Rattle.be_shape.specs.SmallSets.{extent_of, may_be};
+
+use crate::glances::{Ends, Extent};
+use be_model::Values;
+
+/// How much of a row its tests are, and which of them is of a set of at most three numbers, where one is told.
+#[derive(Clone, Copy)]
+pub(crate) enum Told {
+    AsWhole,
+    AsFew,
+    AsPart,
+    FirstIsSet,
+    SecondIsSet,
+    ThirdIsSet,
+}
+
+impl Told {
+    pub(crate) fn extent(self) -> Extent
+        ensures { result ≡ extent_of self }
+    {
+        match self {
+            Told::AsWhole => Extent::Whole,
+            Told::AsPart => Extent::Part,
+            Told::AsFew | Told::FirstIsSet | Told::SecondIsSet | Told::ThirdIsSet => Extent::Few,
+        }
+    }
+}
+
+/// The lower 8 bits. Most other numbers have others.
+pub(crate) fn low_part(n: u64) -> u8
+    ensures { result ≡ low_part n }
+{
+    (n % 256) as u8
+}
+
+/// Whether the number may be in the set of these ends, whose number between them has these lower bits.
+pub(crate) fn may_be(ends: Ends, middle: u8, v: i64) -> bool
+    ensures { result ≡ may_be ends middle v }
+{
+    ends.0 as i64 == v || ends.1 as i64 == v || low_part(v.unsigned_abs()) == middle
+}
+
+/// The lower bits of the number between the ends of a set, where it has at most three.
+pub(crate) fn middle_of(xs: &Values) -> Option<u8>
+    ensures { IfSome result (λ m. (v : ℤ) → is_among xs.now v ≡ true → may_be (first_of_values xs.now, last_of_values xs.now) m v ≡ true) }
+{
+    match xs.as_slice() {
+        [x] => Some(low_part(x.unsigned_abs())),
+        [x, _] => Some(low_part(x.unsigned_abs())),
+        [_, x, _] => Some(low_part(x.unsigned_abs())),
+        _ => None,
+    }
+}
