@@ -8,5 +8,4 @@ pub mod Lengths
 pub mod Feeding
 pub mod OneMeaning
 pub mod Answering
-pub mod Handing
-pub mod Reading
+pub mod AllDue

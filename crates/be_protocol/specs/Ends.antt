@@ -1,11 +1,11 @@
--- How a session ends, and by which reply.
+-- How a conversation ends, and by which reply.
 use Rattle.std.specs.Prelude.{◌≡◌, Bool, true, false, List, [], ◌∷◌, ◌++◌, Option, Some, None}
 use Rattle.std.specs.List.{list_all}
 use Rattle.be_io.specs.declared.faults.SinkFault.{SinkFault}
 use Rattle.be_io.specs.declared.faults.SinkFault.TheVariants as sink
 use Rattle.be_change.specs.Requests.{Request, quit, Reply, split, Exchange}
-use Rattle.be_session.specs.declared.serve.SessionEnd.{SessionEnd}
-use Rattle.be_session.specs.declared.serve.SessionEnd.TheVariants.{Quit, Split, WriteFault, NoMemory}
+use Rattle.be_protocol.specs.declared.ends.SessionEnd.{SessionEnd}
+use Rattle.be_protocol.specs.declared.ends.SessionEnd.TheVariants.{Quit, Split, WriteFault, NoMemory}
 
 -- a SPLIT ends its session, and so does each reply to a QUIT
 abbrev pub end_after : Request → Reply → Option SessionEnd
