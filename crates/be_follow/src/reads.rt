@@ -11,6 +11,7 @@ ghost use Rattle.be_protocol.specs.Conduct.{GivesReply};
 ghost use Rattle.be_protocol.specs.Conversation.{TakesWithin, KeepsBeside};
 ghost use Rattle.be_protocol.specs.Replies.{reply_text};
 ghost use Rattle.be_protocol.specs.Requests.{plain_refusal};
+ghost use Rattle.be_follow.specs.Asked.{plain_ask, ask_lies};
 ghost use Rattle.be_follow.specs.Reads.{ReadsEnd, reads_conduct};
 
 use crate::asking::{Ask, read_ask};
@@ -97,9 +98,7 @@ impl<'a, I: Index> Replier for AskedFollower<'a, I> {
 
     fn answer<K: Sink>(&mut self, text: &[u8], out: &mut K) -> Turn {
         match read_ask(self.follower.alloc(), self.follower.schema(), text) {
-            Ok(Ask::Publish(event)) => publish(self.follower, &mut self.room, &event, out),
-            Ok(Ask::Quit) => quit(self.follower, out),
-            Ok(Ask::Refused(refusal)) => refuse(out, refusal),
+            Ok(ask) => answer(self.follower, &mut self.room, ask, out),
             Err(NoMemory) => want(out),
         }
     }
@@ -111,6 +110,25 @@ impl<'a, I: Index> Replier for AskedFollower<'a, I> {
     fn tend(&mut self) {}
 
     fn leave(&mut self) {}
+}
+
+// Answers what was asked.
+fn answer<I: Index, K: Sink>(
+    follower: &Follower<I>,
+    room: &mut Room,
+    ask: Ask,
+    out: &mut K,
+) -> Turn
+    requires { ask_lies follower.now.schema ask ≡ true }
+    ensures gives { GivesReply (reads_conduct follower.now.schema) (plain_ask ask) follower.now.fed.list follower.now.fed.list
+        (sink_state K.Sink out.old) (sink_state K.Sink out.new) result.by result.written }
+    ensures beside { K.kept_by_write out.new ≡ K.kept_by_write out.old }
+{
+    match ask {
+        Ask::Publish(event) => publish(follower, room, &event, out),
+        Ask::Quit => quit(follower, out),
+        Ask::Refused(refusal) => refuse(out, refusal),
+    }
 }
 
 fn publish<I: Index, K: Sink>(

@@ -22,7 +22,7 @@ use Rattle.be_protocol.specs.declared.ends.SessionEnd.{SessionEnd}
 use Rattle.be_protocol.specs.declared.ends.SessionEnd.TheVariants as ends
 use Rattle.be_protocol.specs.declared.replier.Turn.{Turn}
 use Rattle.be_protocol.proofs.LinesGoing.{read_to_end, read_in_part, first_lines, spent, rises-along}
-use Rattle.be_protocol.proofs.Going.{trace_push, texts-push, one_more, written_with}
+use Rattle.be_protocol.proofs.Going.{trace_push, turn_is, texts-push, one_more, written_with}
 
 -- the output broke off at a reply behind these
 broke_off_at : (s : Attributes) (ps : List Exchange) (p : Exchange) (fault : SinkFault) (out : List ℕ) (before after : SinkState) → StopsAt (reply_text s p.1) fault out before after
@@ -170,26 +170,29 @@ module _ {S : Type 0} (U : Type 0) (m : Conduct S) (link : LinkState) (a : S) (b
   by_fault NoMemory r c = inr (r, c)
 
   -- the output broke off, and the replier left where the reply didn't end the conversation
-  pub ended_cut : (by : Option SessionEnd) (fault : SinkFault) (end : SessionEnd) → Turned (GivenOn m before after) before after (Ok (record { by = by; written = Err fault })) → LeavesIf m (is_on by) after.state d → end ≡ end_of fault
+  pub ended_cut : (turn : Turn) (fault : SinkFault) (end : SessionEnd) → Turned (GivenOn m before after) before after (Ok turn) → turn.written ≡ Err fault → LeavesIf m (is_on turn.by) after.state d → end ≡ end_of fault
       → ConversationEnds U (leading m a d) link after.link end
-  ended_cut by fault end (line, took, c) leaves is =
-      subst (ConversationEnds U (leading m a d) link after.link) (sym is) (by_fault fault (risen fault c.wrote.refused) (cut_short fault by line took c leaves))
+  ended_cut turn fault end (line, took, given) wrote leaves is =
+      let c : GivenOn m before after line (record { by = turn.by; written = Err fault }) = subst (GivenOn m before after line) (turn_is turn turn.by (Err fault) refl wrote) given in
+      subst (ConversationEnds U (leading m a d) link after.link) (sym is) (by_fault fault (risen fault c.wrote.refused) (cut_short fault turn.by line took c leaves))
 
   -- a reply ended the conversation
-  pub ended_so : (end : SessionEnd) → Turned (GivenOn m before after) before after (Ok (record { by = Some end; written = Ok tt })) → d ≡ after.state → ConversationEnds U (leading m a d) link after.link end
-  ended_so end (line, took, given) still = by_end end (by_its_reply (m.asks line) given.0.reply) given.0.ends (ended_by_reply end line took still given)
+  pub ended_so : (turn : Turn) (end : SessionEnd) → Turned (GivenOn m before after) before after (Ok turn) → turn.by ≡ Some end → turn.written ≡ Ok tt → d ≡ after.state → ConversationEnds U (leading m a d) link after.link end
+  ended_so turn end (line, took, given) by wrote still =
+      let c : GivenOn m before after line (record { by = Some end; written = Ok tt }) = subst (GivenOn m before after line) (turn_is turn (Some end) (Ok tt) by wrote) given in
+      by_end end (by_its_reply (m.asks line) c.0.reply) c.0.ends (ended_by_reply end line took still c)
     where
       other : (o : Option SessionEnd) (end : SessionEnd) → gives_end o ≡ true → o ≡ Some end → is_by_reply end ≡ false → ⊥
-      other o end yes is no = let f : true ≡ false = sym yes ∙ (ap gives_end is ∙ no) in absurd cc
+      other o end by is off = let f : true ≡ false = sym by ∙ (ap gives_end is ∙ off) in absurd cc
 
       by_end : (end : SessionEnd) {o : Option SessionEnd} → gives_end o ≡ true → o ≡ Some end → EndedByReply (leading m a d) end link after.link → ConversationEnds U (leading m a d) link after.link end
-      by_end ends.Quit yes is e = e
-      by_end (ends.Split i j) yes is e = e
-      by_end ends.Eof {o} yes is e = absurd (other o ends.Eof yes is refl)
-      by_end ends.ReadFault {o} yes is e = absurd (other o ends.ReadFault yes is refl)
-      by_end ends.WriteFault {o} yes is e = absurd (other o ends.WriteFault yes is refl)
-      by_end ends.Spent {o} yes is e = absurd (other o ends.Spent yes is refl)
-      by_end ends.NoMemory {o} yes is e = absurd (other o ends.NoMemory yes is refl)
+      by_end ends.Quit by is e = e
+      by_end (ends.Split i j) by is e = e
+      by_end ends.Eof {o} by is e = absurd (other o ends.Eof by is refl)
+      by_end ends.ReadFault {o} by is e = absurd (other o ends.ReadFault by is refl)
+      by_end ends.WriteFault {o} by is e = absurd (other o ends.WriteFault by is refl)
+      by_end ends.Spent {o} by is e = absurd (other o ends.Spent by is refl)
+      by_end ends.NoMemory {o} by is e = absurd (other o ends.NoMemory by is refl)
 
 -- what stands beside reads and writes, from turn to turn
 pub kept_along : (a b c : KeptByRead) → KeepsBeside a b → KeepsBeside b c → KeepsBeside a c

@@ -1,5 +1,5 @@
 -- The turns of a conversation, one after another.
-use Rattle.std.proofs.Common.{◌≡◌, inl, inr, ℕ, ◌≤◌, Bool, true, false, not, List, [], ◌∷◌, ◌++◌, map, Option, Some, None, Ok, refl, sym, ap, ◌∙◌, subst, arith}
+use Rattle.std.proofs.Common.{◌≡◌, inl, inr, ℕ, ◌≤◌, Bool, true, false, not, List, [], ◌∷◌, ◌++◌, map, Option, Some, None, Result, Ok, refl, sym, ap, ◌∙◌, subst, arith}
 use Rattle.std.specs.List.{list_all}
 use Rattle.std.proofs.lemmas.List.{map_push, append-nil}
 use Rattle.std.proofs.lemmas.List.Concat.{flat_map-append}
@@ -9,6 +9,7 @@ use Rattle.be_io.specs.Told.{WhereTold, HoldsMore}
 use Rattle.be_io.specs.Lines.{TextLine, has_lf}
 use Rattle.be_io.specs.Outside.{LinkState}
 use Rattle.be_io.specs.Reader.{ReaderState}
+use Rattle.be_io.specs.declared.faults.SinkFault.{SinkFault}
 use Rattle.be_io.proofs.ToldLemmas.{HoldsMore-append, HoldsMore-nil}
 use Rattle.be_model.specs.Schemas.{Attributes}
 use Rattle.be_change.specs.Requests.{Request, Reply, Exchange}
@@ -56,11 +57,14 @@ written_with m link a before after g r by w =
     subst (λ (x : List ℕ). HoldsMore link.sink.held after.link.sink.held x) (sym (texts-push m.schema g.ps (r, w.reply)))
     (HoldsMore-append link.sink.held before.link.sink.held after.link.sink.held (texts m.schema g.ps) (reply_text m.schema w.reply) g.written w.written)
 
+pub turn_is : (turn : Turn) (by : Option SessionEnd) (written : Result (Unit {0}) SinkFault) → turn.by ≡ by → turn.written ≡ written → turn ≡ record { by = by; written = written }
+turn_is turn by written e f = ap (λ (o : Option SessionEnd). record turn { by = o }) e ∙ ap (λ (w : Result (Unit {0}) SinkFault). record turn { by = by; written = w }) f
+
 -- one more turn, behind which it may have been tended
 pub going_on : {S : Type 0} (m : Conduct S) (link : LinkState) (a : S) (before after : TurnState S) (d : S) (turn : Turn) → IsGoingOn m link a before → Turned (GivenOn m before after) before after (Ok turn) → turn.by ≡ None → turn.written ≡ Ok tt
     → TakesAlike before.reader.taken after.reader.taken before.link.source.taken after.link.source.taken → Rests m after.state d → IsGoingOn m link a (record after { state = d })
 going_on m link a before after d turn g (line, took, given) goes wrote t rests =
-    let x : GivenOn m before after line (record { by = None; written = Ok tt }) = subst (GivenOn m before after line) (same turn goes wrote) given in
+    let x : GivenOn m before after line (record { by = None; written = Ok tt }) = subst (GivenOn m before after line) (turn_is turn None (Ok tt) goes wrote) given in
     let w = x.0 in
     let p : Exchange = (m.asks line, w.reply) in
     let one = one_more m link a before after g line w.reply took in
@@ -82,9 +86,6 @@ going_on m link a before after d turn g (line, took, given) goes wrote t rests =
   where
     none_left : (n m : ℕ) → n ≡ 0 → n ≤ m
     none_left n m e = omega (arith, e)
-
-    same : (turn : Turn) → turn.by ≡ None → turn.written ≡ Ok tt → turn ≡ record { by = None; written = Ok tt }
-    same turn e f = rw (e, f) refl
 
 -- no line was answered yet
 pub going_first : {S : Type 0} (m : Conduct S) (link : LinkState) (a : S) (r : ReaderState) → r ≡ new_reader → IsGoingOn m link a (record { reader = r; link = link; state = a })

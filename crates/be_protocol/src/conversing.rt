@@ -72,15 +72,19 @@ pub fn converse<A: Replier, L: Link, G: Gate>(
                 replier.leave();
                 return end;
             }
-            Ok(Turn { by, written: Err(fault) }) => {
-                leave_unless(replier, by);
-                return end_of(fault);
-            }
-            Ok(Turn { by: Some(end), .. }) => return end,
-            Ok(Turn { by: None, .. }) => {
-                lines += 1;
-                tend_behind(replier, lines);
-            }
+            Ok(turn) => match turn.written {
+                Err(fault) => {
+                    leave_unless(replier, turn.by);
+                    return end_of(fault);
+                }
+                Ok(()) => match turn.by {
+                    Some(end) => return end,
+                    None => {
+                        lines += 1;
+                        tend_behind(replier, lines);
+                    }
+                },
+            },
         }
     }
 }

@@ -159,3 +159,6 @@ pub session_left : (U : Type 0) (s : Attributes) (b d : BoardState) (before afte
 session_left U s b d before after end untouched first e =
     ends_give U (leading (session_conduct s) b d) (BoardLeft b d) before after end (λ u. subst (BoardLeft b) (sym (untouched u)) (same_left b))
     (λ by lines ps ends l. led_left s by ps b d first ends l) (λ lines ps p out ends l. led_left_in_part s ps p out b d first ends l) e
+
+pub one_reference : (x y : ℕ) → x ∷ [] ≡ y ∷ [] → x ≡ y
+one_reference x y e = cc
