@@ -1,25 +1,17 @@
--- What a line asks of a follower, and a reply that was written.
+-- What a line asks of a follower.
 use Rattle.std.proofs.Common.{◌≡◌, ◌⊎◌, inl, inr, if◌then◌else◌, Bool, true, false, List, [], ◌∷◌, take, Option, Some, None, Result, Ok, Err, codes, refl, sym, subst}
 use Rattle.std.proofs.lemmas.Bool.{or_cases}
 use Rattle.be_base.specs.Text.{Text, same_text}
 use Rattle.be_base.specs.Tokens.{Lexeme, word, put_token}
 use Rattle.be_base.proofs.SameText.{equal_from_same_text}
-use Rattle.be_io.specs.Sink.{SinkState, Wrote}
-use Rattle.be_io.specs.declared.faults.SinkFault.{SinkFault}
 use Rattle.be_model.specs.Matching.{Assignments}
 use Rattle.be_model.specs.Schemas.{Attributes}
 use Rattle.be_event.specs.declared.events.EventFault.{EventFault}
 use Rattle.be_event.specs.Events.{event_of}
-use Rattle.be_change.specs.History.{Entry}
 use Rattle.be_change.specs.Requests.{Request, subscribe, publish, costing, sending, quit, Reply}
 use Rattle.be_protocol.specs.Readings.{request_of, asking_of, of_event, alone, Command, commanded_by}
-use Rattle.be_protocol.specs.Replies.{reply_text}
-use Rattle.be_session.specs.declared.serve.SessionEnd.{SessionEnd}
-use Rattle.be_session.specs.Ends.{end_after}
 use Rattle.be_protocol.specs.Requests.{TakesMemory}
-use Rattle.be_session.proofs.LineTurns.{cut_text}
-use Rattle.be_follow.specs.Asked.{asked_of, answered, is_command, IsDue}
-use Rattle.be_follow.specs.Reads.{Whole, InPart}
+use Rattle.be_follow.specs.Asked.{asked_of, answered, is_command}
 
 event_kept : (r : Result Assignments EventFault) (s : Attributes) → answered (asking_of publish s r) ≡ asking_of publish s r
 event_kept (Ok e) s = refl
@@ -62,13 +54,3 @@ only_events s (Some (word w ∷ ts)) t = by_request (asked_of s (Some (word w �
     by_request (sending e) kept t = absurd cc
     by_request _ kept t = absurd t
 only_events s (Some (_ ∷ ts)) t = absurd t
-
--- a reply that was written whole
-pub whole_reply : (s : Attributes) (h : List Entry) (r : Request) (reply : Reply) (end : Option SessionEnd) (before after : SinkState) → IsDue h r reply → Wrote before after (reply_text s reply) (Ok tt) → end_after r reply ≡ end → Whole s h r end before after
-whole_reply s h r reply end before after due wrote ends = record { reply = reply; due = due; written = wrote.0; faults = wrote.1; refusals = wrote.2; ends = ends }
-
--- and in part
-pub part_reply : (s : Attributes) (h : List Entry) (r : Request) (reply : Reply) (fault : SinkFault) (before after : SinkState) → IsDue h r reply → Wrote before after (reply_text s reply) (Err fault) → InPart s h r fault before after
-part_reply s h r reply fault before after due wrote =
-    let cut = cut_text (reply_text s reply) fault before after wrote in
-    record { reply = reply; due = due; out = take cut.0 (reply_text s reply); wrote = cut.1 }

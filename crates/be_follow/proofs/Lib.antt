@@ -10,5 +10,4 @@ pub mod Feeding
 pub mod Capturing
 pub mod OneMeaning
 pub mod Answering
-pub mod Handing
-pub mod Reading
+pub mod AllDue

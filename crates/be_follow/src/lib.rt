@@ -2,8 +2,8 @@
 //!
 //! Its contract: the list is what all bytes that were taken mean, however they were cut, up to the first faulty line; over a
 //! leader's bytes it is a beginning of the leader's list. Another list can take the place of the follower's own (`FeedList`, into
-//! which an `Intake` puts a feed). It stands on be_copy, on be_expr for the texts of changes, on
-//! be_protocol for lines and replies and on be_session for how a session ends. Begin with specs/Feeds, then specs/Followers.
+//! which an `Intake` puts a feed). It stands on be_copy, on be_expr for the texts of changes, and on be_protocol for lines, replies
+//! and conversations. Begin with specs/Feeds, then specs/Followers.
 #![tactic(auto)]
 
 mod asking;

@@ -1,29 +1,28 @@
 //! Events answered from a follower's list: a reply for each line, until a QUIT, the end of the input or a fault.
 
-ghost use Rattle.std.specs.Prelude.{◌≡◌, ◌+◌, ◌<◌, ◌≤◌, length, true, List, None, OnOk};
-ghost use Rattle.be_base.specs.declared.limits.TheConstants.{SOURCE_BYTES};
-ghost use Rattle.be_io.specs.Lines as line;
+ghost use Rattle.std.specs.Prelude.{◌≡◌, length, true, List, OnOk};
 ghost use Rattle.be_io.specs.Outside.{link_state, sink_state};
 ghost use Rattle.be_model.specs.Lies.{event_lies};
 ghost use Rattle.be_model.specs.Matching.{Assignments};
 ghost use Rattle.be_model.specs.Schemas.{Attributes};
 ghost use Rattle.be_change.specs.History.{Entry, hits};
 ghost use Rattle.be_change.specs.Requests as asked;
+ghost use Rattle.be_protocol.specs.Conduct.{GivesReply};
+ghost use Rattle.be_protocol.specs.Conversation.{TakesWithin, KeepsBeside};
 ghost use Rattle.be_protocol.specs.Replies.{reply_text};
 ghost use Rattle.be_protocol.specs.Requests.{plain_refusal};
-ghost use Rattle.be_session.specs.Served.{TakesWithin, KeepsBeside};
-ghost use Rattle.be_session.specs.Turns.{IsReading, TakesAlike};
-ghost use Rattle.be_follow.specs.Asked.{asked, plain_ask, ask_lies};
-ghost use Rattle.be_follow.specs.Reads.{ReadsEnd, Answers, Turned, TurnTaken, reading_over, end_by, end_then};
+ghost use Rattle.be_follow.specs.Asked.{plain_ask, ask_lies};
+ghost use Rattle.be_follow.specs.Reads.{ReadsEnd, reads_conduct};
 
 use crate::asking::{Ask, read_ask};
 use crate::follower::Follower;
-use be_base::{LINE_BYTES, NoMemory};
+use be_base::NoMemory;
 use be_index::Index;
-use be_io::{Line, LineFault, LineReader, Link, Sink, SinkFault, write_all};
+use be_io::{Link, NoGate, Sink, write_all};
 use be_model::{Event, Found};
-use be_protocol::{Naming, Refusal, Short, say, write_names};
-use be_session::{SessionEnd, hand_over};
+use be_protocol::{
+    Naming, Refusal, Replier, SessionEnd, Short, Turn, converse, say, write_names,
+};
 use std::alloc::Global;
 
 // What was found for a reply, and its text.
@@ -67,101 +66,50 @@ pub fn serve_reads<I: Index, L: Link>(follower: &Follower<I>, link: &mut L) -> S
     // All bytes that the link gives from first to last, and the objects that it borrows, are the same ones.
     ensures beside { KeepsBeside (L.kept_by_read link.old) (L.kept_by_read link.new) }
 {
-    let Ok(mut reader) = LineReader::make(follower.alloc(), LINE_BYTES) else {
-        return SessionEnd::NoMemory;
+    let alloc = follower.alloc();
+    let mut asked = AskedFollower {
+        follower,
+        room: Room::make(alloc),
     };
-    let mut room = Room::make(follower.alloc());
-    'lines: loop {
-        match next_turn(follower, &mut room, &mut reader, link) {
-            None => {}
-            Some(end) => return end,
+    converse(alloc, &mut asked, link, &NoGate, 0)
+}
+
+// A follower that answers lines, over the room for its replies.
+#[derive(Drop)]
+struct AskedFollower<'a, I: Index> {
+    follower: &'a Follower<I>,
+    room: Room,
+}
+
+impl<'a, I: Index> Replier for AskedFollower<'a, I> {
+    ghost use Rattle.std.specs.Prelude.{List, []};
+    ghost use Rattle.be_change.specs.History.{Entry};
+    ghost use Rattle.be_follow.specs.Reads.{reads_conduct};
+
+    ghost State = { List Entry };
+
+    ghost state = { λ a. a.follower.now.fed.list };
+
+    ghost kept = { λ a. record { schema = a.follower.now.schema; references = [] } };
+
+    ghost conduct = { reads_conduct };
+
+    ghost IsReady = { λ a. Unit {0} };
+
+    fn answer<K: Sink>(&mut self, text: &[u8], out: &mut K) -> Turn {
+        match read_ask(self.follower.alloc(), self.follower.schema(), text) {
+            Ok(ask) => answer(self.follower, &mut self.room, ask, out),
+            Err(NoMemory) => want(out),
         }
     }
-}
 
-// Takes a turn and hands on what was written, before a read that may wait and at the end.
-fn next_turn<I: Index, L: Link>(
-    follower: &Follower<I>,
-    room: &mut Room,
-    reader: &mut LineReader,
-    link: &mut L,
-) -> Option<SessionEnd>
-    requires reads { IsReading reader.old }
-    ensures turned { TurnTaken follower.now.schema follower.now.fed.list
-        (reading_over reader.old (link_state L.Source L.Sink link.old))
-        (reading_over reader.new (link_state L.Source L.Sink link.new)) result }
-    ensures alike { TakesAlike reader.old.taken reader.new.taken (L.taken link.old) (L.taken link.new) }
-    ensures progress { result ≡ None → length reader.new.unread + reader.old.taken < length reader.old.unread + reader.new.taken }
-    ensures bound { reader.new.taken ≤ SOURCE_BYTES }
-    ensures beside { KeepsBeside (L.kept_by_read link.old) (L.kept_by_read link.new) }
-{
-    let answered = take_turn(follower, room, reader, link);
-    end_then(answered, hand_over(link, reader.has_line(), answered))
-}
-
-// How an answer ends the reading, once what was written was handed on.
-fn end_then(answered: Option<SessionEnd>, handed: Result<(), SinkFault>) -> Option<SessionEnd>
-    ensures { result ≡ end_then answered handed }
-{
-    match handed {
-        Ok(()) => answered,
-        Err(SinkFault::Failed) => Some(SessionEnd::WriteFault),
-        Err(SinkFault::NoMemory) => Some(SessionEnd::NoMemory),
+    fn refuse_long<K: Sink>(&mut self, out: &mut K) -> Turn {
+        refuse(out, Refusal::Long)
     }
-}
 
-// Reads the next line and answers it.
-fn take_turn<I: Index, L: Link>(
-    follower: &Follower<I>,
-    room: &mut Room,
-    reader: &mut LineReader,
-    link: &mut L,
-) -> Option<SessionEnd>
-    requires reads { IsReading reader.old }
-    ensures turned { Turned follower.now.schema follower.now.fed.list
-        (reading_over reader.old (link_state L.Source L.Sink link.old))
-        (reading_over reader.new (link_state L.Source L.Sink link.new)) result }
-    ensures alike { TakesAlike reader.old.taken reader.new.taken (L.taken link.old) (L.taken link.new) }
-    ensures progress { result ≡ None → length reader.new.unread + reader.old.taken < length reader.old.unread + reader.new.taken }
-    ensures bound { reader.new.taken ≤ SOURCE_BYTES }
-    ensures beside { KeepsBeside (L.kept_by_read link.old) (L.kept_by_read link.new) }
-{
-    match reader.next(link) {
-        Ok(Line::End) => Some(SessionEnd::Eof),
-        Ok(Line::Long { .. }) => end_by(refuse(link, Refusal::Long)),
-        Ok(Line::Text) => end_by(answer_line(follower, room, reader.text(), link)),
-        Err(LineFault::ReadFault) => Some(SessionEnd::ReadFault),
-        Err(LineFault::Spent) => Some(SessionEnd::Spent),
-    }
-}
+    fn tend(&mut self) {}
 
-// How an answer ends the reading, where it does.
-fn end_by(answer: Result<bool, SinkFault>) -> Option<SessionEnd>
-    ensures { result ≡ end_by answer }
-{
-    match answer {
-        Ok(false) => None,
-        Ok(true) => Some(SessionEnd::Quit),
-        Err(SinkFault::Failed) => Some(SessionEnd::WriteFault),
-        Err(SinkFault::NoMemory) => Some(SessionEnd::NoMemory),
-    }
-}
-
-// Answers one line of text, and says whether it was a QUIT.
-fn answer_line<I: Index, K: Sink>(
-    follower: &Follower<I>,
-    room: &mut Room,
-    text: &[u8],
-    out: &mut K,
-) -> Result<bool, SinkFault>
-    ensures answers { Answers follower.now.schema follower.now.fed.list (asked follower.now.schema (line.text text.now))
-        (sink_state K.Sink out.old) (sink_state K.Sink out.new) result }
-    ensures beside { K.kept_by_write out.new ≡ K.kept_by_write out.old }
-{
-    match read_ask(follower.alloc(), follower.schema(), text) {
-        Ok(ask) => answer(follower, room, ask, out),
-        Err(NoMemory) => want(out),
-    }
+    fn leave(&mut self) {}
 }
 
 // Answers what was asked.
@@ -170,10 +118,10 @@ fn answer<I: Index, K: Sink>(
     room: &mut Room,
     ask: Ask,
     out: &mut K,
-) -> Result<bool, SinkFault>
+) -> Turn
     requires { ask_lies follower.now.schema ask ≡ true }
-    ensures answers { Answers follower.now.schema follower.now.fed.list (plain_ask ask)
-        (sink_state K.Sink out.old) (sink_state K.Sink out.new) result }
+    ensures gives { GivesReply (reads_conduct follower.now.schema) (plain_ask ask) follower.now.fed.list follower.now.fed.list
+        (sink_state K.Sink out.old) (sink_state K.Sink out.new) result.by result.written }
     ensures beside { K.kept_by_write out.new ≡ K.kept_by_write out.old }
 {
     match ask {
@@ -188,52 +136,52 @@ fn publish<I: Index, K: Sink>(
     room: &mut Room,
     event: &Event,
     out: &mut K,
-) -> Result<bool, SinkFault>
+) -> Turn
     requires { event_lies follower.now.schema event.now ≡ true }
-    ensures answers { Answers follower.now.schema follower.now.fed.list (asked.publish event.now)
-        (sink_state K.Sink out.old) (sink_state K.Sink out.new) result }
+    ensures gives { GivesReply (reads_conduct follower.now.schema) (asked.publish event.now) follower.now.fed.list follower.now.fed.list
+        (sink_state K.Sink out.old) (sink_state K.Sink out.new) result.by result.written }
     ensures beside { K.kept_by_write out.new ≡ K.kept_by_write out.old }
 {
     match room.hits(follower, event) {
-        Ok(()) => match write_all(out, room.reply.as_slice()) {
-            Ok(()) => Ok(false),
-            Err(fault) => Err(fault),
+        Ok(()) => Turn {
+            by: None,
+            written: write_all(out, room.reply.as_slice()),
         },
         Err(NoMemory) => want(out),
     }
 }
 
-fn quit<I: Index, K: Sink>(follower: &Follower<I>, out: &mut K) -> Result<bool, SinkFault>
-    ensures answers { Answers follower.now.schema follower.now.fed.list asked.quit
-        (sink_state K.Sink out.old) (sink_state K.Sink out.new) result }
+fn quit<I: Index, K: Sink>(follower: &Follower<I>, out: &mut K) -> Turn
+    ensures gives { GivesReply (reads_conduct follower.now.schema) asked.quit follower.now.fed.list follower.now.fed.list
+        (sink_state K.Sink out.old) (sink_state K.Sink out.new) result.by result.written }
     ensures beside { K.kept_by_write out.new ≡ K.kept_by_write out.old }
 {
-    match say(out, Short::Bye { n: follower.len() }) {
-        Ok(()) => Ok(true),
-        Err(fault) => Err(fault),
+    Turn {
+        by: Some(SessionEnd::Quit),
+        written: say(out, Short::Bye { n: follower.len() }),
     }
 }
 
 // Answers a line that asks nothing.
-fn refuse<K: Sink>(out: &mut K, refusal: Refusal) -> Result<bool, SinkFault>
-    ensures answers { (s : Attributes) (h : List Entry) → Answers s h (asked.refused (plain_refusal refusal))
-        (sink_state K.Sink out.old) (sink_state K.Sink out.new) result }
+fn refuse<K: Sink>(out: &mut K, refusal: Refusal) -> Turn
+    ensures gives { (s : Attributes) (h : List Entry) → GivesReply (reads_conduct s) (asked.refused (plain_refusal refusal)) h h
+        (sink_state K.Sink out.old) (sink_state K.Sink out.new) result.by result.written }
     ensures beside { K.kept_by_write out.new ≡ K.kept_by_write out.old }
 {
-    match say(out, Short::Refused(refusal)) {
-        Ok(()) => Ok(false),
-        Err(fault) => Err(fault),
+    Turn {
+        by: None,
+        written: say(out, Short::Refused(refusal)),
     }
 }
 
 // Says that memory was wanting to a PUB.
-fn want<K: Sink>(out: &mut K) -> Result<bool, SinkFault>
-    ensures answers { (s : Attributes) (h : List Entry) (e : Assignments) → Answers s h (asked.publish e)
-        (sink_state K.Sink out.old) (sink_state K.Sink out.new) result }
+fn want<K: Sink>(out: &mut K) -> Turn
+    ensures gives { (s : Attributes) (h : List Entry) (e : Assignments) → GivesReply (reads_conduct s) (asked.publish e) h h
+        (sink_state K.Sink out.old) (sink_state K.Sink out.new) result.by result.written }
     ensures beside { K.kept_by_write out.new ≡ K.kept_by_write out.old }
 {
-    match say(out, Short::NoMemory) {
-        Ok(()) => Ok(false),
-        Err(fault) => Err(fault),
+    Turn {
+        by: None,
+        written: say(out, Short::NoMemory),
     }
 }

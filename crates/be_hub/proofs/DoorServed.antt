@@ -22,8 +22,8 @@ use Rattle.be_desk.specs.Seats.{SeatState, first_seat, IsKeptSeat}
 use Rattle.be_door.specs.Counts.{CountState, sums_of, with_counts, all_kept}
 use Rattle.be_door.specs.Door.{DoorState, IsOf, AreAllCounts}
 use Rattle.be_door.specs.Sums.{no_sums}
-use Rattle.be_session.specs.declared.serve.SessionEnd.{SessionEnd}
-use Rattle.be_session.specs.declared.serve.SessionEnd.TheVariants.{Eof, Quit, ReadFault, WriteFault, Spent, Split, NoMemory}
+use Rattle.be_protocol.specs.declared.ends.SessionEnd.{SessionEnd}
+use Rattle.be_protocol.specs.declared.ends.SessionEnd.TheVariants.{Eof, Quit, ReadFault, WriteFault, Spent, Split, NoMemory}
 use Rattle.be_hub.specs.Closing.{KeepsAll}
 use Rattle.be_hub.specs.Files.{lacks_memory, is_split_end}
 use Rattle.be_hub.specs.Links.{MayStart, session_at, IsCounted, IsOfLink, SeatVisit, WorkerServed}

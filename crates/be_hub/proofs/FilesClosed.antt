@@ -13,8 +13,8 @@ use Rattle.be_change.specs.History.{Entry, IsWellFormed}
 use Rattle.be_desk.specs.Closing.{AreRecorded}
 use Rattle.be_desk.specs.Desks.{IsOpened}
 use Rattle.be_desk.specs.Seats.{SeatState, first_seat, IsKeptSeat}
-use Rattle.be_session.specs.declared.serve.SessionEnd.{SessionEnd}
-use Rattle.be_session.specs.declared.serve.SessionEnd.TheVariants.{Eof, Quit, ReadFault, WriteFault, Spent, Split, NoMemory}
+use Rattle.be_protocol.specs.declared.ends.SessionEnd.{SessionEnd}
+use Rattle.be_protocol.specs.declared.ends.SessionEnd.TheVariants.{Eof, Quit, ReadFault, WriteFault, Spent, Split, NoMemory}
 use Rattle.be_hub.specs.Closing.{KeepsAll}
 use Rattle.be_hub.specs.Files.{FileServed, IsFileEnd, IsRead, lacks_memory, is_split_end, IsEndOf}
 use Rattle.be_hub.specs.Transcripts.{IsTranscript, AreServed}

@@ -14,7 +14,7 @@ use Rattle.be_model.specs.Schemas.{Attributes}
 use Rattle.be_desk.specs.Seats.{SeatState}
 use Rattle.be_desk.specs.declared.desk.TheConstants.{SESSIONS_END}
 use Rattle.be_door.specs.Counts.{CountState, sums_of, new_count, after_given, after_failed, after_refused, after_end}
-use Rattle.be_session.specs.declared.serve.SessionEnd.{SessionEnd}
+use Rattle.be_protocol.specs.declared.ends.SessionEnd.{SessionEnd}
 use Rattle.be_hub.specs.Files.{is_split_end}
 use Rattle.be_hub.specs.Links.{session_at, IsCounted, IsOfLink, LinksServed}
 use Rattle.be_hub.specs.declared.links.TheConstants.{FIRST_END}

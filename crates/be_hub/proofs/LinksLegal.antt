@@ -22,9 +22,10 @@ use Rattle.be_board.specs.State.{BoardState}
 use Rattle.be_board.specs.Word.{Keeps, own_of, IsDelivered}
 use Rattle.be_desk.specs.Boards.{board_of}
 use Rattle.be_desk.specs.Seats.{SeatState, word_of}
-use Rattle.be_session.specs.declared.serve.SessionEnd.{SessionEnd}
-use Rattle.be_session.specs.declared.serve.SessionEnd.TheVariants.{Eof, Quit, ReadFault, WriteFault, Spent, Split, NoMemory}
-use Rattle.be_session.specs.Served.{SessionEnds, Replied, RepliedInPart}
+use Rattle.be_protocol.specs.declared.ends.SessionEnd.{SessionEnd}
+use Rattle.be_protocol.specs.declared.ends.SessionEnd.TheVariants.{Eof, Quit, ReadFault, WriteFault, Spent, Split, NoMemory}
+use Rattle.be_protocol.specs.Conversation.{Replied, RepliedInPart}
+use Rattle.be_session.specs.Served.{SessionEnds, session_terms}
 use Rattle.be_session.proofs.Quits.{has_no_quit, quits_at}
 use Rattle.be_hub.specs.Closing.{KeepsAll}
 use Rattle.be_hub.specs.Links.{WentOn, SeatVisit, LinkServed}
@@ -56,31 +57,31 @@ told_cut None t P none p = tt
 told_cut (Some out) t P is p = subst P (sym is) p
 
 whole_from : (Read : List TextLine → Type 0) (s : Attributes) (z : ℕ) (h : List Entry) (shuts : Bool) (lines : List TextLine) (end : Option SessionEnd) (before after : SinkState) (b b' : BoardState)
-    → Read lines → (r : Replied s lines end before after b b') → list_all plain r.exchanges ≡ true → IfSome before.held (λ held. held ≡ [])
+    → Read lines → (r : Replied (session_terms s b b') lines end before after) → list_all plain r.exchanges ≡ true → IfSome before.held (λ held. held ≡ [])
     → before.kept_back ≡ 0 → after.kept_back ≤ before.kept_back
     → Keeps h b'.word → z ≤ length b.word.known → (shuts ≡ false → b'.counts.shuts ≡ 0) → AnsweredWhole Read s b.word.session z h shuts after
 whole_from Read s z h shuts lines end before after b b' read r whole empty none handed keeps within quiet = record {
   lines = lines;
   read = read;
   exchanges = r.exchanges;
-  legal = (r.borne h z keeps within).0;
+  legal = (r.legal.borne h z keeps within).0;
   text = told_text before.held after.held (texts s r.exchanges) empty r.written;
   handed = omega (arith, none, handed);
   whole = whole;
-  refused = shuts_only shuts r.exchanges b.counts.shuts b'.counts.shuts r.tied.shuts quiet;
+  refused = shuts_only shuts r.exchanges b.counts.shuts b'.counts.shuts r.legal.tied.shuts quiet;
 }
 
 part_from : (Read : List TextLine → Type 0) (s : Attributes) (z : ℕ) (h : List Entry) (shuts : Bool) (lines : List TextLine) (before after : SinkState) (b b' : BoardState)
-    → Read lines → (r : RepliedInPart s lines before after b b') → IfSome before.held (λ held. held ≡ [])
+    → Read lines → (r : RepliedInPart (session_terms s b b') lines before after) → IfSome before.held (λ held. held ≡ [])
     → Keeps h b'.word → z ≤ length b.word.known → (shuts ≡ false → b'.counts.shuts ≡ 0) → AnsweredInPart Read s b.word.session z h shuts after
 part_from Read s z h shuts lines before after b b' read r empty keeps within quiet = record {
   lines = lines;
   read = read;
   exchanges = r.exchanges;
   last = r.last;
-  legal = (r.borne h z keeps within).0;
+  legal = (r.legal.borne h z keeps within).0;
   text = told_cut after.held r.out (λ out. OutputBroke s r.exchanges r.last out after.kept_back) (told_text before.held after.held r.out empty r.written) r.broke;
-  refused = shuts_only shuts (r.exchanges ++ r.last ∷ []) b.counts.shuts b'.counts.shuts r.tied.shuts quiet;
+  refused = shuts_only shuts (r.exchanges ++ r.last ∷ []) b.counts.shuts b'.counts.shuts r.legal.tied.shuts quiet;
 }
 
 some_risen : (a b : ℕ) → HasRisen a b → 0 < b

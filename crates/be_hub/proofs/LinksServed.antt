@@ -23,8 +23,8 @@ use Rattle.be_desk.specs.Seats.{SeatState, IsKeptSeat}
 use Rattle.be_door.specs.Counts.{CountState, IsSound, sums_of, after_back}
 use Rattle.be_door.specs.Kept.{put_last}
 use Rattle.be_door.specs.Links.{IsUnused}
-use Rattle.be_session.specs.declared.serve.SessionEnd.{SessionEnd}
-use Rattle.be_session.specs.declared.serve.SessionEnd.TheVariants.{Eof, Quit, ReadFault, WriteFault, Spent, Split, NoMemory}
+use Rattle.be_protocol.specs.declared.ends.SessionEnd.{SessionEnd}
+use Rattle.be_protocol.specs.declared.ends.SessionEnd.TheVariants.{Eof, Quit, ReadFault, WriteFault, Spent, Split, NoMemory}
 use Rattle.be_session.specs.Served.{SessionEnds, BoardLeft}
 use Rattle.be_session.specs.Tied.{is_split}
 use Rattle.be_hub.specs.Files.{is_split_end}
@@ -164,7 +164,7 @@ pub splits_of : (P : Type 0) (s : Attributes) (before after : LinkState) (calls 
 splits_of P s before after calls calls' seat seat' (Split i j) e is =
     let r = e.replied in
     let some = subst (λ (ps : List Exchange). 0 < length (filter is_split ps)) (sym r.ends.2) (some_counted r.ends.0 r.ends.1 (is_split_of r.ends.1 i j r.ends.4)) in
-    one_risen _ seat.splits seat'.splits some r.tied.splits
+    one_risen _ seat.splits seat'.splits some r.legal.tied.splits
   where
     one_risen : (n before after : ℕ) → 0 < n → HasRisenBy n before after → HasRisen before after
     one_risen n before after some rise = omega (arith, rise, some)

@@ -19,10 +19,11 @@ use Rattle.be_board.specs.State.{BoardState}
 use Rattle.be_board.specs.Word.{Keeps}
 use Rattle.be_desk.specs.Boards.{board_of}
 use Rattle.be_desk.specs.Seats.{SeatState, word_of}
-use Rattle.be_session.specs.declared.serve.SessionEnd.{SessionEnd}
-use Rattle.be_session.specs.declared.serve.SessionEnd.TheVariants.{Eof, Quit, ReadFault, WriteFault, Spent, Split, NoMemory}
-use Rattle.be_session.specs.Ends.{end_after, is_on, goes_on}
-use Rattle.be_session.specs.Served.{SessionEnds, Replied}
+use Rattle.be_protocol.specs.declared.ends.SessionEnd.{SessionEnd}
+use Rattle.be_protocol.specs.declared.ends.SessionEnd.TheVariants.{Eof, Quit, ReadFault, WriteFault, Spent, Split, NoMemory}
+use Rattle.be_protocol.specs.Ends.{end_after, is_on, goes_on}
+use Rattle.be_protocol.specs.Conversation.{Replied}
+use Rattle.be_session.specs.Served.{SessionEnds, session_terms}
 use Rattle.be_session.specs.Tied.{is_shut, is_split}
 use Rattle.be_session.proofs.Quits.{Ended, by_split, by_quit, by_none, ended_of, has_no_quit, quits_at}
 use Rattle.be_hub.specs.Files.{file_link, FileServed, IsRead, is_split_end, IsEndOf}
@@ -95,16 +96,16 @@ out_is : (out text : List ℕ) → Some out ≡ Some text → out ≡ text
 out_is out text e = cc
 
 transcript_from : (s : Attributes) (z : ℕ) (h : List Entry) (shuts : Bool) (file out : List ℕ) (served : List TextLine) (end : Option SessionEnd) (before after : SinkState) (b b' : BoardState)
-    → AreServedLines s file served → (r : Replied s served end before after b b') → list_all plain r.exchanges ≡ true → before.held ≡ Some [] → after.held ≡ Some out
+    → AreServedLines s file served → (r : Replied (session_terms s b b') served end before after) → list_all plain r.exchanges ≡ true → before.held ≡ Some [] → after.held ≡ Some out
     → Keeps h b'.word → z ≤ length b.word.known → (shuts ≡ false → b'.counts.shuts ≡ 0) → IsTranscript s b.word.session z h shuts file out
 transcript_from s z h shuts file out served end before after b b' read r whole empty wrote keeps within quiet = record {
   served = served;
   read = read;
   exchanges = r.exchanges;
-  legal = (r.borne h z keeps within).0;
+  legal = (r.legal.borne h z keeps within).0;
   text = out_is out (texts s r.exchanges) (sym wrote ∙ subst (λ (o : Option (List ℕ)). after.held ≡ option_map (λ (held : List ℕ). held ++ texts s r.exchanges) o) empty r.written);
   whole = whole;
-  refused = shuts_only shuts r.exchanges b.counts.shuts b'.counts.shuts r.tied.shuts quiet;
+  refused = shuts_only shuts r.exchanges b.counts.shuts b'.counts.shuts r.legal.tied.shuts quiet;
 }
 
 told_end : (file : List ℕ) (o : Option (List ℕ)) (ls : List TextLine) → ReadToEnd (Some file) o ls → ls ≡ lines LINE_BYTES true file
@@ -179,7 +180,7 @@ end_of_file s file out seat seat' end f = record { quiet = f.quiet; counted = by
     by_end Quit e is = absurd cc
     by_end (Split i j) e is =
         let r = e.replied in
-        some_rise (length (filter is_split r.exchanges)) seat.splits seat'.splits r.tied.splits
+        some_rise (length (filter is_split r.exchanges)) seat.splits seat'.splits r.legal.tied.splits
         (subst (λ (ps : List Exchange). 0 < length (filter is_split ps)) (sym r.ends.2) (some_counted r.ends.0 r.ends.1 (is_split_of r.ends.1 i j r.ends.4)))
     by_end ReadFault e is = absurd cc
     by_end WriteFault e is = absurd cc

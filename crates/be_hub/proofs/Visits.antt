@@ -11,7 +11,7 @@ use Rattle.be_desk.specs.Boards.{put_count}
 use Rattle.be_desk.specs.Seats.{SeatState}
 use Rattle.be_door.specs.Counts.{CountState, IsSound}
 use Rattle.be_door.specs.Door.{DoorState, IsOf}
-use Rattle.be_session.specs.declared.serve.SessionEnd.{SessionEnd}
+use Rattle.be_protocol.specs.declared.ends.SessionEnd.{SessionEnd}
 use Rattle.be_hub.specs.Links.{session_at, SeatVisit, EntersNext, FollowLeft, FollowOn, LinkServed, added_between, AddUp, AddUpWith, CountsAddUp, LinksServed, WorkerServed}
 use Rattle.be_hub.proofs.Entered.{glass_same, splits_same, fulls_same, puts_same, empties_grow}
 use Rattle.be_hub.proofs.Places.{all_from_places}

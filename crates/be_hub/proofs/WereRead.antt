@@ -6,8 +6,8 @@ use Rattle.be_io.specs.Outside.{LinkState}
 use Rattle.be_model.specs.Schemas.{Attributes}
 use Rattle.be_change.specs.History.{Entry}
 use Rattle.be_door.specs.declared.sums.Sums.{Sums}
-use Rattle.be_session.specs.declared.serve.SessionEnd.{SessionEnd}
-use Rattle.be_session.specs.declared.serve.SessionEnd.TheVariants.{Eof, Quit, ReadFault, WriteFault, Spent, Split, NoMemory}
+use Rattle.be_protocol.specs.declared.ends.SessionEnd.{SessionEnd}
+use Rattle.be_protocol.specs.declared.ends.SessionEnd.TheVariants.{Eof, Quit, ReadFault, WriteFault, Spent, Split, NoMemory}
 use Rattle.be_hub.specs.Files.{IsRead}
 use Rattle.be_hub.specs.Links.{IsCounted}
 use Rattle.be_base.specs.Counts.{raised, HasRisenBy}

@@ -2,8 +2,8 @@
 use Rattle.std.specs.Prelude.{◌≡◌, ℕ, ◌<◌, Bool, true, false, List, [], Some}
 use Rattle.be_io.specs.Outside.{LinkState}
 use Rattle.be_model.specs.Schemas.{Attributes}
-use Rattle.be_session.specs.declared.serve.SessionEnd.{SessionEnd}
-use Rattle.be_session.specs.declared.serve.SessionEnd.TheVariants.{Eof, Quit, Split, NoMemory}
+use Rattle.be_protocol.specs.declared.ends.SessionEnd.{SessionEnd}
+use Rattle.be_protocol.specs.declared.ends.SessionEnd.TheVariants.{Eof, Quit, Split, NoMemory}
 use Rattle.be_session.specs.Served.{SessionEnds, BoardLeft}
 use Rattle.be_desk.specs.Seats.{SeatState}
 use Rattle.be_desk.specs.Boards.{board_of}

@@ -20,8 +20,8 @@ use Rattle.be_door.specs.Links.{IsUnused}
 use Rattle.be_door.specs.declared.sums.Sums.{Sums}
 use Rattle.be_hub.specs.Files.{is_split_end}
 use Rattle.be_hub.specs.declared.links.TheConstants.{FIRST_END}
-use Rattle.be_session.specs.declared.serve.SessionEnd.{SessionEnd}
-use Rattle.be_session.specs.declared.serve.SessionEnd.TheVariants.{ReadFault, WriteFault, Spent}
+use Rattle.be_protocol.specs.declared.ends.SessionEnd.{SessionEnd}
+use Rattle.be_protocol.specs.declared.ends.SessionEnd.TheVariants.{ReadFault, WriteFault, Spent}
 use Rattle.be_session.specs.Served.{SessionEnds, BoardLeft}
 
 -- the session of a worker's link i, from 0: each one is the number of seats above the last

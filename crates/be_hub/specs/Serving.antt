@@ -16,8 +16,8 @@ use Rattle.be_protocol.specs.Runs.{HasNoQuit, EndsWithQuit}
 use Rattle.be_protocol.specs.Transcript.{AreExchanges, OutputBroke, texts}
 use Rattle.be_door.specs.Door.{DoorState, after_try}
 use Rattle.be_door.specs.declared.sums.Sums.{Sums}
-use Rattle.be_session.specs.declared.serve.SessionEnd.{SessionEnd}
-use Rattle.be_session.specs.declared.serve.SessionEnd.TheVariants.{Eof, Quit, ReadFault, WriteFault, Spent}
+use Rattle.be_protocol.specs.declared.ends.SessionEnd.{SessionEnd}
+use Rattle.be_protocol.specs.declared.ends.SessionEnd.TheVariants.{Eof, Quit, ReadFault, WriteFault, Spent}
 use Rattle.be_session.specs.Tied.{is_split}
 use Rattle.be_hub.specs.Files.{IsRead}
 use Rattle.be_hub.specs.Links.{IsCounted}

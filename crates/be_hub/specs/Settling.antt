@@ -7,8 +7,8 @@ use Rattle.be_door.specs.Door.{DoorState, after_settle}
 use Rattle.be_hub.specs.Files.{is_split_end}
 use Rattle.be_hub.specs.declared.close.CloseFault.{CloseFault}
 use Rattle.be_hub.specs.declared.close.CloseFault.TheVariants.{NoMemory}
-use Rattle.be_session.specs.declared.serve.SessionEnd.{SessionEnd}
-use Rattle.be_session.specs.declared.serve.SessionEnd.TheVariants as ends
+use Rattle.be_protocol.specs.declared.ends.SessionEnd.{SessionEnd}
+use Rattle.be_protocol.specs.declared.ends.SessionEnd.TheVariants as ends
 
 -- the session ended otherwise than for want of memory or by two numbers that differ
 abbrev pub IsUnbroken : SessionEnd → Type 0

@@ -3,3 +3,9 @@ pub mod Commanded
 pub mod ReplyTexts
 pub mod Shorts
 pub mod Notes
+pub mod LinesGoing
+pub mod Took
+pub mod Written
+pub mod Going
+pub mod Ended
+pub mod Under

@@ -6,3 +6,7 @@ pub mod Texts
 pub mod Transcript
 pub mod Runs
 pub mod LinesRead
+pub mod Ends
+pub mod Conversation
+pub mod Conduct
+pub mod Turns

@@ -7,13 +7,19 @@
 //! puts them together, and specs/Runs is a run with one session.
 #![tactic(auto)]
 
+mod conversing;
+mod ends;
 mod noting;
+mod replier;
 mod requests;
 mod saying;
 mod short;
 mod texts;
 
+pub use conversing::converse;
+pub use ends::SessionEnd;
 pub use noting::{say_end, send_note};
+pub use replier::{Replier, Turn};
 pub use requests::{Refusal, Request, Subscription, read_line};
 pub use saying::say;
 pub use short::Short;

@@ -13,8 +13,8 @@ use Rattle.be_follow.specs.declared.faults.FeedFault.TheVariants as feed
 use Rattle.be_follow.specs.Feeds.{Fed, Means}
 use Rattle.be_follow.specs.Followers.{FollowerState, new_follower, Follows, taken_of, Tells}
 use Rattle.be_follow.specs.Reads.{ReadsEnd}
-use Rattle.be_session.specs.declared.serve.SessionEnd.{SessionEnd}
-use Rattle.be_session.specs.declared.serve.SessionEnd.TheVariants as ends
+use Rattle.be_protocol.specs.declared.ends.SessionEnd.{SessionEnd}
+use Rattle.be_protocol.specs.declared.ends.SessionEnd.TheVariants as ends
 use Rattle.be_server.specs.declared.status.Status.{Status}
 use Rattle.be_server.specs.declared.status.Status.TheVariants.{Done, SchemaBad, FeedBad, NoMemory, ReadFault, LongFile, WriteFault, Spent}
 use Rattle.be_server.specs.Files.{ToldFile, FileIsLong, IsSchemaOf, LoadsSchema}

@@ -8,8 +8,8 @@ use Rattle.be_io.specs.declared.faults.SinkFault.TheVariants as sink
 use Rattle.be_model.specs.declared.changes.Row.{Row}
 use Rattle.be_model.specs.Schemas.{Attributes}
 use Rattle.be_follow.specs.Reads.{ReadsEnd}
-use Rattle.be_session.specs.declared.serve.SessionEnd.TheVariants as ends
-use Rattle.be_session.specs.Served.{TakesWithin}
+use Rattle.be_protocol.specs.declared.ends.SessionEnd.TheVariants as ends
+use Rattle.be_protocol.specs.Conversation.{TakesWithin}
 use Rattle.be_command_line.specs.Words.{Request, run, gen, cover, drill, serve, heat, follow}
 use Rattle.be_server.specs.declared.status.Status.{Status}
 use Rattle.be_server.specs.declared.status.Status.TheVariants.{Words, NoMemory}

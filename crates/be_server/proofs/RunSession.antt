@@ -15,9 +15,9 @@ use Rattle.be_protocol.specs.Transcript.{requests}
 use Rattle.be_board.specs.Local.{opened_state}
 use Rattle.be_board.specs.State.{BoardState}
 use Rattle.be_board.specs.Word.{Keeps}
-use Rattle.be_session.specs.declared.serve.SessionEnd.{SessionEnd}
-use Rattle.be_session.specs.declared.serve.SessionEnd.TheVariants.{Eof, Quit, ReadFault, WriteFault, Spent, Split, NoMemory}
-use Rattle.be_session.specs.Ends.{end_after, is_on}
+use Rattle.be_protocol.specs.declared.ends.SessionEnd.{SessionEnd}
+use Rattle.be_protocol.specs.declared.ends.SessionEnd.TheVariants.{Eof, Quit, ReadFault, WriteFault, Spent, Split, NoMemory}
+use Rattle.be_protocol.specs.Ends.{end_after, is_on}
 use Rattle.be_session.specs.Served as served
 use Rattle.be_session.specs.Served.{BeginsAlone, RanOver}
 use Rattle.be_server.specs.Run.{QuitsAtEnd, Replied, CutShort, SessionRuns}

@@ -1,7 +1,7 @@
 -- The promise of the program, and of each of its commands.
 use Rattle.std.specs.Prelude.{◌≡◌, ◌⊎◌, Option, None}
 use Rattle.be_io.specs.Counts.{HasRisen}
-use Rattle.be_session.specs.Served.{TakesWithin}
+use Rattle.be_protocol.specs.Conversation.{TakesWithin}
 use Rattle.be_command_line.specs.Words.{Request}
 use Rattle.be_server.specs.declared.status.Status.{Status}
 use Rattle.be_server.specs.declared.status.Status.TheVariants.{Words, NoMemory}

@@ -14,9 +14,9 @@ use Rattle.be_change.specs.Requests.{Exchange}
 use Rattle.be_protocol.specs.Transcript.{texts, OutputBroke}
 use Rattle.be_protocol.specs.Runs.{AreRun, HasNoQuit, EndsWithQuit}
 use Rattle.be_protocol.specs.LinesRead.{ReadToEnd, ReadInPart, ReadFirstLines}
-use Rattle.be_session.specs.declared.serve.SessionEnd.{SessionEnd}
-use Rattle.be_session.specs.declared.serve.SessionEnd.TheVariants as ends
-use Rattle.be_session.specs.Served.{NoReadFailed, NoWriteFailed}
+use Rattle.be_protocol.specs.declared.ends.SessionEnd.{SessionEnd}
+use Rattle.be_protocol.specs.declared.ends.SessionEnd.TheVariants as ends
+use Rattle.be_protocol.specs.Conversation.{NoReadFailed, NoWriteFailed}
 use Rattle.be_server.specs.declared.status.Status.{Status}
 use Rattle.be_server.specs.declared.status.Status.TheVariants.{Done, SchemaBad, LoadBad, NoMemory, ReadFault, LongFile, WriteFault, Spent}
 use Rattle.be_server.specs.Files.{RunFiles, IsSchemaOf, AreRowsOf, SchemaIsBad, LoadIsBad, OneIsLong}

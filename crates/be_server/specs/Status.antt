@@ -13,8 +13,8 @@ use Rattle.be_hub.specs.declared.close.CloseFault.{CloseFault}
 use Rattle.be_hub.specs.declared.close.CloseFault.TheVariants as close
 use Rattle.be_hub.specs.declared.serving.ServeFault.{ServeFault}
 use Rattle.be_hub.specs.declared.serving.ServeFault.TheVariants as serving
-use Rattle.be_session.specs.declared.serve.SessionEnd.{SessionEnd}
-use Rattle.be_session.specs.declared.serve.SessionEnd.TheVariants as ends
+use Rattle.be_protocol.specs.declared.ends.SessionEnd.{SessionEnd}
+use Rattle.be_protocol.specs.declared.ends.SessionEnd.TheVariants as ends
 use Rattle.be_load_files.specs.Faults as tables
 use Rattle.be_load_files.specs.declared.faults.TableFault.{TableFault}
 use Rattle.be_load_files.specs.declared.faults.TableFault.TheVariants as table

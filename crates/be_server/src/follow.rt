@@ -2,7 +2,7 @@
 
 ghost use Rattle.std.specs.Prelude.{◌≡◌, ◌∷◌, [], None, Some, IfOk};
 ghost use Rattle.be_io.specs.Outside.{source_state, sink_state, link_state};
-ghost use Rattle.be_session.specs.Served.{TakesWithin};
+ghost use Rattle.be_protocol.specs.Conversation.{TakesWithin};
 ghost use Rattle.be_follow.specs.Followers.{new_follower, Follows};
 ghost use Rattle.be_follow.specs.Reads.{ReadsEnd};
 ghost use Rattle.be_server.specs.Asked.{MayAsk, AsksInTurn};

@@ -19,7 +19,7 @@ use Rattle.be_board.specs.Changes.{Accepts, RefusedAt, Differ, AnswersAlone, Ask
 use Rattle.be_board.specs.State.{BoardState, GoesOn, LeavesLetters}
 use Rattle.be_board.specs.Word.{own_in, top}
 use Rattle.be_session.specs.Bearing.{Bears, Stands}
-use Rattle.be_session.specs.Ends.{goes_on}
+use Rattle.be_protocol.specs.Ends.{goes_on}
 use Rattle.be_base.specs.Counts.{HasRisen}
 use Rattle.be_session.specs.Given.{letters_of}
 use Rattle.be_session.specs.Steps.{places_in, IsBorne, StepsAlone, Steps, Replies}

@@ -22,10 +22,10 @@ use Rattle.be_board.specs.State.{BoardState}
 use Rattle.be_board.specs.Word.{own_of, own_in, Keeps}
 use Rattle.be_board.proofs.Going.{GoesOn-same, GoesOn-along}
 use Rattle.be_session.specs.Bearing.{Bears}
-use Rattle.be_session.specs.Ends.{goes_on}
+use Rattle.be_protocol.specs.Ends.{goes_on}
 use Rattle.be_session.specs.Served.{BeginsAlone}
 use Rattle.be_session.specs.Steps.{places_in, IsLedOn, StepsAlone, Steps}
-use Rattle.be_session.specs.Turns.{IsLegalSoFar, RunsOver, BoardServes}
+use Rattle.be_session.specs.SoFar.{IsLegalSoFar, RunsOver, BoardServes}
 use Rattle.be_session.proofs.BearsOut.{bears_kept, bears_before, own_begins, adds_none, adds_along}
 use Rattle.be_session.proofs.Tying.{full_none, full_on}
 

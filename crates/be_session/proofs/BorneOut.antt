@@ -24,7 +24,7 @@ use Rattle.be_session.specs.Bearing.{Bears, Stands, AddsOwn}
 use Rattle.be_session.specs.Given.{GivesLetters, GivesInPart}
 use Rattle.be_session.specs.Served.{AreBorneOut, BeginsAlone, Leaves, RanOver}
 use Rattle.be_session.specs.Steps.{places_in}
-use Rattle.be_session.specs.Turns.{IsLegalSoFar, RunsOver, BoardServes}
+use Rattle.be_session.specs.SoFar.{IsLegalSoFar, RunsOver, BoardServes}
 use Rattle.be_session.proofs.Accepting.{adds_accepted, places_accepted, stands_accepted}
 use Rattle.be_session.proofs.BearsOut.{bears_kept, bears_before, own_same, places_kept_by, own_begins, adds_none}
 use Rattle.be_session.proofs.Tying.{full_then}

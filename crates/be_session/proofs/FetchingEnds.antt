@@ -29,8 +29,9 @@ use Rattle.be_board.proofs.Going.{GoesOn-along, HasRisen-later}
 use Rattle.be_session.specs.Bearing.{Bears}
 use Rattle.be_session.specs.Fetching.{note_lines, Draws, FetchesSo}
 use Rattle.be_session.specs.Given.{GivesLetters, GivesInPart, TakenInPart}
-use Rattle.be_session.specs.Steps.{Steps, Answered, RepliedTo, RepliedInPartTo, WroteInPart, Refused, RefusedOnce}
-use Rattle.be_session.specs.Ends.{end_after}
+use Rattle.be_protocol.specs.Conduct.{RepliedTo, RepliedInPartTo, GivesReply, WroteInPart, Refused}
+use Rattle.be_protocol.specs.Conversation.{RefusedOnce}
+use Rattle.be_session.specs.Steps.{Steps, session_conduct}
 use Rattle.be_session.specs.Tied.{Tied}
 use Rattle.be_session.proofs.FetchingOn.{nothing_left, bears_fetched, lines_snoc, noted_on, draws_on}
 use Rattle.be_session.proofs.Looking.{tied_one}
@@ -126,24 +127,22 @@ all_second max letters b now count many (inr e) = inr e.0
 
 -- the last line was written
 pub fetch_whole : (s : Attributes) (max count : ℕ) (b now : BoardState) (before mid after : SinkState) → (f : FetchesSo s max count b now before mid) → AreAll max count b now
-    → Wrote mid after (end_line count) (Ok tt) → (r : RepliedTo s (fetching max) b now before after) × (end_after (fetching max) r.reply ≡ None)
-fetch_whole s max count b now before mid after f all w = (
-  record {
-    reply = notes f.given;
-    replies = record {
-      steps = fetch_steps s max f.given f.given b now f.goes f.known f.own f.from (omega (arith, f.many, f.few)) f.noted;
-      tied = fetch_tied max f.given b now f.goes (all_second max f.given b now count f.many all);
-      puts = puts_one b.box (fetching max, notes f.given) b.counts now.counts refl f.puts;
-      letters = gives_all b.box max f.given b now f.from (all_first max f.given b now count f.many f.few all);
-    };
-    written = subst (λ (t : List ℕ). HoldsMore before.held after.held t)
-        (ap (λ (n : ℕ). note_lines s f.given ++ end_line n) (sym f.many) ∙ sym (notes_text s f.given))
-        (HoldsMore-append before.held mid.held after.held (note_lines s f.given) (end_line count) f.written w.0);
-    faults = w.1 ∙ f.faults;
-    refusals = w.2 ∙ f.refusals;
-  },
-  refl,
-)
+    → Wrote mid after (end_line count) (Ok tt) → RepliedTo (session_conduct s) (fetching max) None b now before after
+fetch_whole s max count b now before mid after f all w = record {
+  reply = notes f.given;
+  ends = refl;
+  replies = record {
+    steps = fetch_steps s max f.given f.given b now f.goes f.known f.own f.from (omega (arith, f.many, f.few)) f.noted;
+    tied = fetch_tied max f.given b now f.goes (all_second max f.given b now count f.many all);
+    puts = puts_one b.box (fetching max, notes f.given) b.counts now.counts refl f.puts;
+    letters = gives_all b.box max f.given b now f.from (all_first max f.given b now count f.many f.few all);
+  };
+  written = subst (λ (t : List ℕ). HoldsMore before.held after.held t)
+      (ap (λ (n : ℕ). note_lines s f.given ++ end_line n) (sym f.many) ∙ sym (notes_text s f.given))
+      (HoldsMore-append before.held mid.held after.held (note_lines s f.given) (end_line count) f.written w.0);
+  faults = w.1 ∙ f.faults;
+  refusals = w.2 ∙ f.refusals;
+}
 
 refused_once : (before mid after : SinkState) (text : List ℕ) (fault : SinkFault) → mid.faults ≡ before.faults → mid.refusals ≡ before.refusals → Wrote mid after text (Err fault) → RefusedOnce before after
 refused_once before mid after text Failed e f w = inr (w.2 ∙ f)
@@ -185,14 +184,15 @@ cut_at_end None s max letters out b now g t = (g.0, g.1, t)
 cut_at_end (Some box) s max letters out b now g t = (g.0, [], g.1, g.2, g.3, t)
 
 pub fetch_cut_at_end : (s : Attributes) (max count : ℕ) (b now : BoardState) (before mid after : SinkState) (fault : SinkFault) → (f : FetchesSo s max count b now before mid) → AreAll max count b now
-    → Wrote mid after (end_line count) (Err fault) → (r : RepliedInPartTo s (fetching max) fault b now before after) × (end_after (fetching max) r.reply ≡ None)
+    → Wrote mid after (end_line count) (Err fault) → RepliedInPartTo (session_conduct s) (fetching max) None fault b now before after
 fetch_cut_at_end s max count b now before mid after fault f all w =
     let part = wrote_behind (note_lines s f.given) (end_line count) [] before mid after fault f.written f.faults f.refusals w in
     let out : List ℕ = note_lines s f.given ++ take part.0 (end_line count) in
     let text : (note_lines s f.given ++ end_line count) ++ [] ≡ reply_text s (notes f.given) =
-    append-nil (note_lines s f.given ++ end_line count) ∙ (ap (λ (n : ℕ). note_lines s f.given ++ end_line n) (sym f.many) ∙ sym (notes_text s f.given)) in (
+    append-nil (note_lines s f.given ++ end_line count) ∙ (ap (λ (n : ℕ). note_lines s f.given ++ end_line n) (sym f.many) ∙ sym (notes_text s f.given)) in
       record {
         reply = notes f.given;
+        ends = refl;
         out = out;
         replies = record {
           steps = fetch_steps s max f.given f.given b now f.goes f.known f.own f.from (omega (arith, f.many, f.few)) f.noted;
@@ -202,9 +202,7 @@ fetch_cut_at_end s max count b now before mid after fault f all w =
               (record { taken = f.given; letters = sym (append-nil f.given); given = begins_lines s (length f.given - 1) f.given (take part.0 (end_line count)) });
         };
         wrote = subst (λ (t : List ℕ). WroteInPart t fault out before after) text part.1;
-      },
-      refl,
-    )
+      }
 
 -- all letters of a reply that was cut at a letter: those taken, and those that would have followed
 record CutLetters (s : Attributes) (max : ℕ) (taken : List Note) (b next : BoardState) : Type 0 where
@@ -266,7 +264,7 @@ cut_letters (Some box) s sch max count b now next l before mid is f more q fit h
 -- a letter's line was cut
 pub fetch_cut : (s sch : Attributes) (max count : ℕ) (b now next : BoardState) (l : PlainLetter) (before mid after : SinkState) (fault : SinkFault) → (f : FetchesSo s max count b now before mid) → count < max
     → Fetches now next (Some l) → IsLetterFor sch now.word.session l → IfSome now.box (All (IsNoteFor now.word.session now.word.known)) → Wrote mid after (with_lf (note_line s (note_of l))) (Err fault)
-    → (r : RepliedInPartTo s (fetching max) fault b next before after) × (end_after (fetching max) r.reply ≡ None)
+    → RepliedInPartTo (session_conduct s) (fetching max) None fault b next before after
 fetch_cut s sch max count b now next l before mid after fault f more q fit holds w =
     let line : List ℕ = with_lf (note_line s (note_of l)) in
     let taken : List Note = f.given ++ note_of l ∷ [] in
@@ -280,9 +278,10 @@ fetch_cut s sch max count b now next l before mid after fault f more q fit holds
     ∙ (ap (λ (t : List ℕ). t ++ end_line (length (taken ++ c.more))) (sym (lines-append s taken c.more)) ∙ sym (notes_text s (taken ++ c.more)))) in
     let many : length taken ≡ length f.given + 1 = length-append f.given (note_of l ∷ []) in
     let whole : take (length taken - 1) taken ≡ f.given =
-    ap (λ (n : ℕ). take n taken) (omega (arith, many)) ∙ take-append_seam f.given (note_of l ∷ []) in (
+    ap (λ (n : ℕ). take n taken) (omega (arith, many)) ∙ take-append_seam f.given (note_of l ∷ []) in
       record {
         reply = notes (taken ++ c.more);
+        ends = refl;
         out = out;
         replies = record {
           steps = fetch_steps s max taken (taken ++ c.more) b next (GoesOn-along b now next f.goes q.goes) (q.known ∙ f.known) (q.own ∙ f.own)
@@ -296,9 +295,7 @@ fetch_cut s sch max count b now next l before mid after fault f more q fit holds
           });
         };
         wrote = subst (λ (t : List ℕ). WroteInPart t fault out before after) text part.1;
-      },
-      refl,
-    )
+      }
 
 pub none_given : {X : Type 0} (o : Option X) → ((x : X) → o ≡ Some x → ⊥) → o ≡ None
 none_given None other = refl
@@ -312,6 +309,6 @@ none_counted s max count b now next before mid f q risen =
 
 -- the reply to a FETCH, as its last line was written
 pub fetch_ended : (s : Attributes) (max count : ℕ) (b now : BoardState) (before mid after : SinkState) (result : Result (Unit {0}) SinkFault) → (f : FetchesSo s max count b now before mid) → AreAll max count b now
-    → Wrote mid after (end_line count) result → Answered s (fetching max) b now before after result (λ reply. end_after (fetching max) reply ≡ None)
+    → Wrote mid after (end_line count) result → GivesReply (session_conduct s) (fetching max) b now before after None result
 fetch_ended s max count b now before mid after (Ok u) f all w = fetch_whole s max count b now before mid after f all w
 fetch_ended s max count b now before mid after (Err fault) f all w = fetch_cut_at_end s max count b now before mid after fault f all w

@@ -9,12 +9,11 @@ pub mod Looking
 pub mod SendingOn
 pub mod FetchingOn
 pub mod FetchingEnds
-pub mod LineTurns
-pub mod Handing
 pub mod Leaving
 pub mod LiveLies
-pub mod Serving
 pub mod Tending
 pub mod BorneOut
-pub mod Ending
 pub mod Quits
+pub mod Said
+pub mod InPart
+pub mod Upholding

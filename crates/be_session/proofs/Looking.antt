@@ -16,7 +16,7 @@ use Rattle.be_board.specs.Reads as board
 use Rattle.be_board.specs.Reads.{Looks, Refuses}
 use Rattle.be_board.specs.State.{BoardState, BoardCounts, NoneFalls, GoesOn, LeavesLetters}
 use Rattle.be_board.specs.Word.{Word}
-use Rattle.be_session.specs.Ends.{goes_on}
+use Rattle.be_protocol.specs.Ends.{goes_on}
 use Rattle.be_session.specs.Given.{letters_of}
 use Rattle.be_protocol.specs.Short.{plain_reply, short_of}
 use Rattle.be_session.specs.Steps.{Steps, Replies}

@@ -17,7 +17,7 @@ use Rattle.be_board.specs.State.{BoardState, GoesOn, NoneFalls, LeavesLetters}
 use Rattle.be_board.specs.Word.{Word, own_in, top, Keeps, IsDelivered}
 use Rattle.be_board.proofs.Going.{GoesOn-same}
 use Rattle.be_session.specs.Bearing.{Stands}
-use Rattle.be_session.specs.Ends.{goes_on}
+use Rattle.be_protocol.specs.Ends.{goes_on}
 use Rattle.be_session.specs.Given.{letters_of, GivesLetters}
 use Rattle.be_session.specs.Steps.{places_in, IsLedOn, IsBorne, StepsAlone, Steps}
 use Rattle.be_session.specs.Tied.{full_letters, TiedFull, is_read, is_shut, is_split, is_short}

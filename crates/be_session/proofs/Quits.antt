@@ -9,8 +9,8 @@ use Rattle.be_change.specs.Requests.{Request, refused, subscribe, unsubscribe, p
 use Rattle.be_protocol.specs.Readings.{reading}
 use Rattle.be_protocol.specs.Runs.{comes_in_run, is_quit, HasNoQuit, EndsWithQuit}
 use Rattle.be_protocol.specs.Transcript.{requests}
-use Rattle.be_session.specs.declared.serve.SessionEnd.TheVariants.{Quit, Split}
-use Rattle.be_session.specs.Ends.{end_after, is_on, goes_on}
+use Rattle.be_protocol.specs.declared.ends.SessionEnd.TheVariants.{Quit, Split}
+use Rattle.be_protocol.specs.Ends.{end_after, is_on, goes_on}
 
 -- how a reply ends the session
 pub data Ended (r : Request) (t : Reply) : Type 0 where

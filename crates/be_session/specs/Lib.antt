@@ -1,5 +1,4 @@
 pub mod Bearing
-pub mod Ends
 pub mod Tied
 pub mod Given
 pub mod Served
@@ -7,4 +6,5 @@ pub mod Steps
 pub mod Changes
 pub mod Reads
 pub mod Fetching
-pub mod Turns
+pub mod SoFar
+pub mod Saying

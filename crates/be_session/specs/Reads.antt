@@ -4,7 +4,7 @@ use Rattle.be_model.specs.Schemas.{Attributes}
 use Rattle.be_change.specs.Requests.{Request, Reply}
 use Rattle.be_protocol.specs.Replies.{reply_text}
 use Rattle.be_board.specs.State.{BoardState}
-use Rattle.be_session.specs.Ends.{end_after}
+use Rattle.be_protocol.specs.Ends.{end_after}
 use Rattle.be_session.specs.Given.{letters_of}
 use Rattle.be_session.specs.Steps.{Replies}
 

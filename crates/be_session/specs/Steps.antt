@@ -1,22 +1,20 @@
 -- What one answer of a board makes of a request's reply: what it leaves, and which lists of changes bear it out.
-use Rattle.std.specs.Prelude.{◌≡◌, ℕ, ◌+◌, ◌<◌, ◌++◌, ◌⊎◌, true, false, not, List, [], ◌∷◌, length, map, Result, Ok, Err, is_some}
-use Rattle.be_base.specs.Counts.{HasRisen}
+use Rattle.std.specs.Prelude.{◌≡◌, ℕ, ◌+◌, ◌++◌, true, false, not, List, [], ◌∷◌, length, map, is_some}
 use Rattle.be_base.specs.Lists.{BeginsWith}
-use Rattle.be_io.specs.Told.{HoldsMore}
-use Rattle.be_io.specs.Sink.{SinkState}
-use Rattle.be_io.specs.declared.faults.SinkFault.{SinkFault}
-use Rattle.be_io.specs.declared.faults.SinkFault.TheVariants.{Failed, NoMemory}
 use Rattle.be_model.specs.Schemas.{Attributes}
 use Rattle.be_change.specs.History.{Entry}
 use Rattle.be_change.specs.Made.{change_made}
-use Rattle.be_change.specs.Requests.{Request, Reply, Exchange}
+use Rattle.be_change.specs.Requests.{quit, Exchange}
 use Rattle.be_change.specs.Walk.{Walk, Answers, place_accepted}
-use Rattle.be_protocol.specs.Replies.{reply_text}
+use Rattle.be_protocol.specs.Conduct.{Conduct}
+use Rattle.be_protocol.specs.Ends.{goes_on}
+use Rattle.be_protocol.specs.Readings.{reading}
 use Rattle.be_protocol.specs.Runs.{comes_in_run, length_told, IsTold, RemovalMayWant}
-use Rattle.be_board.specs.State.{BoardState, GoesOn, is_gone}
+use Rattle.be_board.specs.declared.answers.Answer.{Answer}
+use Rattle.be_board.specs.Changes.{Asked}
+use Rattle.be_board.specs.State.{BoardState, GoesOn, Tends, is_gone}
 use Rattle.be_board.specs.Word.{own_in, Keeps}
 use Rattle.be_session.specs.Bearing.{Bears, Stands, AddsOwn}
-use Rattle.be_session.specs.Ends.{goes_on}
 use Rattle.be_session.specs.Given.{GivesLetters, GivesInPart}
 use Rattle.be_session.specs.Tied.{Tied, TiedFull, TiedPuts}
 
@@ -68,40 +66,13 @@ pub record RepliesInPart (s : Attributes) (p : Exchange) (out : List ℕ) (b b' 
   pub puts : TiedPuts (p ∷ []) b b'
   pub letters : GivesInPart b.box s [] p out b b'
 
--- the sink refused a call, and counted it
-abbrev pub Refused : SinkFault → SinkState → SinkState → Type 0
-Refused Failed before after = HasRisen before.faults after.faults
-Refused NoMemory before after = HasRisen before.refusals after.refusals
-
--- of the counts of a sink's refusals one at least is as before
-abbrev pub RefusedOnce : SinkState → SinkState → Type 0
-RefusedOnce before after = (after.faults ≡ before.faults) ⊎ (after.refusals ≡ before.refusals)
-
--- this part of the text was written, before the sink refused more
-pub record WroteInPart (text : List ℕ) (fault : SinkFault) (out : List ℕ) (before after : SinkState) : Type 0 where
-  pub written : HoldsMore before.held after.held out
-  pub missing : List ℕ
-  pub some : 0 < length missing
-  pub is_text : text ≡ out ++ missing
-  pub refused : Refused fault before after
-  pub once : RefusedOnce before after
-
--- a request was given a reply, which was written whole
-pub record RepliedTo (s : Attributes) (r : Request) (b b' : BoardState) (before after : SinkState) : Type 0 where
-  pub reply : Reply
-  pub replies : Replies s (r, reply) b b'
-  pub written : HoldsMore before.held after.held (reply_text s reply)
-  pub faults : after.faults ≡ before.faults
-  pub refusals : after.refusals ≡ before.refusals
-
--- a request was given a reply, which was written in part
-pub record RepliedInPartTo (s : Attributes) (r : Request) (fault : SinkFault) (b b' : BoardState) (before after : SinkState) : Type 0 where
-  pub reply : Reply
-  pub out : List ℕ
-  pub replies : RepliesInPart s (r, reply) out b b'
-  pub wrote : WroteInPart (reply_text s reply) fault out before after
-
--- a request was answered, as far as the sink took it
-abbrev pub Answered : Attributes → Request → BoardState → BoardState → SinkState → SinkState → Result (Unit {0}) SinkFault → (Reply → Type 0) → Type 0
-Answered s r b b' before after (Ok _) So = (w : RepliedTo s r b b' before after) × So w.reply
-Answered s r b b' before after (Err fault) So = (c : RepliedInPartTo s r fault b b' before after) × So c.reply
+-- what a session over a board makes of the board's state
+abbrev pub session_conduct : Attributes → Conduct BoardState
+session_conduct s = record {
+  schema = s;
+  asks = reading s;
+  Replies = Replies s;
+  RepliesInPart = RepliesInPart s;
+  Tends = Tends;
+  Leaves = λ b b'. (answer : Answer) × Asked b b' quit answer;
+}

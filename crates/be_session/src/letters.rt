@@ -5,8 +5,8 @@ ghost use Rattle.be_model.specs.Lies.{event_lies};
 ghost use Rattle.be_io.specs.Outside.{sink_state};
 ghost use Rattle.be_change.specs.Requests as asked;
 ghost use Rattle.be_protocol.specs.Short.{plain_reply};
-ghost use Rattle.be_session.specs.Steps.{Replies, Answered};
-ghost use Rattle.be_session.specs.Ends.{end_after};
+ghost use Rattle.be_protocol.specs.Conduct.{GivesReply};
+ghost use Rattle.be_session.specs.Steps.{Replies, session_conduct};
 
 use crate::room::Room;
 use be_board::{Board, Sent};
@@ -37,8 +37,8 @@ pub fn fetch<B: Board, K: Sink>(
     out: &mut K,
 ) -> Result<(), SinkFault>
     requires schema { (B.state board.old).schema ≡ schema.now }
-    ensures answered { Answered schema.now (asked.fetching max) (B.state board.old) (B.state board.new)
-        (sink_state K.Sink out.old) (sink_state K.Sink out.new) result (λ reply. end_after (asked.fetching max) reply ≡ None) }
+    ensures answered { GivesReply (session_conduct schema.now) (asked.fetching max) (B.state board.old) (B.state board.new)
+        (sink_state K.Sink out.old) (sink_state K.Sink out.new) None result }
     ensures beside { K.kept_by_write out.new ≡ K.kept_by_write out.old }
 {
     let mut count: u64 = 0;

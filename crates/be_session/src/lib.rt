@@ -10,7 +10,6 @@ mod letters;
 mod reads;
 mod room;
 mod serve;
-mod turns;
 
-pub use serve::{SessionEnd, serve_link};
-pub use turns::hand_over;
+pub use be_protocol::SessionEnd;
+pub use serve::serve_link;

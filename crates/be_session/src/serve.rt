@@ -1,69 +1,33 @@
 //! One session: a reply for each line, until a QUIT, the end of the input, a SPLIT or a fault.
 
-ghost use Rattle.std.specs.Prelude.{◌≡◌, ◌+◌, ◌<◌, ◌≤◌, [], length, true, false, None, OnOk, IfErr, vec_capacity};
-ghost use Rattle.be_base.specs.declared.limits.TheConstants.{SOURCE_BYTES};
+ghost use Rattle.std.specs.Prelude.{◌≡◌, ◌≤◌, [], true, false, None, OnOk, IfErr, vec_capacity};
 ghost use Rattle.be_io.specs.Lines as line;
 ghost use Rattle.be_io.specs.Outside.{link_state, sink_state};
-ghost use Rattle.be_protocol.specs.Readings.{reading};
-ghost use Rattle.be_change.specs.Requests as asked;
-ghost use Rattle.be_model.specs.Schemas.{Attributes};
-ghost use Rattle.be_board.specs.State.{BoardState, is_gone};
+
+ghost use Rattle.be_board.specs.State.{is_gone};
 ghost use Rattle.be_board.specs.Word.{own_in};
+ghost use Rattle.be_protocol.specs.Conduct.{GivesReply};
+ghost use Rattle.be_protocol.specs.Conversation.{TakesWithin, KeepsBeside};
+ghost use Rattle.be_protocol.specs.Readings.{reading};
 ghost use Rattle.be_protocol.specs.Requests.{plain_request, request_lies};
-ghost use Rattle.be_session.specs.declared.room.TheConstants.{REPLY_KEPT};
 ghost use Rattle.be_protocol.specs.Short.{plain_reply};
-ghost use Rattle.be_session.specs.Served.{SessionEnds, TakesWithin, BoardLeft, KeepsBeside};
-ghost use Rattle.be_session.specs.Turns.{IsReading, TakesAlike, TurnsAfter, Turned, TurnTaken, short_end, Tells, TellsText};
+ghost use Rattle.be_session.specs.declared.room.TheConstants.{REPLY_KEPT};
+ghost use Rattle.be_session.specs.Served.{SessionEnds, BoardLeft};
+ghost use Rattle.be_session.specs.Steps.{session_conduct};
+ghost use Rattle.be_session.specs.Saying.{short_end, Says, SaysText};
 
 use crate::changes::{leave, quit, subscribe, unsubscribe};
 use crate::letters::fetch;
 use crate::reads::cost;
 use crate::room::Room;
-use crate::turns::{Turn, hand_over_after, turn_after};
-use be_base::{LINE_BYTES, NoMemory};
+use be_base::NoMemory;
 use be_board::Board;
-use be_io::{Gate, Line, LineFault, LineReader, Link, Sink, write_all};
+use be_io::{Gate, Link, Sink, write_all};
 use be_model::Schema;
-use be_protocol::{Refusal, Request, Short, read_line, say};
+use be_protocol::{
+    Refusal, Replier, Request, SessionEnd, Short, Turn, converse, read_line, say,
+};
 use std::alloc::Global;
-
-/// After so many replies the board is tended.
-const REPLIES_TENDED: u64 = 16;
-
-/// How a session ended.
-#[derive(Clone, Copy, Debug, PartialEq, Eq)]
-pub enum SessionEnd {
-    /// The input was read to its end.
-    Eof,
-    /// A QUIT was read.
-    Quit,
-    ReadFault,
-    WriteFault,
-    /// The input gave 1099511627776 bytes.
-    Spent,
-    /// A change found two numbers that should agree and don't, and the reply says so.
-    Split { seen: u64, written: u64 },
-    /// Memory was wanting before the first line, or to the output.
-    NoMemory,
-}
-
-// Where a worker stands: at a line of its session, counted from 1.
-#[derive(Drop)]
-struct Station<'a, G: Gate> {
-    gate: &'a G,
-    worker: u32,
-    line: u64,
-}
-
-impl<G: Gate> Station<'_, G> {
-    fn before(&self) {
-        self.gate.before(self.worker, self.line);
-    }
-
-    fn after(&self) {
-        self.gate.after(self.worker, self.line);
-    }
-}
 
 /// Serves the board's session over a link, until a QUIT, the end of the input, a SPLIT or a fault. Without a reply that ended it
 /// the session leaves at its end. Replies are handed on before a read that may wait, and at the end. The gate is called by the
@@ -89,141 +53,77 @@ pub fn serve_link<B: Board, L: Link, G: Gate>(
     // All bytes that the link gives from first to last, and the objects that it borrows, are the same ones.
     ensures beside { KeepsBeside (L.kept_by_read link.old) (L.kept_by_read link.new) }
 {
-    let Ok(mut reader) = LineReader::make(alloc, LINE_BYTES) else {
-        return SessionEnd::NoMemory;
-    };
     // That the session is somebody's, and that the list is well formed, comes to light at a call on the board.
     let _left = board.left();
-    let mut room = Room::make(alloc);
-    let mut lines: u64 = 0;
-    'lines: loop {
-        let station = Station {
-            gate,
-            worker,
-            line: lines + 1,
-        };
-        match next_turn(alloc, schema, board, &mut room, &mut reader, link, &station) {
-            Turn::Next => {
-                lines += 1;
-                if lines % REPLIES_TENDED == 0 {
-                    board.tend();
-                }
-            }
-            Turn::Over(end) => {
-                leave(alloc, board);
-                return end;
-            }
-            Turn::After(end) => return end,
-        }
+    let mut session = Session {
+        alloc,
+        schema,
+        board,
+        room: Room::make(alloc),
+    };
+    converse(alloc, &mut session, link, gate, worker)
+}
+
+// A session that answers lines over its board, with the room for its replies.
+#[derive(Drop)]
+struct Session<'a, B: Board> {
+    alloc: Global,
+    schema: &'a Schema,
+    board: &'a mut B,
+    room: Room,
+}
+
+impl<'a, B: Board> Replier for Session<'a, B> {
+    ghost use Rattle.std.specs.Prelude.{◌≡◌, ◌∷◌, [], false};
+    ghost use Rattle.be_board.specs.State.{BoardState, is_gone};
+    ghost use Rattle.be_session.specs.Steps.{session_conduct};
+
+    ghost State = { BoardState };
+
+    ghost state = { λ a. B.state a.board.now };
+
+    ghost kept = { λ a. record { schema = a.schema.now; references = a.board.ghost_name ∷ [] } };
+
+    ghost conduct = { session_conduct };
+
+    // It hasn't left.
+    ghost IsReady = { λ a. (is_gone (B.state a.board.now) ≡ false) × ((B.state a.board.now).schema ≡ a.schema.now) };
+
+    fn answer<K: Sink>(&mut self, text: &[u8], out: &mut K) -> Turn {
+        answer_text(self.alloc, self.schema, self.board, &mut self.room, text, out)
+    }
+
+    fn refuse_long<K: Sink>(&mut self, out: &mut K) -> Turn {
+        tell(out, Short::Refused(Refusal::Long), false)
+    }
+
+    fn tend(&mut self) {
+        self.board.tend();
+    }
+
+    fn leave(&mut self) {
+        leave(self.alloc, self.board);
     }
 }
 
-// Takes a turn and hands on what was written, before a read that may wait and at the end. Then it lets room go that is too large to
-// be kept for the next turn.
-fn next_turn<B: Board, L: Link, G: Gate>(
-    alloc: Global,
-    schema: &Schema,
-    board: &mut B,
-    room: &mut Room,
-    reader: &mut LineReader,
-    link: &mut L,
-    station: &Station<'_, G>,
-) -> Turn
-    requires reads { IsReading reader.old }
-    requires present { is_gone (B.state board.old) ≡ false }
-    requires schema { (B.state board.old).schema ≡ schema.now }
-    ensures turned { TurnTaken schema.now
-        (record {
-          reader = reader.old;
-          link = link_state L.Source L.Sink link.old;
-          board = B.state board.old;
-        })
-        (record {
-          reader = reader.new;
-          link = link_state L.Source L.Sink link.new;
-          board = B.state board.new;
-        }) result }
-    ensures alike { TakesAlike reader.old.taken reader.new.taken (L.taken link.old) (L.taken link.new) }
-    ensures progress { result ≡ Turn.Next → length reader.new.unread + reader.old.taken < length reader.old.unread + reader.new.taken }
-    ensures bound { reader.new.taken ≤ SOURCE_BYTES }
-    ensures beside { KeepsBeside (L.kept_by_read link.old) (L.kept_by_read link.new) }
-    ensures room { vec_capacity room.new.reply ≤ REPLY_KEPT }
-{
-    let answered = take_turn(alloc, schema, board, room, reader, link, station);
-    let turn = hand_over_after(link, reader.has_line(), answered);
-    room.let_go(alloc);
-    turn
-}
-
-// Reads the next line and answers it.
-fn take_turn<B: Board, L: Link, G: Gate>(
-    alloc: Global,
-    schema: &Schema,
-    board: &mut B,
-    room: &mut Room,
-    reader: &mut LineReader,
-    link: &mut L,
-    station: &Station<'_, G>,
-) -> Turn
-    requires reads { IsReading reader.old }
-    requires present { is_gone (B.state board.old) ≡ false }
-    requires schema { (B.state board.old).schema ≡ schema.now }
-    ensures turned { Turned schema.now
-        (record {
-          reader = reader.old;
-          link = link_state L.Source L.Sink link.old;
-          board = B.state board.old;
-        })
-        (record {
-          reader = reader.new;
-          link = link_state L.Source L.Sink link.new;
-          board = B.state board.new;
-        }) result }
-    ensures alike { TakesAlike reader.old.taken reader.new.taken (L.taken link.old) (L.taken link.new) }
-    ensures progress { result ≡ Turn.Next → length reader.new.unread + reader.old.taken < length reader.old.unread + reader.new.taken }
-    ensures bound { reader.new.taken ≤ SOURCE_BYTES }
-    ensures beside { KeepsBeside (L.kept_by_read link.old) (L.kept_by_read link.new) }
-{
-    match reader.next(link) {
-        Ok(Line::End) => Turn::Over(SessionEnd::Eof),
-        Ok(Line::Long { .. }) => refuse_long(link, station),
-        Ok(Line::Text) => answer_text(alloc, schema, board, room, reader.text(), link, station),
-        Err(LineFault::ReadFault) => Turn::Over(SessionEnd::ReadFault),
-        Err(LineFault::Spent) => Turn::Over(SessionEnd::Spent),
-    }
-}
-
-// Answers a line over the limit.
-fn refuse_long<K: Sink, G: Gate>(out: &mut K, station: &Station<'_, G>) -> Turn
-    ensures turned { (s : Attributes) (b : BoardState) → TurnsAfter s (asked.refused asked.long) b b
-        (sink_state K.Sink out.old) (sink_state K.Sink out.new) result }
-    ensures beside { K.kept_by_write out.new ≡ K.kept_by_write out.old }
-{
-    station.before();
-    let turn = tell(out, Short::Refused(Refusal::Long), false);
-    station.after();
-    turn
-}
-
-// Answers one line of text.
-fn answer_text<B: Board, K: Sink, G: Gate>(
+// Answers a line of text. Then it lets room go that is too large to be kept for the next one.
+fn answer_text<B: Board, K: Sink>(
     alloc: Global,
     schema: &Schema,
     board: &mut B,
     room: &mut Room,
     text: &[u8],
     out: &mut K,
-    station: &Station<'_, G>,
 ) -> Turn
     requires present { is_gone (B.state board.old) ≡ false }
     requires schema { (B.state board.old).schema ≡ schema.now }
-    ensures turned { TurnsAfter schema.now (reading schema.now (line.text text.now)) (B.state board.old) (B.state board.new)
-        (sink_state K.Sink out.old) (sink_state K.Sink out.new) result }
+    ensures gives { GivesReply (session_conduct schema.now) (reading schema.now (line.text text.now)) (B.state board.old) (B.state board.new)
+        (sink_state K.Sink out.old) (sink_state K.Sink out.new) result.by result.written }
     ensures beside { K.kept_by_write out.new ≡ K.kept_by_write out.old }
+    ensures room { vec_capacity room.new.reply ≤ REPLY_KEPT }
 {
-    station.before();
     let turn = answer_line(alloc, schema, board, room, text, out);
-    station.after();
+    room.let_go(alloc);
     turn
 }
 
@@ -238,8 +138,8 @@ fn answer_line<B: Board, K: Sink>(
 ) -> Turn
     requires present { is_gone (B.state board.old) ≡ false }
     requires schema { (B.state board.old).schema ≡ schema.now }
-    ensures turned { TurnsAfter schema.now (reading schema.now (line.text text.now)) (B.state board.old) (B.state board.new)
-        (sink_state K.Sink out.old) (sink_state K.Sink out.new) result }
+    ensures gives { GivesReply (session_conduct schema.now) (reading schema.now (line.text text.now)) (B.state board.old) (B.state board.new)
+        (sink_state K.Sink out.old) (sink_state K.Sink out.new) result.by result.written }
     ensures beside { K.kept_by_write out.new ≡ K.kept_by_write out.old }
 {
     match read_line(alloc, schema, text) {
@@ -260,8 +160,8 @@ fn answer<B: Board, K: Sink>(
     requires present { is_gone (B.state board.old) ≡ false }
     requires schema { (B.state board.old).schema ≡ schema.now }
     requires lies { request_lies schema.now request ≡ true }
-    ensures turned { TurnsAfter schema.now (plain_request request) (B.state board.old) (B.state board.new)
-        (sink_state K.Sink out.old) (sink_state K.Sink out.new) result }
+    ensures gives { GivesReply (session_conduct schema.now) (plain_request request) (B.state board.old) (B.state board.new)
+        (sink_state K.Sink out.old) (sink_state K.Sink out.new) result.by result.written }
     ensures beside { K.kept_by_write out.new ≡ K.kept_by_write out.old }
 {
     match request {
@@ -277,7 +177,10 @@ fn answer<B: Board, K: Sink>(
             tell_built(out, room, built)
         }
         Request::Sending(event) => tell(out, room.send(alloc, board, &event), false),
-        Request::Fetching { max } => turn_after(None, fetch(schema, board, max, out)),
+        Request::Fetching { max } => Turn {
+            by: None,
+            written: fetch(schema, board, max, out),
+        },
         Request::Dumping => {
             let built = room.dumped(schema, board);
             tell_built(out, room, built)
@@ -304,21 +207,26 @@ fn short_end(quits: bool, reply: &Short) -> Option<SessionEnd>
 
 // Writes a reply that takes no room.
 fn tell<K: Sink>(out: &mut K, reply: Short, quits: bool) -> Turn
-    ensures tells { Tells (short_end quits reply) (plain_reply reply) (sink_state K.Sink out.old) (sink_state K.Sink out.new) result }
+    ensures says { Says (short_end quits reply) (plain_reply reply) (sink_state K.Sink out.old) (sink_state K.Sink out.new) result }
     ensures beside { K.kept_by_write out.new ≡ K.kept_by_write out.old }
 {
-    let end = short_end(quits, &reply);
-    turn_after(end, say(out, reply))
+    Turn {
+        by: short_end(quits, &reply),
+        written: say(out, reply),
+    }
 }
 
 // Writes the reply that was built, or says why there is none.
 fn tell_built<K: Sink>(out: &mut K, room: &Room, built: Result<(), Short>) -> Turn
-    ensures built { OnOk built (TellsText None room.now.reply.items (sink_state K.Sink out.old) (sink_state K.Sink out.new) result) }
-    ensures refused { IfErr built (λ short. Tells (short_end false short) (plain_reply short) (sink_state K.Sink out.old) (sink_state K.Sink out.new) result) }
+    ensures built { OnOk built (SaysText None room.now.reply.items (sink_state K.Sink out.old) (sink_state K.Sink out.new) result) }
+    ensures refused { IfErr built (λ short. Says (short_end false short) (plain_reply short) (sink_state K.Sink out.old) (sink_state K.Sink out.new) result) }
     ensures beside { K.kept_by_write out.new ≡ K.kept_by_write out.old }
 {
     match built {
-        Ok(()) => turn_after(None, write_all(out, room.reply.as_slice())),
+        Ok(()) => Turn {
+            by: None,
+            written: write_all(out, room.reply.as_slice()),
+        },
         Err(short) => tell(out, short, false),
     }
 }

@@ -5,7 +5,7 @@ use be_follow::{FeedFault, Follower, serve_reads};
 use be_index::{Index, ListIndex};
 use be_io::{Gathered, MemSink, MemSource, Pair};
 use be_model::Schema;
-use be_session::SessionEnd;
+use be_protocol::SessionEnd;
 use std::alloc::Global;
 use std::sync::Arc;
 

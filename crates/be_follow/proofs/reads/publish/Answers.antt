@@ -1,26 +1,16 @@
-use Rattle.std.proofs.Common.{ℕ, List, inl, None, Ok, Err, length, refl, ◌∙◌, subst}
-use Rattle.be_io.specs.Outside.{sink_state}
-use Rattle.be_io.specs.Sink.{Wrote}
+use Rattle.std.proofs.Common.{inl, None, length, refl, ◌∙◌}
 use Rattle.be_change.specs.History.{hits}
 use Rattle.be_change.specs.Requests.{publish, hit}
-use Rattle.be_follow.proofs.Answering.{whole_reply, part_reply}
+use Rattle.be_protocol.proofs.Written.{gives_reply}
+use Rattle.be_follow.specs.Reads.{reads_conduct}
 use Rattle.be_follow.proofs.reads.publish.Goals as goal
 
-pub returns-in-Ok-write_all-clause-answers : goal.returns-in-Ok-write_all-clause-answers
-returns-in-Ok-write_all-clause-answers g c =
+pub returns-in-Ok-clause-gives : goal.returns-in-Ok-clause-gives
+returns-in-Ok-clause-gives g c =
     let s = c.args.follower.now.schema in
     let h = c.args.follower.now.fed.list in
     let e = c.args.event.now in
-    whole_reply s h (publish e) (hit (length h) (hits h e)) None _ _ (inl refl)
-    (subst (λ (text : List ℕ). Wrote (sink_state g.K.Sink c.args.out.now) (sink_state g.K.Sink c.write_all.new.sink) text (Ok tt)) (c.as_slice.ensures.value ∙ c.in-Ok.ensures s) c.in-Ok-write_all.ensures.wrote) refl
+    gives_reply (reads_conduct s) (publish e) (hit (length h) (hits h e)) None h h _ _ _ c.write_all.result (inl refl, refl) (λ out. (inl refl, refl)) refl (c.as_slice.ensures.value ∙ c.in-Ok.ensures s) c.write_all.ensures.wrote
 
-pub returns-in-Err-write_all-clause-answers : goal.returns-in-Err-write_all-clause-answers
-returns-in-Err-write_all-clause-answers g c =
-    let s = c.args.follower.now.schema in
-    let h = c.args.follower.now.fed.list in
-    let e = c.args.event.now in
-    part_reply s h (publish e) (hit (length h) (hits h e)) c.in-Err-write_all.fault _ _ (inl refl)
-    (subst (λ (text : List ℕ). Wrote (sink_state g.K.Sink c.args.out.now) (sink_state g.K.Sink c.write_all.new.sink) text (Err c.in-Err-write_all.fault)) (c.as_slice.ensures.value ∙ c.in-Ok.ensures s) c.in-Err-write_all.ensures.wrote)
-
-pub returns-in-Err-clause-answers : goal.returns-in-Err-clause-answers
-returns-in-Err-clause-answers g c = c.want.ensures.answers c.args.follower.now.schema c.args.follower.now.fed.list c.args.event.now
+pub returns-in-Err-clause-gives : goal.returns-in-Err-clause-gives
+returns-in-Err-clause-gives g c = c.want.ensures.gives c.args.follower.now.schema c.args.follower.now.fed.list c.args.event.now

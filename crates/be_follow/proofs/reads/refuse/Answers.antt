@@ -1,13 +1,10 @@
 use Rattle.std.proofs.Common.{None, refl}
 use Rattle.be_change.specs.Requests.{refused, refusal}
 use Rattle.be_protocol.specs.Requests.{plain_refusal}
-use Rattle.be_follow.proofs.Answering.{whole_reply, part_reply}
+use Rattle.be_protocol.proofs.Written.{gives_reply}
+use Rattle.be_follow.specs.Reads.{reads_conduct}
 use Rattle.be_follow.proofs.reads.refuse.Goals as goal
 
-pub returns-in-Ok-clause-answers : goal.returns-in-Ok-clause-answers
-returns-in-Ok-clause-answers g c = λ s h.
-    whole_reply s h (refused (plain_refusal c.args.refusal)) (refusal (plain_refusal c.args.refusal)) None _ _ refl (c.in-Ok.ensures.wrote s) refl
-
-pub returns-in-Err-clause-answers : goal.returns-in-Err-clause-answers
-returns-in-Err-clause-answers g c = λ s h.
-    part_reply s h (refused (plain_refusal c.args.refusal)) (refusal (plain_refusal c.args.refusal)) c.in-Err.fault _ _ refl (c.in-Err.ensures.wrote s)
+pub returns-clause-gives : goal.returns-clause-gives
+returns-clause-gives g c = λ s h.
+    gives_reply (reads_conduct s) (refused (plain_refusal c.args.refusal)) (refusal (plain_refusal c.args.refusal)) None h h _ _ _ c.say.result (refl, refl) (λ out. (refl, refl)) refl refl (c.say.ensures.wrote s)

@@ -10,8 +10,8 @@ use Rattle.be_model.specs.declared.letters.Letter.{Letter}
 use Rattle.be_change.specs.Requests as asked
 use Rattle.be_board.specs.Letters.{Fetches}
 use Rattle.be_board.specs.State.{BoardState}
-use Rattle.be_session.specs.Ends.{end_after}
-use Rattle.be_session.specs.Steps.{Answered}
+use Rattle.be_protocol.specs.Conduct.{GivesReply}
+use Rattle.be_session.specs.Steps.{session_conduct}
 use Rattle.be_session.proofs.FetchingOn.{fetch_first, fetch_next, fetch_none}
 use Rattle.be_session.proofs.FetchingEnds.{fetch_cut, fetch_ended, none_given, none_counted}
 use Rattle.be_session.proofs.letters.fetch.Goals as goal
@@ -51,8 +51,8 @@ returns-in_err-send_note-clause-answered g c =
     let fault : SinkFault = c.in_err-send_note.field-0.0 in
     let p = err_from_is_err_and c.from_residual.result c.from_residual.ensures.1 in
     let more : c.letters.count < c.args.max = omega (arith, c.letters.invariant.so.few, c.if-count-max.false) in
-    subst (λ r. Answered c.args.schema.now (asked.fetching c.args.max) b next (sink_state g.K.Sink c.args.out.now) (sink_state g.K.Sink c.send_note.new.out) r (λ reply. end_after (asked.fetching c.args.max) reply ≡ None)) (sym p.1)
-    (subst (λ (f : SinkFault). Answered c.args.schema.now (asked.fetching c.args.max) b next (sink_state g.K.Sink c.args.out.now) (sink_state g.K.Sink c.send_note.new.out) (Err f) (λ reply. end_after (asked.fetching c.args.max) reply ≡ None)) (sym p.2)
+    subst (λ r. GivesReply (session_conduct c.args.schema.now) (asked.fetching c.args.max) b next (sink_state g.K.Sink c.args.out.now) (sink_state g.K.Sink c.send_note.new.out) None r) (sym p.1)
+    (subst (λ (f : SinkFault). GivesReply (session_conduct c.args.schema.now) (asked.fetching c.args.max) b next (sink_state g.K.Sink c.args.out.now) (sink_state g.K.Sink c.send_note.new.out) None (Err f)) (sym p.2)
     (fetch_cut c.args.schema.now now.schema c.args.max c.letters.count b now next l (sink_state g.K.Sink c.args.out.now) (sink_state g.K.Sink c.letters.out) (sink_state g.K.Sink c.send_note.new.out) fault
     c.letters.invariant.so more c.in-Some.ensures.fetches c.in-Some.ensures.letter c.fetch.ensures.holds c.in_err-send_note.ensures.wrote))
 
