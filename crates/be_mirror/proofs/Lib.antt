@@ -1,0 +1,3 @@
+pub mod Stepping
+pub mod Lacking
+pub mod Commanding

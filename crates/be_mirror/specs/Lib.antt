@@ -1,0 +1,4 @@
+pub mod Feeders
+pub mod Asked
+pub mod Legal
+pub mod Sessions

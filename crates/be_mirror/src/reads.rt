@@ -1,0 +1,88 @@
+//! What a read of the published copy finds, as a reply. A reply that takes room is built whole before its first byte goes out.
+
+ghost use Rattle.std.specs.Prelude.{◌≡◌, true, OnOk};
+ghost use Rattle.be_base.specs.Lists.{BeginsWith};
+ghost use Rattle.be_model.specs.Lies.{event_lies};
+ghost use Rattle.be_change.specs.Requests as asked;
+ghost use Rattle.be_protocol.specs.Short.{plain_reply};
+ghost use Rattle.be_mirror.specs.Sessions.{IsTold, Steps};
+
+use crate::room::Room;
+use be_base::{NoMemory, NoRead};
+use be_index::Hits;
+use be_model::{Event, Schema};
+use be_protocol::{Short, write_changes, write_hits, write_rows};
+use be_published::{Glass, Naming, Sheet};
+
+/// The names of the live rows that the event satisfies.
+pub fn hits<T: Sheet<J>, J: Naming>(
+    glass: &mut Glass<T, J>,
+    room: &mut Room,
+    event: &Event,
+) -> Result<(), NoRead>
+    requires { event_lies J.schema event.now ≡ true }
+    ensures told { OnOk result (IsTold J.schema (asked.publish event.now) room.new.reply.items glass.old.known glass.new.known) }
+    ensures grows { BeginsWith glass.new.known glass.old.known }
+{
+    room.reply.clear();
+    let n = glass.hits(event, &mut room.ids, &mut room.names)?;
+    let names = room.names.as_slice();
+    match write_hits(&mut room.reply, n, room.ids.count(), names) {
+        Ok(()) => Ok(()),
+        Err(NoMemory) => Err(NoRead::NoMemory),
+    }
+}
+
+/// All live rows, as lines of a load file.
+pub fn dumped<T: Sheet<J>, J: Naming>(
+    schema: &Schema,
+    glass: &mut Glass<T, J>,
+    room: &mut Room,
+) -> Result<(), NoRead>
+    requires { schema.now ≡ J.schema }
+    ensures told { OnOk result (IsTold J.schema asked.dumping room.new.reply.items glass.old.known glass.new.known) }
+    ensures grows { BeginsWith glass.new.known glass.old.known }
+{
+    room.reply.clear();
+    let n = glass.all(&mut room.found)?;
+    // That what is known lies in the schema comes to light at its length, here and below.
+    let _ = glass.front();
+    match write_rows(&mut room.reply, schema, n, room.found.rows()) {
+        Ok(()) => Ok(()),
+        Err(NoMemory) => Err(NoRead::NoMemory),
+    }
+}
+
+/// The changes from a place on, at most `max`.
+pub fn tail<T: Sheet<J>, J: Naming>(
+    schema: &Schema,
+    glass: &mut Glass<T, J>,
+    room: &mut Room,
+    place: u64,
+    max: u64,
+) -> Result<(), NoRead>
+    requires { schema.now ≡ J.schema }
+    ensures told { OnOk result (IsTold J.schema (asked.tailing place max) room.new.reply.items glass.old.known glass.new.known) }
+    ensures grows { BeginsWith glass.new.known glass.old.known }
+{
+    room.reply.clear();
+    room.changes.clear();
+    let n = glass.tail(place, max, &mut room.changes)?;
+    let _ = glass.front();
+    let changes = room.changes.as_slice();
+    match write_changes(&mut room.reply, schema, n, place, changes) {
+        Ok(()) => Ok(()),
+        Err(NoMemory) => Err(NoRead::NoMemory),
+    }
+}
+
+/// What a search for the event costs.
+pub fn cost<T: Sheet<J>, J: Naming>(glass: &mut Glass<T, J>, event: &Event) -> Short
+    requires { event_lies J.schema event.now ≡ true }
+    ensures { Steps J.schema (asked.costing event.now, plain_reply result) glass.old.known glass.new.known }
+{
+    match glass.cost(event) {
+        Ok((n, cost)) => Short::Costs { n, cost },
+        Err(refused) => Short::from(refused),
+    }
+}
