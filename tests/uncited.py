@@ -21,14 +21,13 @@ FOR_NOW = {
     "be_base": "take-BeginsWith no_value_first",
     "be_demand": "StillCounts IsCounting says_hit",
     "be_desk": "AreApart",
-    "be_follow": "IsServing",
     "be_io": "IsReading",
     "be_mail": "AllPut-new_passes hands_new any_at AreRowsUpTo entry_at IsSum AreSums",
     "be_model": "among_names place_among_names and_end AreValues-full assigned_one Given all_assigned values_within values_form "
     "first_within whole_holds prefix_len-map position-map finds_kept taken_out place_step place_within of_attribute "
     "value_lies value_in_range some_is_next FindsIn",
-    "be_session": "note_lines Draws FetchesSo new_reader LinesGoOn "
-    "IsLegalSoFar RunsOver BoardServes IsServing",
+    "be_protocol": "new_reader LinesGoOn IsGoingOn",
+    "be_session": "note_lines Draws FetchesSo IsLegalSoFar RunsOver BoardServes Serves",
     "be_shape": "Each-both of_half listed_more listed_new told_more noted counted_none few_common none_put settled_but Splits "
     "part_rows IsSettledBut enters",
     "be_command_line": "settles",

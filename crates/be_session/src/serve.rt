@@ -55,11 +55,12 @@ pub fn serve_link<B: Board, L: Link, G: Gate>(
 {
     // That the session is somebody's, and that the list is well formed, comes to light at a call on the board.
     let _left = board.left();
+    let mut room = Room::make(alloc);
     let mut session = Session {
         alloc,
         schema,
         board,
-        room: Room::make(alloc),
+        room: &mut room,
     };
     converse(alloc, &mut session, link, gate, worker)
 }
@@ -70,7 +71,7 @@ struct Session<'a, B: Board> {
     alloc: Global,
     schema: &'a Schema,
     board: &'a mut B,
-    room: Room,
+    room: &'a mut Room,
 }
 
 impl<'a, B: Board> Replier for Session<'a, B> {
@@ -90,7 +91,7 @@ impl<'a, B: Board> Replier for Session<'a, B> {
     ghost IsReady = { λ a. (is_gone (B.state a.board.now) ≡ false) × ((B.state a.board.now).schema ≡ a.schema.now) };
 
     fn answer<K: Sink>(&mut self, text: &[u8], out: &mut K) -> Turn {
-        answer_text(self.alloc, self.schema, self.board, &mut self.room, text, out)
+        answer_text(self.alloc, self.schema, self.board, self.room, text, out)
     }
 
     fn refuse_long<K: Sink>(&mut self, out: &mut K) -> Turn {

@@ -8,4 +8,4 @@ use Rattle.be_session.proofs.serve.SessionReplier.answer.Goals as goal
 pub returns-clause-ready : goal.returns-clause-ready
 returns-clause-ready g c = λ on.
     let s = c.args.self.now.schema.now in
-    ready_then s (reading s (line.text c.args.text.now)) _ _ (sink_state g.K.Sink c.args.out.now) (sink_state g.K.Sink c.answer_text.new.out) c.answer_text.result.by c.answer_text.result.written c.answer_text.ensures.gives c.requires.0 c.requires.1 on
+    ready_then s (reading s (line.text c.args.text.now)) _ _ (sink_state g.K.Sink c.args.out.now) (sink_state g.K.Sink c.answer_text.new.out) c.answer_text.result.by c.answer_text.result.written c.answer_text.ensures.gives c.requires.ready.0 c.requires.ready.1 on
