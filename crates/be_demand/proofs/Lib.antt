@@ -5,7 +5,7 @@ pub mod Peeling
 pub mod GoingOn
 pub mod Refused
 pub mod Gathered
-pub mod GoneOver
 pub mod LiveNames
 pub mod WholeTexts
 pub mod WholeReplies
+pub mod WholeNames

@@ -11,8 +11,6 @@ mod cutting;
 mod demand;
 mod laws;
 mod replies;
-mod whole;
 
 pub use demand::{Demand, count_all};
 pub use laws::legal_is_fit;
-pub use whole::{go_over_changes, go_over_names};

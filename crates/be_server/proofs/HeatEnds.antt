@@ -1,7 +1,8 @@
 -- How `heat` ends: as `drill` does, with what the exchanges count behind its output.
-use Rattle.std.proofs.Common.{◌≡◌, inl, inr, ℕ, zero, suc, ◌+◌, Bool, true, false, List, [], ◌∷◌, ◌++◌, length, map, Some, slice_get, Result, Ok, Err, is_err, refl, sym, ap, ◌∙◌, subst, append_assoc, arith}
+use Rattle.std.proofs.Common.{◌≡◌, inl, inr, ℕ, zero, suc, ◌+◌, ◌-◌, ◌<◌, Bool, true, false, List, [], ◌∷◌, ◌++◌, length, map, Some, slice_get, Result, Ok, Err, is_err, refl, sym, ap, ◌∙◌, subst, append_assoc, arith}
 use Rattle.std.specs.Prelude.{All, OnOk}
-use Rattle.std.specs.List.{flat_map, range_with_len}
+use Rattle.std.specs.List.{flat_map, list_all, range_with_len}
+use Rattle.std.proofs.lemmas.Bool.{and_from}
 use Rattle.std.proofs.lemmas.Grind.{flat_map-append}
 use Rattle.std.proofs.lemmas.List.{append-nil, length-map}
 use Rattle.std.proofs.lemmas.List.Elements.{All-cons, All-head, All-tail, All-nil}
@@ -9,13 +10,15 @@ use Rattle.be_base.specs.Lists.{BeginsWith}
 use Rattle.be_base.specs.Text.{Text}
 use Rattle.be_base.specs.declared.limits.TheConstants.{LINE_BYTES}
 use Rattle.be_base.proofs.Beginnings.{BeginsWith-along, BeginsWith-same}
-use Rattle.be_change.specs.History.{Entry}
+use Rattle.be_change.specs.History.{Entry, session_of}
 use Rattle.be_change.specs.Opening.{opening_of}
 use Rattle.be_change.specs.Requests.{Request, Exchange}
 use Rattle.be_demand.specs.Demand.{DemandState, demand, IsOver, AreOver}
-use Rattle.be_demand.specs.Whole.{names_are_whole, changes_are_whole}
+use Rattle.be_demand.specs.Whole.{names_are_whole, entry_is_whole, changes_are_whole}
 use Rattle.be_demand.proofs.Gathered.{range_more}
+use Rattle.be_demand.proofs.WholeNames.{session_whole}
 use Rattle.be_demand.proofs.WholeReplies.{legal_is_fit}
+use Rattle.be_hub.proofs.Ends.{there}
 use Rattle.be_hub.specs.Transcripts.{AreServedLines, IsTranscript, AreServed}
 use Rattle.be_io.specs.Lines.{TextLine, lines}
 use Rattle.be_io.specs.Sink.{SinkState}
@@ -85,6 +88,20 @@ module _ (s : Attributes) (z : ℕ) (h : List Entry) (shuts : Bool) (names : nam
           let told : IsTranscriptOf s (number 0) z h shuts f t ps = (first, same) in
           subst (λ (x : Text). IsTranscriptOf s (number 0) z h shuts x transcript ps) same_file (subst (λ (x : Text). IsTranscriptOf s (number 0) z h shuts f x ps) same_text told)
       one first rest (suc i) file transcript ps at there here = rest.each i file transcript ps at there here
+
+all_at : {X : Type 0} (p : X → Bool) (xs : List X) → ((i : ℕ) (x : X) → slice_get xs i ≡ Some x → p x ≡ true) → list_all p xs ≡ true
+all_at p [] each = refl
+all_at p (x ∷ xs) each = and_from (p x) (list_all p xs) (each 0 x refl) (all_at p xs (λ i. each (suc i)))
+
+-- no name in the list has an LF: each change was answered to one of the sessions
+pub changes_whole : (s : Attributes) (h : List Entry) (shuts : Bool) (files transcripts : List Text) → AreServed s [] h shuts files transcripts → changes_are_whole h ≡ true
+changes_whole s h shuts files transcripts served = all_at entry_is_whole h (λ p e at.
+    let of = served.sessions p e (omega arith) at in
+    let i = session_of e - 1 in
+    let file = there files i (omega (arith, of.0, of.1)) in
+    let transcript = there transcripts i (omega (arith, of.0, of.1, served.count)) in
+    let t = served.each i file.0 transcript.0 file.1 transcript.1 in
+    session_whole s (i + 1) 0 h t.served t.exchanges p e t.legal at (omega (arith, of.0)))
 
 -- the exchanges of all sessions, of which the transcripts are the texts, and which are counted
 pub served_by : (s : Attributes) (opening h : List Entry) (shuts : Bool) (files transcripts : List Text) → names_are_whole s ≡ true → changes_are_whole h ≡ true → AreServed s opening h shuts files transcripts

@@ -4,6 +4,7 @@ ghost use Rattle.std.specs.Prelude.{◌≡◌, ℕ, ◌++◌, ◌∷◌, [], Lis
 ghost use Rattle.std.specs.List.{list_all};
 ghost use Rattle.be_base.specs.Readers.{now_of};
 ghost use Rattle.be_change.specs.Opening.{IsTable};
+ghost use Rattle.be_demand.specs.Whole.{names_are_whole};
 ghost use Rattle.be_model.specs.Lies.{row_lies};
 ghost use Rattle.be_server.specs.Files.{LoadsSchema, LoadsTable, LoadsRun, run_files, run_names};
 ghost use Rattle.be_server.specs.Asked.{MayAsk, AsksInTurn};
@@ -31,6 +32,7 @@ pub fn load_files<F: Shelf>(
 ) -> Result<Loaded, Status>
     ensures loads { LoadsRun (run_files (F.content shelf.old) schema.now (option_map now_of load.entry)) (F.read_faults shelf.old) (F.read_faults shelf.new) result }
     ensures lies { IfOk result (λ l. list_all (row_lies l.schema) l.rows.items ≡ true) }
+    ensures names { IfOk result (λ l. names_are_whole l.schema ≡ true) }
     ensures asked { AsksInTurn (F.content shelf.old) schema.now (option_map now_of load.entry) [] (F.asked shelf.old) (F.asked shelf.new) }
     ensures read { OnOk result (F.asked shelf.new ≡ F.asked shelf.old ++ run_names schema.now (option_map now_of load.entry)) }
     ensures content { (file : List ℕ) → F.content shelf.new file ≡ F.content shelf.old file }
@@ -50,6 +52,7 @@ pub(crate) fn load_schema<F: Shelf>(
     name: &str,
 ) -> Result<Schema, Status>
     ensures loads { LoadsSchema (F.content shelf.old name.now) (F.read_faults shelf.old) (F.read_faults shelf.new) result }
+    ensures names { IfOk result (λ schema. names_are_whole schema ≡ true) }
     ensures asked { MayAsk name.now (F.asked shelf.old) (F.asked shelf.new) }
     ensures read { OnOk result (F.asked shelf.new ≡ F.asked shelf.old ++ name.now ∷ []) }
     ensures content { (file : List ℕ) → F.content shelf.new file ≡ F.content shelf.old file }

@@ -1,12 +1,13 @@
 //! The command `heat`: what `drill` does, and what the answered events ask for.
 
-ghost use Rattle.std.specs.Prelude.{◌≡◌, ◌<◌, ◌≤◌, ◌++◌, true, Some, length, map, All, IfOk, OnOk};
+ghost use Rattle.std.specs.Prelude.{◌≡◌, ◌<◌, ◌≤◌, ◌++◌, [], true, Some, length, map, All, IfOk, OnOk};
 ghost use Rattle.std.specs.List.{list_all};
 ghost use Rattle.std.specs.Option.{is_some};
 ghost use Rattle.be_base.specs.Readers.{now_of};
 ghost use Rattle.be_base.specs.declared.limits.TheConstants.{FILE_BYTES, ROUNDS, SEATS};
-ghost use Rattle.be_change.specs.Opening.{IsTable, opening_of};
+ghost use Rattle.be_change.specs.Opening.{IsTable};
 ghost use Rattle.be_change.specs.Sound.{Sound};
+ghost use Rattle.be_demand.specs.Whole.{names_are_whole};
 ghost use Rattle.be_hub.specs.Transcripts.{AreServed};
 ghost use Rattle.be_io.specs.Outside.{link_state, sink_state};
 ghost use Rattle.be_model.specs.Lies.{row_lies};
@@ -21,7 +22,7 @@ use crate::output::{text_of_log, write_behind};
 use crate::scripts::{DrillFiles, load_drill};
 use crate::status::Status;
 use be_base::{AttrNo, NoMemory};
-use be_demand::{Demand, count_all, go_over_changes, go_over_names};
+use be_demand::{Demand, count_all};
 use be_door::Door;
 use be_hub::Drilled;
 use be_io::{Gate, Link, Shelf, Sink, Source};
@@ -75,6 +76,8 @@ fn run_heat<R: Threads + Wait + Sync, K: Sink, G: Gate + Sync>(
 ) -> Status
     requires table { IsTable loaded.rows.items }
     requires lies { list_all (row_lies loaded.schema) loaded.rows.items ≡ true }
+    requires none { loaded.rows.items ≡ [] }
+    requires names { names_are_whole loaded.schema ≡ true }
     requires some { 0 < length loaded.scripts.items }
     requires few { length loaded.scripts.items ≤ SEATS }
     requires short { All (λ script. length script.items ≤ FILE_BYTES) loaded.scripts.items }
@@ -119,16 +122,15 @@ fn write_heat<R: Threads + Sync, K: Sink>(
     drilled: Drilled,
     out: &mut K,
 ) -> Status
+    requires names { names_are_whole schema.now ≡ true }
     requires sound { Sound schema.now drilled.log.list }
     requires some { 0 < length files.now }
     requires few { length files.now ≤ SEATS }
     requires each { length drilled.transcripts.items ≡ length files.now }
     requires short { All (λ file. length file.items ≤ FILE_BYTES) files.now }
-    ensures { (rows : _) → AreServed schema.now (opening_of rows) drilled.log.list (is_some drilled.shade) (map (λ file. file.items) files.now) (map (λ t. t.items) drilled.transcripts.items)
-        → RunsHeat (out.new ≡ out.old) schema.now rows (map (λ file. file.items) files.now) (sink_state K.Sink out.old) (sink_state K.Sink out.new) result }
+    ensures { AreServed schema.now [] drilled.log.list (is_some drilled.shade) (map (λ file. file.items) files.now) (map (λ t. t.items) drilled.transcripts.items)
+        → RunsHeat (out.new ≡ out.old) schema.now [] (map (λ file. file.items) files.now) (sink_state K.Sink out.old) (sink_state K.Sink out.new) result }
 {
-    go_over_names(schema);
-    go_over_changes(&drilled.log);
     let transcripts = drilled.transcripts.as_slice();
     let Ok(demand) = count_all(rt, alloc, schema, files, transcripts) else {
         return Status::NoMemory;

@@ -4,6 +4,7 @@ ghost use Rattle.std.specs.Prelude.{◌≡◌, ◌≤◌, ◌++◌, true, Some, 
 ghost use Rattle.std.specs.List.{list_all};
 ghost use Rattle.be_base.specs.Readers.{now_of};
 ghost use Rattle.be_base.specs.declared.limits.TheConstants.{FILE_BYTES};
+ghost use Rattle.be_demand.specs.Whole.{names_are_whole};
 ghost use Rattle.be_model.specs.Lies.{row_lies};
 ghost use Rattle.be_server.specs.Drill.{LoadsScripts, LoadsDrill, drill_files};
 ghost use Rattle.be_server.specs.Asked.{AsksInOrder, AsksInTurn};
@@ -32,6 +33,7 @@ pub fn load_drill<F: Shelf>(
 ) -> Result<DrillFiles, Status>
     ensures loads { LoadsDrill (drill_files (F.content shelf.old) schema.now (option_map now_of load.entry) (map now_of files.now)) (F.read_faults shelf.old) (F.read_faults shelf.new) result }
     ensures lies { IfOk result (λ l. list_all (row_lies l.schema) l.rows.items ≡ true) }
+    ensures names { IfOk result (λ l. names_are_whole l.schema ≡ true) }
     ensures count { IfOk result (λ l. length l.scripts.items ≡ length files.now) }
     ensures short { IfOk result (λ l. All (λ script. length script.items ≤ FILE_BYTES) l.scripts.items) }
     ensures asked { AsksInTurn (F.content shelf.old) schema.now (option_map now_of load.entry) (map now_of files.now) (F.asked shelf.old) (F.asked shelf.new) }

@@ -11,6 +11,9 @@ use Rattle.be_server.proofs.DrillEnds.{files_served, files_refused}
 use Rattle.be_server.proofs.Promise.{promised, none_taken}
 use Rattle.be_server.proofs.heat.heat.Goals as goal
 
+pub run_heat-requires-clause-none : goal.run_heat-requires-clause-none
+run_heat-requires-clause-none g c κs within = c.in-Ok.ensures.loads.1.are_rows.1
+
 pub returns-in-Ok : goal.returns-in-Ok
 returns-in-Ok g c input door =
     let p = passage g.F.Shelf g.S.Source g.K.Sink g.D.Door.state (link_state g.L.Source g.L.Sink) (objects c.args.shelf.now input c.args.out.now door) (objects c.load_drill.new.shelf input c.run_heat.new.out door) in

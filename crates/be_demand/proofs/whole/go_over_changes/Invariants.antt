@@ -1,6 +1,0 @@
-use Rattle.std.proofs.Common.{◌≡◌, true, take}
-use Rattle.be_demand.specs.Whole.{changes_are_whole}
-use Rattle.be_demand.proofs.whole.go_over_changes.Given as goal
-
-abbrev pub invariant-loop-place : goal.invariant-loop-place
-invariant-loop-place l = changes_are_whole (take l.place l.log.list) ≡ true
