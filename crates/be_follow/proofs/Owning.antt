@@ -10,12 +10,7 @@ use Rattle.be_change.specs.LiveRows.{is_among_texts, all_differ}
 use Rattle.be_change.proofs.Names.{live_differ}
 use Rattle.be_follow.specs.Placing.{owner_of}
 
--- the first row of a name is its owner's
-pub owner_by : (o : Option (ℕ × Row)) (row : Row) → option_map (λ (r : ℕ × Row). r.1) o ≡ Some row → option_map (λ (r : ℕ × Row). r.1.session.0) o ≡ Some row.session.0
-owner_by None row e = absurd cc
-owner_by (Some r) row e = let same : r.1 ≡ row = cc in ap (λ (x : Row). Some x.session.0) same
-
--- and a name that has none is free
+-- a name that has no owner is free
 pub free_name : (name : Text) (l : ByIds) → owner_of name l ≡ None → is_live_name name l ≡ false
 free_name name [] e = refl
 free_name name (r ∷ l) e = step (has_name name r) refl e (free_name name l)

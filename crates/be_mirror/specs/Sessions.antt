@@ -41,8 +41,3 @@ pub record Answered (s : Attributes) (r : Request) (known known' : List Entry) (
   pub reply : Reply
   pub steps : Steps s (r, reply) known known'
   pub writes : Writes (reply_text s reply) (is_quit r) before after answer
-
--- the exchanges were made one after another, and nothing was learnt between
-abbrev pub Trace : Attributes → List Exchange → List Entry → List Entry → Type 0
-Trace s [] known known' = known' ≡ known
-Trace s (p ∷ ps) known known' = (mid : List Entry) × Steps s p known mid × Trace s ps mid known'

@@ -14,7 +14,7 @@ use Rattle.be_model.specs.Schemas.{Attributes}
 use Rattle.be_change.specs.Requests.{Request, quit, Reply, split, Exchange}
 use Rattle.be_protocol.specs.Conduct.{Conduct, LeavesIf, leading, Refused}
 use Rattle.be_protocol.specs.Conversation.{Replied, NoWriteFailed, RefusedOnce, EndedByReply, BrokeOff, CutShort, ConversationEnds, KeepsBeside}
-use Rattle.be_protocol.specs.Ends.{end_after, is_on, is_by_reply, end_of}
+use Rattle.be_protocol.specs.Ends.{end_after, is_on, end_of}
 use Rattle.be_protocol.specs.Replies.{reply_text}
 use Rattle.be_protocol.specs.Transcript.{texts, OutputBroke}
 use Rattle.be_protocol.specs.Turns.{TurnState, TakesAlike, TookLine, TookBreak, IsSilent, Turned, StopsAt, BrokeOffAt, GivenOn, LinesGoOn, IsGoingOn}
@@ -40,6 +40,12 @@ broke_off_at s ps p fault out before after w = by w.some
       sym (texts-push s ps p ∙ ap (λ (x : List ℕ). texts s ps ++ x) (w.is_text ∙ (ap (λ (x : List ℕ). out ++ x) none ∙ append-nil out))),
       kept,
     )
+
+-- a conversation ends by a reply so
+abbrev is_by_reply : SessionEnd → Bool
+is_by_reply ends.Quit = true
+is_by_reply (ends.Split a b) = true
+is_by_reply end = false
 
 -- a reply that ended the conversation is a QUIT's or tells two numbers that differ
 abbrev gives_end : Option SessionEnd → Bool

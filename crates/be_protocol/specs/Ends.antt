@@ -21,12 +21,6 @@ is_on (Some end) = false
 abbrev pub goes_on : Exchange → Bool
 goes_on p = is_on (end_after p.0 p.1)
 
--- so a session ends by a reply
-abbrev pub is_by_reply : SessionEnd → Bool
-is_by_reply Quit = true
-is_by_reply (Split a b) = true
-is_by_reply end = false
-
 -- none of these replies ended the session, or the last one did so
 abbrev pub EndsBy : Option SessionEnd → List Exchange → Type 0
 EndsBy None ps = list_all goes_on ps ≡ true
