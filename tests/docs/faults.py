@@ -30,7 +30,7 @@ FAULTS = {
     links.check_readme: [("README.md", None, "x" * 8192, "more than 8192")],
     names.check_map: [
         ("docs/develop/architecture.md", "`be_model/Hulls` |", "`be_model/Lies` |", "names hull in be_model/Lies"),
-        ("docs/develop/architecture.md", "(`be_session/src/serve.rt`)", "(`be_session/src/room.rt`)", "names serve_link in be_session/src/room.rt"),
+        ("docs/develop/architecture.md", "(`be_protocol/src/conversing.rt`)", "(`be_protocol/src/short.rt`)", "names converse in be_protocol/src/short.rt"),
         ("docs/develop/architecture.md", "be_io/src/lines.rt", "be_io/src/nowhere.rt", "names be_io/src/nowhere.rt"),
     ],
     names.check_words: [("docs/develop/terms.md", None, "see `is_nowhere_named`", "names is_nowhere_named, which no source has")],
