@@ -28,7 +28,7 @@ ends_calm P s file after b b' ReadFault calm e = absurd (omega (arith, e.0, calm
 ends_calm P s file after b b' WriteFault calm e = absurd (omega (arith, e.0, calm.writes))
 ends_calm P s file after b b' Spent calm e = absurd (omega (arith, e.0, calm.taken))
 
-ends_weaker : (P Q : Type 0) (s : Attributes) (before after : LinkState) (b b' : BoardState) (end : SessionEnd) → (P → Q) → SessionEnds P s before after b b' end → SessionEnds Q s before after b b' end
+pub ends_weaker : (P Q : Type 0) (s : Attributes) (before after : LinkState) (b b' : BoardState) (end : SessionEnd) → (P → Q) → SessionEnds P s before after b b' end → SessionEnds Q s before after b b' end
 ends_weaker P Q s before after b b' Eof f e = e
 ends_weaker P Q s before after b b' Quit f e = e
 ends_weaker P Q s before after b b' (Split x y) f e = e

@@ -1,6 +1,7 @@
 mod AtBoard
 mod Asking
 mod FilesServed
+mod SessionsServed
 pub mod Pairs
 pub mod Choices
 pub mod Closing
