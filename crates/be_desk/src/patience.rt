@@ -9,7 +9,7 @@ use std::marker::Model;
 /// that changes earn take about a tenth of the time that the changes take.
 pub const WORK_A_CHANGE: u64 = 8;
 
-/// What a tend earns: without any change a look comes after as many tends as a quarter of the live rows, where
+/// What a tend earns: without any change, a look comes after a quarter as many tends as there are live rows, where
 /// these are enough for a look.
 pub const WORK_A_TEND: u64 = 4;
 

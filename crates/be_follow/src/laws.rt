@@ -7,7 +7,8 @@ pub fn feeds_are_followed()
     ensures { FeedsAreFollowed }
 {}
 
-/// Replies to TAIL that were captured mean the changes that they cover, however they overlap, come again or break off.
+/// Captured replies to TAIL, none of which begins past what those before it cover, mean the changes that they cover, however they
+/// overlap, come again or break off behind a line.
 pub fn captures_are_followed()
     ensures { CapturesAreFollowed }
 {}

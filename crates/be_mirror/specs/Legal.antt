@@ -7,7 +7,7 @@ use Rattle.be_change.specs.Requests.{Request, quit, Reply, bye}
 use Rattle.be_change.specs.Walk as session
 use Rattle.be_change.specs.Walk.{Walk, having_seen, having_ended, IsReadAt}
 
--- nobody makes no change, and has no row
+-- the session that stands in the walk: no request that a mirror answers asks for a session's rows or changes
 abbrev pub nobody : ℕ
 nobody = 0
 

@@ -1,6 +1,6 @@
 //! A mirror: a follower that serves while it follows.
 //!
-//! A `Feeder` takes the bytes of a feed and publishes what they mean, once a piece. Its contract: the list behind it is what all bytes
+//! A `Feeder` takes the bytes of a feed and publishes what they mean. Its contract: the list behind it is what all bytes
 //! that were taken mean, and after a call all of it is published, but where memory was wanting. A `Session` answers lines from a
 //! glass. Its contract: every list that goes on from what was shown bears each reply out, as one of a session that makes no change. It
 //! stands on be_follow for feeds, and on be_published for the two copies. Begin with specs/Feeders, and with specs/Legal and

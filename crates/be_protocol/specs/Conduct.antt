@@ -32,7 +32,7 @@ pub record Conduct (S : Type 0) : Type 1 where
 -- what no call changes in something that answers lines
 pub record KeptByReplier : Type 0 where
   pub schema : Attributes
-  -- the borrowed objects that stand behind it
+  -- the objects that it borrows to change them
   pub references : List ℕ
 
 -- nothing happened, or it was tended

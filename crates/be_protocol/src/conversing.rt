@@ -1,4 +1,4 @@
-//! A conversation over a link: a reply for each line, until a reply ends it, the end of the input or a fault.
+//! A conversation over a link: a reply for each line, until a reply, the end of the input or a fault ends it.
 
 ghost use Rattle.std.specs.Prelude.{◌≡◌, ◌+◌, ◌<◌, ◌≤◌, ℕ, length, None, IfOk, OnOk, OnErr};
 ghost use Rattle.be_base.specs.declared.limits.TheConstants.{SOURCE_BYTES};
@@ -16,7 +16,7 @@ use be_base::LINE_BYTES;
 use be_io::{Gate, Line, LineFault, LineReader, Link, Sink, hand_on};
 use std::alloc::Global;
 
-/// After so many replies what answers is tended.
+/// The replier is tended after so many replies.
 const REPLIES_TENDED: u64 = 16;
 
 // Where a worker stands: at a line of its conversation, counted from 1.
@@ -37,8 +37,8 @@ impl<G: Gate> Station<'_, G> {
     }
 }
 
-/// Answers the lines of a link, until a reply ends that, the end of the input or a fault. Where no reply ended it, the replier
-/// leaves. Replies are handed on before a read that may wait, and at the end. The gate is called by the worker's number before
+/// Answers the lines of a link until a reply, the end of the input or a fault ends the conversation. Where no reply ended it, the
+/// replier leaves, unless memory was wanting before the first line. Replies are handed on before a read that may wait, and at the end. The gate is called by the worker's number before
 /// and after each line, and the replier is tended after every sixteenth reply.
 pub fn converse<A: Replier, L: Link, G: Gate>(
     alloc: Global,

@@ -11,7 +11,7 @@ use be_io::{Sink, SinkFault};
 /// How the answer to a line went.
 #[derive(Clone, Copy, Debug, PartialEq, Eq)]
 pub struct Turn {
-    /// The end that the reply makes of the conversation, also where it was written in part.
+    /// How the reply ends the conversation, where it does; the same where only a part of it was written.
     pub by: Option<SessionEnd>,
     pub written: Result<(), SinkFault>,
 }

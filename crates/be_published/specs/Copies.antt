@@ -20,7 +20,7 @@ OfCopy {X} list h P = (copy : X) × (list copy ≡ h) × P copy
 abbrev pub IsPlanIn : {X : Type 0} → (X → Option Step) → (X → ℕ) → Option ℕ → X → Option Step → Type 0
 IsPlanIn planned mark bare copy found = (found ≡ planned copy) ⊎ ((found ≡ None) × (bare ≡ Some (mark copy)))
 
--- a copy was entered whose list goes on where all known ends, and a plan found this in it, which was counted
+-- there is a copy whose list goes on where all known ends. A plan found this of it (`IsPlanIn`), which was counted
 pub record Plans {X : Type 0} (list : X → List Entry) (planned : X → Option Step) (mark : X → ℕ) (g g' : GlassState) (found : Option Step) : Type 0 where
   pub copy : X
   pub known : BeginsWith (list copy) g.known

@@ -220,8 +220,8 @@ impl<T: Sheet<J>, J: Naming> Glass<T, J> {
         Ok(self.answer(front, done)?.0)
     }
 
-    /// The step that reshapes the published copy next, where there is one. It goes through the copy only where that changed since
-    /// a plan of this reader found none in it.
+    /// The step that reshapes the published copy next, where there is one. It searches the copy unless a plan of this reader found
+    /// none in it and its mark is the same.
     pub fn plan(&mut self) -> Result<Option<Step>, NoRead>
         ensures plans { IfOk result (Plans T.list T.planned T.mark_of self.old self.new) }
         ensures refused { IfErr result (Refuses self.old self.new) }
@@ -344,7 +344,7 @@ fn leave<T: Sheet<J>, J: Naming>(door: &mut Door<T>, entered: Entered<T>) -> Fro
     front
 }
 
-// What a plan finds in the copy. It goes through it only where the copy hasn't the mark in which one found none.
+// What a plan finds in the copy: none, without a search, where it has the mark of one in which a plan found none.
 fn plan_in<T: Sheet<J>, J: Naming>(copy: &T, bare: Option<u64>) -> Result<Option<Step>, NoMemory>
     ensures { IfOk result (IsPlanIn T.planned T.mark_of bare copy.now) }
 {

@@ -79,7 +79,7 @@ pub fn open_pair<I: Index, J: Naming, R: Wait>(
     match glasses_of(alloc, &press, readers) {
         Ok(glasses) => Ok((press, glasses)),
         Err(NoMemory) => {
-            drop(press.end(rt));
+            press.end(rt);
             Err(NoMemory)
         }
     }

@@ -194,10 +194,8 @@ impl<T: Sheet<J>, J: Naming> Press<T, J> {
         }
     }
 
-    /// Gives the published copy out, and all else up, what is pending too. It may wait for readers.
-    pub fn end<R: Wait>(self, rt: &R) -> Box<T>
-        ensures { T.list result.value ≡ self.published }
-    {
+    /// Gives it up, with what is pending. It may wait for readers.
+    pub fn end<R: Wait>(self, rt: &R) {
         let Press {
             writer,
             book: _,
@@ -207,7 +205,7 @@ impl<T: Sheet<J>, J: Naming> Press<T, J> {
             reshaped: _,
             steps: _,
         } = self;
-        writer.take(rt)
+        writer.take(rt);
     }
 }
 

@@ -20,7 +20,7 @@ extent_of FirstIsSet = Few
 extent_of SecondIsSet = Few
 extent_of ThirdIsSet = Few
 
--- the number is one of the ends, or its lower bits are those of the number between them
+-- the number is one of the ends, or the lower bits of its size are those of the number between them
 abbrev pub may_be : ℤ × ℤ → ℕ → ℤ → Bool
 may_be ends middle v = int_eq ends.0 v || int_eq ends.1 v || (low_part (unsigned_abs v) == middle)
 

@@ -1,4 +1,4 @@
-//! What is told of a small set of numbers, one of which a row wants of an attribute, so that most events are refused without a
+//! What is told of a small set of numbers, one of which a row wants of an attribute, so that an event can be refused without a
 //! look at the row.
 
 ghost use Rattle.std.specs.Prelude.{◌≡◌, ℤ, true, IfSome, unsigned_abs};
@@ -47,7 +47,7 @@ pub(crate) fn may_be(ends: Ends, middle: u8, v: i64) -> bool
     ends.0 as i64 == v || ends.1 as i64 == v || low_part(v.unsigned_abs()) == middle
 }
 
-/// The lower bits of the number between the ends of a set, where it has at most three.
+/// The lower bits of the middle one of three numbers, or of the first of fewer. None of a larger set.
 pub(crate) fn middle_of(xs: &Values) -> Option<u8>
     ensures { IfSome result (λ m. (v : ℤ) → is_among xs.now v ≡ true → may_be (first_of_values xs.now, last_of_values xs.now) m v ≡ true) }
 {
