@@ -14,8 +14,10 @@ import time
 
 import redis
 
-TOP = pathlib.Path(__file__).resolve().parent.parent
 sys.dont_write_bytecode = True
+import ports  # noqa: E402
+
+TOP = pathlib.Path(__file__).resolve().parent.parent
 sys.path.insert(0, str(TOP / "examples" / "client"))
 from justmeadow import Connection  # noqa: E402
 
@@ -25,12 +27,6 @@ PATIENCE = 20  # seconds until what is waited for counts as a failure
 
 class Failed(Exception):
     pass
-
-
-def free_port():
-    with socket.socket() as probe:
-        probe.bind(("127.0.0.1", 0))
-        return probe.getsockname()[1]
 
 
 def wait_until(what, holds):
@@ -57,7 +53,7 @@ class Relay:
     """Stands between tell.py and the leader, so that their connections can be broken."""
 
     def __init__(self, port):
-        self.port, self.target, self.open = free_port(), port, []
+        self.port, self.target, self.open = ports.free_port(), port, []
         self.start()
 
     def start(self):
@@ -92,7 +88,7 @@ class Cluster:
     def __init__(self, program, room):
         self.program, self.room, self.started = program, pathlib.Path(room), []
         self.count = 0
-        self.redis_port = free_port()
+        self.redis_port = ports.free_port()
         self.url = f"redis://127.0.0.1:{self.redis_port}"
         self.store = redis.Redis(port=self.redis_port)
 
@@ -108,8 +104,11 @@ class Cluster:
         )  # fmt: skip
 
     def start_leader(self):
-        self.port = free_port()
-        self.leader = self.start(self.program, "serve", SCHEMA, self.port, "6", "1000", stdin=subprocess.DEVNULL, stdout=subprocess.DEVNULL)
+        def words(port):
+            return [self.program, "serve", str(SCHEMA), str(port), "6", "1000"]
+
+        self.leader, self.port = ports.serving(words, stdin=subprocess.DEVNULL, stdout=subprocess.DEVNULL)
+        self.started.append(self.leader)
         self.writer = connected(self.port)
 
     def start_telling(self, port):
@@ -264,7 +263,7 @@ def is_another_list(c):
 
 def is_away(_):
     """Nothing is there at the start."""
-    port = str(free_port())
+    port = str(ports.free_port())
     stream = ["feed", "--redis", f"redis://127.0.0.1:{port}"]
     for name, words in (("tell.py", [port]), ("put.py", stream), ("get.py", stream)):
         ended = subprocess.run([sys.executable, CLUSTER / name, *words, "--patience", "0.2"], stdin=subprocess.DEVNULL, capture_output=True, check=False)

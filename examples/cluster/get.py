@@ -5,7 +5,7 @@ with `--once` as far as the stream goes now.
     examples/cluster/get.py feed --once >feed.txt
 
 Where Redis goes away it tries again, after growing pauses, and goes on behind the last change that it printed. Ends with 1 where
-there is no Redis at the start, or nobody reads its output, and with 3 where the stream wants a change. Needs Debian's python3-redis."""
+there is no Redis at the start, or nobody reads its output, and with 3 where the stream lacks a change. Needs Debian's python3-redis."""
 import sys
 
 sys.dont_write_bytecode = True

@@ -6,7 +6,7 @@ the line in its field `line`.
 
 A change that the stream has already is compared and passed over, so a second teller, a restart and a repeat change nothing, and
 the stream never has a gap. Where Redis goes away it tries again, after growing pauses. Ends with 1 where there is no Redis at the
-start, where a line isn't one of a feed, and where changes are wanting before one: begin again with the first change then. Ends with
+start, where a line isn't one of a feed, and where changes before one are missing: begin again with the first change then. Ends with
 3 where the stream has another change at a place. Needs Debian's python3-redis."""
 import os
 import re

@@ -188,9 +188,22 @@ commanded_whole (c ∷ cs) all s name ts = go (all.0 s ts) (commanded_whole cs a
     go this others false = others
 
 commands_whole : AskWhole commands
-commands_whole =
-    (subscription_whole, ((λ s. removal_whole), (asks_whole publish (λ e. tt), (asks_whole costing (λ e. tt), ((λ s. alone_whole listing tt),
-    (asks_whole sending (λ e. tt), ((λ s. fetch_whole), ((λ s. alone_whole dumping tt), ((λ s. tail_whole), ((λ s. alone_whole quit tt), tt))))))))))
+commands_whole = (
+  subscription_whole,
+  (
+    (λ s. removal_whole),
+    (
+      asks_whole publish (λ e. tt),
+      (
+        asks_whole costing (λ e. tt),
+        (
+          (λ s. alone_whole listing tt),
+          (asks_whole sending (λ e. tt), ((λ s. fetch_whole), ((λ s. alone_whole dumping tt), ((λ s. tail_whole), ((λ s. alone_whole quit tt), tt))))),
+        ),
+      ),
+    ),
+  ),
+)
 
 request_whole : (s : Attributes) (ts : Option (List Lexeme)) → NameWhole (request_of s ts)
 request_whole s (Some (word name ∷ ts)) = commanded_whole commands commands_whole s name (Some ts)

@@ -20,9 +20,7 @@ use be_base::NoMemory;
 use be_index::Index;
 use be_io::{Link, NoGate, Sink, write_all};
 use be_model::{Event, Found};
-use be_protocol::{
-    Naming, Refusal, Replier, SessionEnd, Short, Turn, converse, say, write_names,
-};
+use be_protocol::{Naming, Refusal, Replier, SessionEnd, Short, Turn, converse, say, write_names};
 use std::alloc::Global;
 
 // What was found for a reply, and its text.
@@ -113,12 +111,7 @@ impl<'a, I: Index> Replier for AskedFollower<'a, I> {
 }
 
 // Answers what was asked.
-fn answer<I: Index, K: Sink>(
-    follower: &Follower<I>,
-    room: &mut Room,
-    ask: Ask,
-    out: &mut K,
-) -> Turn
+fn answer<I: Index, K: Sink>(follower: &Follower<I>, room: &mut Room, ask: Ask, out: &mut K) -> Turn
     requires { ask_lies follower.now.schema ask ≡ true }
     ensures gives { GivesReply (reads_conduct follower.now.schema) (plain_ask ask) follower.now.fed.list follower.now.fed.list
         (sink_state K.Sink out.old) (sink_state K.Sink out.new) result.by result.written }

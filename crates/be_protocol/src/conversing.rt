@@ -121,8 +121,7 @@ fn next_turn<A: Replier, L: Link, G: Gate>(
 ) -> Result<Turn, SessionEnd>
     requires reads { IsReading reader.old }
     requires ready { A.IsReady replier.old }
-    ensures turned {
-        let before : TurnState A.State = record { reader = reader.old; link = link_state L.Source L.Sink link.old; state = A.state replier.old } in
+    ensures turned { let before : TurnState A.State = record { reader = reader.old; link = link_state L.Source L.Sink link.old; state = A.state replier.old } in
         let after : TurnState A.State = record { reader = reader.new; link = link_state L.Source L.Sink link.new; state = A.state replier.new } in
         Turned (GivenOn (A.conduct (A.kept replier.old).schema) before after) before after result }
     ensures ready { IfOk result (λ turn. turn.by ≡ None → A.IsReady replier.new) }
@@ -148,8 +147,7 @@ fn take_turn<A: Replier, L: Link, G: Gate>(
 ) -> Result<Turn, SessionEnd>
     requires reads { IsReading reader.old }
     requires ready { A.IsReady replier.old }
-    ensures turned {
-        let before : TurnState A.State = record { reader = reader.old; link = link_state L.Source L.Sink link.old; state = A.state replier.old } in
+    ensures turned { let before : TurnState A.State = record { reader = reader.old; link = link_state L.Source L.Sink link.old; state = A.state replier.old } in
         let after : TurnState A.State = record { reader = reader.new; link = link_state L.Source L.Sink link.new; state = A.state replier.new } in
         Turned (Given (A.conduct (A.kept replier.old).schema) before after) before after result }
     ensures ready { IfOk result (λ turn. turn.by ≡ None → A.IsReady replier.new) }

@@ -190,19 +190,19 @@ fetch_cut_at_end s max count b now before mid after fault f all w =
     let out : List ℕ = note_lines s f.given ++ take part.0 (end_line count) in
     let text : (note_lines s f.given ++ end_line count) ++ [] ≡ reply_text s (notes f.given) =
     append-nil (note_lines s f.given ++ end_line count) ∙ (ap (λ (n : ℕ). note_lines s f.given ++ end_line n) (sym f.many) ∙ sym (notes_text s f.given)) in
-      record {
-        reply = notes f.given;
-        ends = refl;
-        out = out;
-        replies = record {
-          steps = fetch_steps s max f.given f.given b now f.goes f.known f.own f.from (omega (arith, f.many, f.few)) f.noted;
-          tied = part_tied max f.given b now f.goes;
-          puts = puts_one b.box (fetching max, notes f.given) b.counts now.counts refl f.puts;
-          letters = cut_at_end b.box s max f.given out b now (gives_all b.box max f.given b now f.from (all_first max f.given b now count f.many f.few all))
-              (record { taken = f.given; letters = sym (append-nil f.given); given = begins_lines s (length f.given - 1) f.given (take part.0 (end_line count)) });
-        };
-        wrote = subst (λ (t : List ℕ). WroteInPart t fault out before after) text part.1;
-      }
+    record {
+      reply = notes f.given;
+      ends = refl;
+      out = out;
+      replies = record {
+        steps = fetch_steps s max f.given f.given b now f.goes f.known f.own f.from (omega (arith, f.many, f.few)) f.noted;
+        tied = part_tied max f.given b now f.goes;
+        puts = puts_one b.box (fetching max, notes f.given) b.counts now.counts refl f.puts;
+        letters = cut_at_end b.box s max f.given out b now (gives_all b.box max f.given b now f.from (all_first max f.given b now count f.many f.few all))
+            (record { taken = f.given; letters = sym (append-nil f.given); given = begins_lines s (length f.given - 1) f.given (take part.0 (end_line count)) });
+      };
+      wrote = subst (λ (t : List ℕ). WroteInPart t fault out before after) text part.1;
+    }
 
 -- all letters of a reply that was cut at a letter: those taken, and those that would have followed
 record CutLetters (s : Attributes) (max : ℕ) (taken : List Note) (b next : BoardState) : Type 0 where
@@ -279,23 +279,23 @@ fetch_cut s sch max count b now next l before mid after fault f more q fit holds
     let many : length taken ≡ length f.given + 1 = length-append f.given (note_of l ∷ []) in
     let whole : take (length taken - 1) taken ≡ f.given =
     ap (λ (n : ℕ). take n taken) (omega (arith, many)) ∙ take-append_seam f.given (note_of l ∷ []) in
-      record {
-        reply = notes (taken ++ c.more);
-        ends = refl;
-        out = out;
-        replies = record {
-          steps = fetch_steps s max taken (taken ++ c.more) b next (GoesOn-along b now next f.goes q.goes) (q.known ∙ f.known) (q.own ∙ f.own)
-              (draws_on b.box f.given b now next l f.goes.session fit.session f.from q.from) c.few c.noted;
-          tied = part_tied max (taken ++ c.more) b next (GoesOn-along b now next f.goes q.goes);
-          puts = puts_one b.box (fetching max, notes (taken ++ c.more)) b.counts next.counts refl (q.puts ∙ f.puts);
-          letters = c.given out (record {
-            taken = taken;
-            letters = refl;
-            given = (take part.0 line, ap (λ (x : List Note). note_lines s x ++ take part.0 line) (sym whole));
-          });
-        };
-        wrote = subst (λ (t : List ℕ). WroteInPart t fault out before after) text part.1;
-      }
+    record {
+      reply = notes (taken ++ c.more);
+      ends = refl;
+      out = out;
+      replies = record {
+        steps = fetch_steps s max taken (taken ++ c.more) b next (GoesOn-along b now next f.goes q.goes) (q.known ∙ f.known) (q.own ∙ f.own)
+            (draws_on b.box f.given b now next l f.goes.session fit.session f.from q.from) c.few c.noted;
+        tied = part_tied max (taken ++ c.more) b next (GoesOn-along b now next f.goes q.goes);
+        puts = puts_one b.box (fetching max, notes (taken ++ c.more)) b.counts next.counts refl (q.puts ∙ f.puts);
+        letters = c.given out (record {
+          taken = taken;
+          letters = refl;
+          given = (take part.0 line, ap (λ (x : List Note). note_lines s x ++ take part.0 line) (sym whole));
+        });
+      };
+      wrote = subst (λ (t : List ℕ). WroteInPart t fault out before after) text part.1;
+    }
 
 pub none_given : {X : Type 0} (o : Option X) → ((x : X) → o ≡ Some x → ⊥) → o ≡ None
 none_given None other = refl

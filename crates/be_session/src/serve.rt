@@ -3,7 +3,6 @@
 ghost use Rattle.std.specs.Prelude.{◌≡◌, ◌≤◌, [], true, false, None, OnOk, IfErr, vec_capacity};
 ghost use Rattle.be_io.specs.Lines as line;
 ghost use Rattle.be_io.specs.Outside.{link_state, sink_state};
-
 ghost use Rattle.be_board.specs.State.{is_gone};
 ghost use Rattle.be_board.specs.Word.{own_in};
 ghost use Rattle.be_protocol.specs.Conduct.{GivesReply};
@@ -24,9 +23,7 @@ use be_base::NoMemory;
 use be_board::Board;
 use be_io::{Gate, Link, Sink, write_all};
 use be_model::Schema;
-use be_protocol::{
-    Refusal, Replier, Request, SessionEnd, Short, Turn, converse, read_line, say,
-};
+use be_protocol::{Refusal, Replier, Request, SessionEnd, Short, Turn, converse, read_line, say};
 use std::alloc::Global;
 
 /// Serves the board's session over a link, until a QUIT, the end of the input, a SPLIT or a fault. Unless a reply

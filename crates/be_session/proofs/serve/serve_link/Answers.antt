@@ -14,7 +14,7 @@ pub returns-clause-ends : goal.returns-clause-ends
 returns-clause-ends g c =
     let named = sym (one_reference _ _ (ap (λ (k : KeptByReplier). k.references) c.converse.ensures.kept)) in
     subst (λ (d : g.row.B.Denot). SessionEnds ((c.converse.new.link ≡ c.args.link.now) × (d ≡ c.args.board.now)) c.args.schema.now (link_state g.L.Source g.L.Sink c.args.link.now) (link_state g.L.Source g.L.Sink c.converse.new.link)
-        (g.B.Board.state c.args.board.now) (g.B.Board.state d) c.converse.result) (sym (c.board-1.given.1 named))
+    (g.B.Board.state c.args.board.now) (g.B.Board.state d) c.converse.result) (sym (c.board-1.given.1 named))
     (session_ended _ ((c.converse.new.link ≡ c.args.link.now) × (c.converse.new.replier.board.now ≡ c.args.board.now)) c.args.schema.now (g.B.Board.state c.args.board.now) (g.B.Board.state c.converse.new.replier.board.now) _ _ c.converse.result
     (λ u. (u.0, ap (λ x. x.board.now) u.1)) c.left-left.ensures.somebody c.requires.first c.converse.ensures.ends)
 
