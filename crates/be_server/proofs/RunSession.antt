@@ -18,8 +18,9 @@ use Rattle.be_board.specs.Word.{Keeps}
 use Rattle.be_protocol.specs.declared.ends.SessionEnd.{SessionEnd}
 use Rattle.be_protocol.specs.declared.ends.SessionEnd.TheVariants.{Eof, Quit, ReadFault, WriteFault, Spent, Split, NoMemory}
 use Rattle.be_protocol.specs.Ends.{end_after, is_on}
+use Rattle.be_protocol.specs.Conversation as talk
 use Rattle.be_session.specs.Served as served
-use Rattle.be_session.specs.Served.{BeginsAlone, RanOver}
+use Rattle.be_session.specs.Served.{BeginsAlone, RanOver, session_terms}
 use Rattle.be_server.specs.Run.{QuitsAtEnd, Replied, CutShort, SessionRuns}
 use Rattle.be_session.proofs.Quits.{Last, quits, stays, last_of, last_comes, never_splits, has_no_quit, quits_at, ends_with_quit, still_no_quit}
 
@@ -43,9 +44,9 @@ are_run s rows on ls ps b' r = record {
 
 -- no reply ended the session
 replied_on : (s : Attributes) (rows : List Row) (ls : List TextLine) (before after : SinkState) (b' : BoardState) → BeginsAlone (opened_state s rows)
-    → served.Replied s ls None before after (opened_state s rows) b' → Replied s (opening_of rows) ls false before after
+    → talk.Replied (session_terms s (opened_state s rows) b') ls None before after → Replied s (opening_of rows) ls false before after
 replied_on s rows ls before after b' alone r =
-    let ran = r.alone alone in
+    let ran = r.legal.alone alone in
     record {
       exchanges = r.exchanges;
       legal = are_run s rows true ls r.exchanges b' ran;
@@ -55,9 +56,9 @@ replied_on s rows ls before after b' alone r =
 
 -- the reply to a QUIT ended it
 replied_quit : (s : Attributes) (rows : List Row) (ls : List TextLine) (before after : SinkState) (b' : BoardState) → BeginsAlone (opened_state s rows)
-    → served.Replied s ls (Some Quit) before after (opened_state s rows) b' → Replied s (opening_of rows) ls true before after
+    → talk.Replied (session_terms s (opened_state s rows) b') ls (Some Quit) before after → Replied s (opening_of rows) ls true before after
 replied_quit s rows ls before after b' alone r =
-    let ran = r.alone alone in
+    let ran = r.legal.alone alone in
     let front = r.ends.0 in
     let last = r.ends.1 in
     let asked = subst (λ (ps : List Exchange). requests ps ≡ map (reading s) ls) r.ends.2 r.asked in
@@ -70,22 +71,22 @@ replied_quit s rows ls before after b' alone r =
 
 -- no SPLIT did
 no_split : (s : Attributes) (rows : List Row) (ls : List TextLine) (before after : SinkState) (b' : BoardState) (i j : ℕ) → BeginsAlone (opened_state s rows)
-    → served.Replied s ls (Some (Split i j)) before after (opened_state s rows) b' → ⊥
+    → talk.Replied (session_terms s (opened_state s rows) b') ls (Some (Split i j)) before after → ⊥
 no_split s rows ls before after b' i j alone r =
-    let ran = r.alone alone in
+    let ran = r.legal.alone alone in
     let opened = is_opened (opening_of rows) in
     let plain = subst (λ (ps : List Exchange). list_all (λ (q : Exchange). comes_in_run opened q.1) ps ≡ true) r.ends.2 ran.replies.plain in
     never_splits opened r.ends.0 r.ends.1 i j plain r.ends.4
 
 -- the last reply was cut short
 cut_short : (s : Attributes) (rows : List Row) (before after : LinkState) (b' : BoardState) → BeginsAlone (opened_state s rows)
-    → served.CutShort s before after (opened_state s rows) b' → CutShort s (opening_of rows) before after
+    → talk.CutShort (session_terms s (opened_state s rows) b') before after → CutShort s (opening_of rows) before after
 cut_short s rows before after b' alone c =
     let r = c.replied in
-    let ran = r.alone alone in
+    let ran = r.legal.alone alone in
     by_last r ran (last_of (is_opened (opening_of rows)) r.last (last_comes (is_opened (opening_of rows)) r.exchanges r.last ran.replies.plain))
   where
-    in_part : (r : served.RepliedInPart s c.lines before.sink after.sink (opened_state s rows) b') (by_quit : Bool) → is_on (end_after r.last.0 r.last.1) ≡ not by_quit → QuitsAtEnd by_quit s c.lines
+    in_part : (r : talk.RepliedInPart (session_terms s (opened_state s rows) b') c.lines before.sink after.sink) (by_quit : Bool) → is_on (end_after r.last.0 r.last.1) ≡ not by_quit → QuitsAtEnd by_quit s c.lines
         → RanOver s (is_on (end_after r.last.0 r.last.1)) c.lines (r.exchanges ++ r.last ∷ []) (opened_state s rows) b' → CutShort s (opening_of rows) before after
     in_part r by_quit is at_end ran = record {
       lines = c.lines;
@@ -103,7 +104,7 @@ cut_short s rows before after b' alone c =
       };
     }
 
-    by_last : (r : served.RepliedInPart s c.lines before.sink after.sink (opened_state s rows) b')
+    by_last : (r : talk.RepliedInPart (session_terms s (opened_state s rows) b') c.lines before.sink after.sink)
         → RanOver s (is_on (end_after r.last.0 r.last.1)) c.lines (r.exchanges ++ r.last ∷ []) (opened_state s rows) b' → Last r.last → CutShort s (opening_of rows) before after
     by_last r ran (quits is off) = in_part r true off (ends_with_quit s c.lines r.exchanges r.last r.asked r.ends is) ran
     by_last r ran (stays is on) = in_part r false on (still_no_quit s c.lines r.exchanges r.last r.asked r.ends is) ran
