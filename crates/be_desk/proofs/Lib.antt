@@ -15,7 +15,6 @@ mod Answering
 mod CoreSteps
 mod CoreRuns
 mod Openings
-mod Plans
 mod Tending
 pub mod Places
 pub mod Closing
