@@ -2,3 +2,5 @@ pub mod Feeders
 pub mod Asked
 pub mod Legal
 pub mod Sessions
+pub mod Reading
+pub mod Serving

@@ -1,0 +1,118 @@
+-- What became of a mirror's feed, and what the links of a door gave and hold, over the list that the feed means.
+use Rattle.std.specs.Prelude.{◌≡◌, ℕ, ◌+◌, ◌<◌, ◌++◌, ◌⊎◌, Bool, true, false, List, [], ◌∷◌, length, map, All, Some, None}
+use Rattle.be_base.specs.Counts.{HasRisen, HasRisenBy}
+use Rattle.be_base.specs.declared.limits.TheConstants.{SOURCE_BYTES}
+use Rattle.be_base.specs.declared.names.SessionNo.{SessionNo}
+use Rattle.be_io.specs.Lines.{TextLine}
+use Rattle.be_io.specs.Outside.{LinkState}
+use Rattle.be_io.specs.Source.{SourceState}
+use Rattle.be_io.specs.Told.{WhereTold}
+use Rattle.be_model.specs.Schemas.{Attributes}
+use Rattle.be_change.specs.History.{Entry}
+use Rattle.be_change.specs.Requests.{Exchange}
+use Rattle.be_door.specs.Door.{DoorState, after_try}
+use Rattle.be_door.specs.Links.{IsUnused}
+use Rattle.be_door.specs.declared.sums.Sums.{Sums}
+use Rattle.be_follow.specs.Feeds.{Fed, Means}
+use Rattle.be_protocol.specs.Conversation.{Terms, ConversationEnds}
+use Rattle.be_protocol.specs.declared.ends.SessionEnd.{SessionEnd}
+use Rattle.be_hub.specs.Links.{IsCounted}
+use Rattle.be_hub.specs.Serving.{IsTried, served_door}
+use Rattle.be_hub.specs.Transcripts.{ShutsOnly}
+use Rattle.be_mirror.specs.Asked.{asked}
+use Rattle.be_mirror.specs.Reading.{AreReads}
+use Rattle.be_mirror.specs.declared.feeding.FeedEnd.{FeedEnd}
+use Rattle.be_mirror.specs.declared.feeding.FeedEnd.TheVariants as feed
+use Rattle.be_mirror.specs.declared.serving.MirrorFault.{MirrorFault}
+use Rattle.be_mirror.specs.declared.serving.MirrorFault.TheVariants as fault
+
+-- no read of the input failed
+abbrev pub NoReadFailed : SourceState → SourceState → Type 0
+NoReadFailed before after = after.faults ≡ before.faults
+
+-- why the feed was taken no further, over what has come of it
+abbrev pub FeedEnds : SourceState → SourceState → FeedEnd → Fed → Type 0
+-- the input came to its end
+FeedEnds before after feed.Ended f = (f.fault ≡ None) × NoReadFailed before after × WhereTold before.left after.left (λ b a. a ≡ [])
+-- all links were served
+FeedEnds before after feed.Left f = (f.fault ≡ None) × NoReadFailed before after
+-- the first faulty line
+FeedEnds before after (feed.Bad line kind) f = (f.fault ≡ Some kind) × (line ≡ f.lines) × NoReadFailed before after
+FeedEnds before after feed.ReadFault f = (f.fault ≡ None) × HasRisen before.faults after.faults
+FeedEnds before after feed.Spent f = (f.fault ≡ None) × HasRisenBy SOURCE_BYTES before.taken after.taken × NoReadFailed before after
+-- memory was wanting to it
+FeedEnds before after feed.NoMemory f = ⊥
+
+-- these bytes were taken from the input, this is what they mean, and so it ended
+pub record Feeds (s : Attributes) (before after : SourceState) (end : FeedEnd) (f : Fed) : Type 0 where
+  pub bytes : List ℕ
+  -- all that it gave meanwhile, where it tells so
+  pub given : WhereTold before.left after.left (λ b a. b ≡ bytes ++ a)
+  pub means : Means s bytes f
+  pub ends : FeedEnds before after end f
+
+-- a conversation of reads over the list. Where no reader was refused an entry no reply says so
+abbrev pub list_terms : Attributes → List Entry → (shuts : Bool) → Terms
+list_terms s h shuts = record {
+  schema = s;
+  asks = asked s;
+  Whole = λ end lines ps. AreReads s 0 h lines ps × ShutsOnly shuts ps;
+  InPart = λ lines ps p out. AreReads s 0 h lines (ps ++ p ∷ []) × ShutsOnly shuts (ps ++ p ∷ []);
+}
+
+-- a link that was given out and served: its number, the link as it stood when it came back, and how its session ended
+pub record ReadLink : Type 0 where
+  pub number : ℕ
+  pub link : LinkState
+  pub end : SessionEnd
+
+-- a link that nobody had used was served over the list, and these numbers of all links say it where that ended by a fault
+pub record IsReadLink (s : Attributes) (h : List Entry) (shuts : Bool) (sums : Sums) (l : ReadLink) : Type 0 where
+  pub unused : LinkState
+  pub is_unused : IsUnused unused
+  -- all bytes that the link gives from first to last are the same ones
+  pub whole : l.link.source.whole ≡ unused.source.whole
+  pub ends : ConversationEnds ⊥ (list_terms s h shuts) unused l.link l.end
+  pub counted : IsCounted sums l.end
+
+abbrev pub number_and_link : ReadLink → ℕ × LinkState
+number_and_link l = (l.number, l.link)
+
+module _ {L : Type 0} (told : L → LinkState) where
+  abbrev pub told_of : SessionNo × L → ℕ × LinkState
+  told_of x = (x.0.0, told x.1)
+
+  -- a door that keeps its links has these, in this order, and one that doesn't keep them has none
+  abbrev pub AreKept : Bool → List (SessionNo × L) → List ReadLink → Type 0
+  AreKept true kept ls = map told_of kept ≡ map number_and_link ls
+  AreKept false kept ls = kept ≡ []
+
+  -- so many links were to be given out, and what came of them has these numbers. Each that was given out was served over the list
+  pub record LinksAreRead (s : Attributes) (h : List Entry) (shuts : Bool) (links : ℕ) (sums : Sums) (keeps : Bool) (kept : List (SessionNo × L)) : Type 0 where
+    pub back : sums.back ≡ sums.given
+    pub all : sums.given + sums.failed ≡ links
+    pub none_refused : sums.refused ≡ 0
+    -- an accept failed only where the count of faults says it
+    pub failed : 0 < sums.failed → 0 < sums.read_faults
+    pub served : List ReadLink
+    pub count : length served ≡ sums.given
+    pub each : All (IsReadLink s h shuts sums) served
+    pub kept_are : AreKept keeps kept served
+
+  -- the feed was taken from the input beside the links, which were served over the list that it means, of n changes
+  pub record Mirrors (s : Attributes) (before after : SourceState) (end : FeedEnd) (n links : ℕ) (shuts : Bool) (sums : Sums) (keeps : Bool) (kept : List (SessionNo × L)) : Type 0 where
+    pub fed : Fed
+    pub feeds : Feeds s before after end fed
+    pub len : n ≡ length fed.list
+    pub served : LinksAreRead s fed.list shuts links sums keeps kept
+
+module _ {L : Type 0} where
+  -- what is known of the door where nothing is given
+  abbrev pub LeavesDoor : DoorState L → DoorState L → (port links workers : ℕ) → MirrorFault → Type 0
+  -- it can't listen, and no more has changed
+  LeavesDoor before after port links workers fault.Failed =
+      HasRisen before.read_faults after.read_faults × (after ≡ record (after_try before port) { read_faults = after.read_faults })
+  LeavesDoor before after port links workers fault.NoMemory = IsTried before after port
+  -- all links were served. A reader that is shown what is published knows more than that, and these are the two lengths
+  LeavesDoor before after port links workers (fault.Ahead known published) =
+      (published < known) × (sums : Sums) × (after ≡ served_door before port links workers sums after.kept)
