@@ -10,9 +10,13 @@
 mod asking;
 mod fed_press;
 mod feeder;
+mod feeding;
 mod reads;
 mod room;
+mod serving;
 mod session;
 
 pub use feeder::Feeder;
+pub use feeding::FeedEnd;
+pub use serving::{MirrorFault, Mirrored};
 pub use session::Session;
