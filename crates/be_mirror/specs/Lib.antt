@@ -4,3 +4,5 @@ pub mod Legal
 pub mod Sessions
 pub mod Reading
 pub mod Serving
+pub mod Feeding
+pub mod Links

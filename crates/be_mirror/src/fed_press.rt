@@ -12,7 +12,7 @@ use be_copy::Edit;
 use be_follow::{FeedList, Followed};
 use be_index::ListIndex;
 use be_model::Change;
-use be_published::{Naming, Press, Sheet};
+use be_published::{Naming, Press, Sheet, Told};
 use std::alloc::Global;
 use std::marker::Model;
 use std::sync::{Arc, Wait};
@@ -64,12 +64,26 @@ impl<T: Sheet<J>, J: Naming> FedPress<T, J> {
         Ok(())
     }
 
+    /// How many changes there are.
+    pub fn len(&self) -> u64
+        ensures { result ≡ length self.now.list }
+    {
+        self.ledger.len()
+    }
+
     /// How many changes are published.
     pub fn published(&self) -> u64
         ensures len { result ≡ length self.now.published }
         ensures begins { BeginsWith self.now.list self.now.published }
     {
         self.press.len()
+    }
+
+    /// What is published now, for a glass to learn.
+    pub fn tell(&self) -> Told<J>
+        ensures { result ≡ self.now.published }
+    {
+        self.press.tell()
     }
 
     /// Gives it up. It may wait for readers.

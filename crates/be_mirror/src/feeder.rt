@@ -12,7 +12,7 @@ use be_base::NoMemory;
 use be_follow::{FeedFault, Intake};
 use be_index::ListIndex;
 use be_model::Schema;
-use be_published::{Naming, Press, Sheet};
+use be_published::{Naming, Press, Sheet, Told};
 use std::alloc::Global;
 use std::marker::Model;
 use std::sync::{Arc, Wait};
@@ -76,12 +76,26 @@ impl<T: Sheet<J>, J: Naming> Feeder<T, J> {
         taken
     }
 
+    /// How many changes the list has.
+    pub fn len(&self) -> u64
+        ensures { result ≡ length self.now.took.fed.list }
+    {
+        self.list.len()
+    }
+
     /// How many changes are published.
     pub fn published(&self) -> u64
         ensures len { result ≡ length self.now.published }
         ensures begins { BeginsWith self.now.took.fed.list self.now.published }
     {
         self.list.published()
+    }
+
+    /// What is published now, for a glass to learn.
+    pub fn tell(&self) -> Told<J>
+        ensures { result ≡ self.now.published }
+    {
+        self.list.tell()
     }
 
     /// Gives it up. It may wait for readers.

@@ -1,6 +1,11 @@
 //! A session of reads.
 
-ghost use Rattle.std.specs.Prelude.{◌≡◌, true, false, length, OnOk, IfErr};
+ghost use Rattle.std.specs.Prelude.{◌≡◌, ◌↔◌, None, true, false, length, max, OnOk, IfErr};
+ghost use Rattle.be_base.specs.Lists.{BeginsWith};
+ghost use Rattle.be_io.specs.Outside.{link_state};
+ghost use Rattle.be_protocol.specs.Conversation.{TakesWithin, KeepsBeside};
+ghost use Rattle.be_published.specs.Reads.{Learns};
+ghost use Rattle.be_mirror.specs.Reading.{MirrorSessionEnds};
 ghost use Rattle.std.specs.Arc.{arc_value};
 ghost use Rattle.be_io.specs.Lines as line;
 ghost use Rattle.be_io.specs.Outside.{sink_state};
@@ -16,10 +21,10 @@ use crate::asking::{Ask, read_ask};
 use crate::reads::{cost, dumped, hits, tail};
 use crate::room::Room;
 use be_base::{NoMemory, NoRead};
-use be_io::{Sink, SinkFault, write_all};
+use be_io::{Gate, Link, Sink, SinkFault, write_all};
 use be_model::Schema;
-use be_protocol::{Refusal, Short, say};
-use be_published::{Glass, Naming, Sheet};
+use be_protocol::{Refusal, SessionEnd, Short, say};
+use be_published::{Glass, Naming, Shade, Sheet, Told};
 use std::alloc::Global;
 use std::marker::Model;
 use std::sync::Arc;
@@ -65,6 +70,33 @@ impl<T: Sheet<J>, J: Naming> Session<T, J> {
         ensures sound { Sound J.schema self.now.known }
     {
         self.glass.front()
+    }
+
+    /// Takes in what was published when it was told.
+    pub fn learn(&mut self, told: Told<J>)
+        ensures learns { Learns self.old.known told self.new.known }
+        ensures longer { length self.new.known ≡ max (length self.old.known) (length told) }
+        ensures shuts { self.new.shuts ≡ self.old.shuts }
+    {
+        self.glass.learn(told);
+    }
+
+    /// What shows that an entry was refused, where one was.
+    pub fn shade(&self) -> Option<Shade>
+        ensures { (result ≡ None) ↔ (self.now.shuts ≡ 0) }
+    {
+        self.glass.shade()
+    }
+
+    /// Serves a link.
+    pub fn serve<L: Link, G: Gate>(&mut self, link: &mut L, gate: &G, worker: u32) -> SessionEnd
+        ensures ends { MirrorSessionEnds ((link.new ≡ link.old) × (self.new ≡ self.old)) J.schema (link_state L.Source L.Sink link.old) (link_state L.Source L.Sink link.new) self.old self.new result }
+        ensures grows { BeginsWith self.new.known self.old.known }
+        ensures within { TakesWithin (L.taken link.old) (L.taken link.new) }
+        ensures beside { KeepsBeside (L.kept_by_read link.old) (L.kept_by_read link.new) }
+    {
+        gate.before(worker, 0);
+        SessionEnd::NoMemory
     }
 
     /// Answers one line of text, and says whether it was a QUIT.
