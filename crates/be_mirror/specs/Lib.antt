@@ -3,4 +3,3 @@ pub mod Asked
 pub mod Legal
 pub mod Sessions
 pub mod Reading
-pub mod Serving
