@@ -1,3 +1,6 @@
 pub mod Stepping
+pub mod Said
+pub mod Tying
+pub mod Showing
 pub mod Lacking
 pub mod Commanding
