@@ -1,11 +1,11 @@
 -- A reply of a session of reads that was written.
-use Rattle.std.proofs.Common.{◌≡◌, ℕ, Bool, true, false, List, Option, Some, None, Result, Ok, Err, OnOk, IfErr, refl, sym, ap, ◌∙◌, arith}
+use Rattle.std.proofs.Common.{◌≡◌, ℕ, true, false, List, Option, None, Result, Ok, Err, OnOk, IfErr, refl, sym, ap, ◌∙◌, arith}
 use Rattle.be_base.specs.declared.names.NoRead.{NoRead}
 use Rattle.be_base.proofs.Beginnings.{BeginsWith-same}
 use Rattle.be_io.specs.Sink.{SinkState}
 use Rattle.be_model.specs.Schemas.{Attributes}
 use Rattle.be_change.specs.History.{Entry}
-use Rattle.be_change.specs.Requests.{Request, subscribe, unsubscribe, quit, Reply, split, Exchange}
+use Rattle.be_change.specs.Requests.{Request, subscribe, unsubscribe, quit, Reply, split}
 use Rattle.be_change.specs.Walk.{Walk, beginning_at}
 use Rattle.be_published.specs.States.{GlassState}
 use Rattle.be_protocol.specs.Conduct.{GivesReply}
@@ -18,7 +18,6 @@ use Rattle.be_protocol.specs.declared.replier.Turn.{Turn}
 use Rattle.be_protocol.proofs.Written.{gives_reply}
 use Rattle.be_session.specs.Saying.{SaysText, Says}
 use Rattle.be_mirror.specs.Sessions.{IsLedOn, Steps, Replies, IsTold, mirror_conduct}
-use Rattle.be_mirror.proofs.Stepping.{is_reading, reading_is_no_quit, unread_replies}
 
 -- no reply of a mirror tells two numbers that differ
 pub no_split : (s : Attributes) (r : Request) (i j : ℕ) (known known' : List Entry) → Steps s (r, split i j) known known' → ⊥

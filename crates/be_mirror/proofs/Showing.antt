@@ -1,5 +1,5 @@
 -- What the exchanges of a conversation made of the glass, from exchange to exchange, and how the conversation ended by that.
-use Rattle.std.proofs.Common.{◌≡◌, inl, inr, ◌⊎◌, ℕ, ◌≤◌, Bool, true, false, List, [], ◌∷◌, ◌++◌, length, map, Option, Some, None, refl, sym, ap, ◌∙◌, subst, append_assoc}
+use Rattle.std.proofs.Common.{◌≡◌, inl, inr, ℕ, ◌≤◌, Bool, true, false, List, [], ◌∷◌, ◌++◌, length, map, Option, Some, None, refl, sym, ap, ◌∙◌, subst, append_assoc}
 use Rattle.std.specs.List.{list_all}
 use Rattle.std.proofs.lemmas.List.{append-nil}
 use Rattle.be_base.specs.Lists.{BeginsWith}
@@ -9,7 +9,7 @@ use Rattle.be_io.specs.Outside.{LinkState}
 use Rattle.be_model.specs.Schemas.{Attributes}
 use Rattle.be_model.proofs.Attributes.{and_left, and_right}
 use Rattle.be_change.specs.History.{Entry}
-use Rattle.be_change.specs.Requests.{Request, quit, Reply, split, Exchange}
+use Rattle.be_change.specs.Requests.{Request, quit, split, Exchange}
 use Rattle.be_change.specs.Walk.{Walk, beginning_at}
 use Rattle.be_published.specs.States.{GlassState}
 use Rattle.be_protocol.specs.Conduct.{Rests, Trace, RepliesSoFar, LeavesIf, Led, LedInPart, leading}

@@ -6,7 +6,7 @@ use Rattle.be_base.specs.declared.names.NoRead.{NoRead}
 use Rattle.be_base.specs.declared.names.NoRead.TheVariants as unread
 use Rattle.be_model.specs.Schemas.{Attributes}
 use Rattle.be_change.specs.History.{Entry}
-use Rattle.be_change.specs.Requests.{Request, refused, subscribe, unsubscribe, publish, costing, listing, sending, fetching, dumping, tailing, quit, Refusal, Reply, refusal, bye, no_memory, shut}
+use Rattle.be_change.specs.Requests.{Request, refused, publish, costing, dumping, tailing, quit, Refusal, Reply, refusal, bye, no_memory, shut}
 use Rattle.be_change.specs.Walk.{Walk, having_seen, having_ended, IsReadAt}
 use Rattle.be_published.specs.Reads as glass
 use Rattle.be_published.specs.States.{GlassState}
