@@ -12,7 +12,6 @@ use Rattle.be_event.specs.Events.{event_of}
 use Rattle.be_change.specs.Requests.{Request, subscribe, publish, costing, sending, dumping, quit}
 use Rattle.be_protocol.specs.Readings.{request_of, asking_of, of_event, alone, tail, tailing_at_most, number_asked}
 use Rattle.be_protocol.specs.Requests.{TakesMemory}
-use Rattle.be_protocol.specs.Runs.{is_quit}
 use Rattle.be_mirror.specs.Asked.{asked_of, answered, is_command}
 use Rattle.be_mirror.proofs.Stepping.{is_reading}
 
@@ -83,14 +82,14 @@ asked_kept s w None = refl
 asked_kept s w (Some ts) = commands_kept s w ts
 
 -- of what a mirror is asked only a read takes memory
-pub only_reads : (s : Attributes) (o : Option (List Lexeme)) → TakesMemory (asked_of s o) → (is_reading (asked_of s o) ≡ true) × (is_quit (asked_of s o) ≡ false)
+pub only_reads : (s : Attributes) (o : Option (List Lexeme)) → TakesMemory (asked_of s o) → is_reading (asked_of s o) ≡ true
 only_reads s None t = absurd t
 only_reads s (Some []) t = absurd t
 only_reads s (Some (word w ∷ ts)) t = by_request (asked_of s (Some (word w ∷ ts))) (commands_kept s w ts) t
   where
-    by_request : (r : Request) → answered r ≡ r → TakesMemory r → (is_reading r ≡ true) × (is_quit r ≡ false)
-    by_request (publish e) kept t = (refl, refl)
-    by_request (costing e) kept t = (refl, refl)
+    by_request : (r : Request) → answered r ≡ r → TakesMemory r → is_reading r ≡ true
+    by_request (publish e) kept t = refl
+    by_request (costing e) kept t = refl
     by_request (subscribe name conj) kept t = absurd cc
     by_request (sending e) kept t = absurd cc
     by_request _ kept t = absurd t

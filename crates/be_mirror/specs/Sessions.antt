@@ -1,14 +1,15 @@
--- What an answer to a line makes of what a session knows, which is the longest list that it was shown.
-use Rattle.std.specs.Prelude.{◌≡◌, ℕ, ◌≤◌, Bool, false, List, [], ◌∷◌, length, Result, Ok, Err}
+-- What an answer to a line makes of a session's glass, and how a session of reads conducts itself.
+use Rattle.std.specs.Prelude.{◌≡◌, ℕ, ◌≤◌, ◌⊎◌, false, List, length}
 use Rattle.be_base.specs.Lists.{BeginsWith}
-use Rattle.be_io.specs.Sink.{SinkState, Wrote}
-use Rattle.be_io.specs.declared.faults.SinkFault.{SinkFault}
 use Rattle.be_model.specs.Schemas.{Attributes}
 use Rattle.be_change.specs.History.{Entry}
-use Rattle.be_change.specs.Requests.{Request, Reply, Exchange}
+use Rattle.be_change.specs.Requests.{Request, Reply, hit, cost, listed, sent, dumped, tailed, no_memory, shut, Exchange}
 use Rattle.be_change.specs.Walk.{Walk}
+use Rattle.be_published.specs.States.{GlassState, one_shut, one_read}
+use Rattle.be_protocol.specs.Conduct.{Conduct}
 use Rattle.be_protocol.specs.Replies.{reply_text}
 use Rattle.be_protocol.specs.Runs.{is_quit}
+use Rattle.be_mirror.specs.Asked.{asked}
 use Rattle.be_mirror.specs.Legal.{Answers}
 
 -- a walk is led on by the exchange over the list, and has seen no more than is known then
@@ -23,21 +24,36 @@ pub record Steps (s : Attributes) (p : Exchange) (known known' : List Entry) : T
   pub grows : BeginsWith known' known
   pub borne : (h : List Entry) (w : Walk) → BeginsWith h known' → w.seen ≤ length known → w.ended ≡ false → IsLedOn s h w p known'
 
+-- a reply that tells what a read found was counted as one, and SHUT as an entry that was refused. Memory may be wanting before a
+-- read or after it. No other reply leaves a mark
+abbrev pub Counts : Reply → GlassState → GlassState → Type 0
+Counts (hit n names) g g' = g' ≡ one_read g'.known g
+Counts (cost n c) g g' = g' ≡ one_read g'.known g
+Counts (listed n names) g g' = g' ≡ one_read g'.known g
+Counts (sent n put dropped) g g' = g' ≡ one_read g'.known g
+Counts (dumped n rows) g g' = g' ≡ one_read g'.known g
+Counts (tailed n place entries) g g' = g' ≡ one_read g'.known g
+Counts shut g g' = g' ≡ one_shut g
+Counts no_memory g g' = (g' ≡ g) ⊎ (g' ≡ one_read g'.known g)
+Counts _ g g' = g' ≡ g
+
+-- the glass was asked what the exchange says
+pub record Replies (s : Attributes) (p : Exchange) (g g' : GlassState) : Type 0 where
+  pub steps : Steps s p g.known g'.known
+  pub counts : Counts p.1 g g'
+
 -- this is the text of a reply to the request
-abbrev pub IsTold : Attributes → Request → List ℕ → List Entry → List Entry → Type 0
-IsTold s r text known known' = (reply : Reply) × Steps s (r, reply) known known' × (text ≡ reply_text s reply)
+abbrev pub IsTold : Attributes → Request → List ℕ → GlassState → GlassState → Type 0
+IsTold s r text g g' = (reply : Reply) × Replies s (r, reply) g g' × (text ≡ reply_text s reply)
 
--- the answer to a line, which was a QUIT or not, by how its reply was written
-abbrev pub done : Bool → Result (Unit {0}) SinkFault → Result Bool SinkFault
-done quits (Ok _) = Ok quits
-done quits (Err fault) = Err fault
-
--- the text was written as far as the sink took it, and this is the answer
-abbrev pub Writes : List ℕ → Bool → SinkState → SinkState → Result Bool SinkFault → Type 0
-Writes text quits before after answer = (wrote : Result (Unit {0}) SinkFault) × Wrote before after text wrote × (answer ≡ done quits wrote)
-
--- a request was given a reply
-pub record Answered (s : Attributes) (r : Request) (known known' : List Entry) (before after : SinkState) (answer : Result Bool SinkFault) : Type 0 where
-  pub reply : Reply
-  pub steps : Steps s (r, reply) known known'
-  pub writes : Writes (reply_text s reply) (is_quit r) before after answer
+-- a session of reads over its glass: each reply is one of a session that makes no change, however much of it was written, and
+-- between two lines and at the end nothing happens
+abbrev pub mirror_conduct : Attributes → Conduct GlassState
+mirror_conduct s = record {
+  schema = s;
+  asks = asked s;
+  Replies = λ p g g'. Replies s p g g';
+  RepliesInPart = λ p out g g'. Replies s p g g';
+  Tends = λ g g'. g' ≡ g;
+  Leaves = λ g g'. g' ≡ g;
+}

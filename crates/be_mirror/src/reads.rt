@@ -1,11 +1,10 @@
 //! What a read of the published copy finds, as a reply. A reply that takes room is built whole before its first byte goes out.
 
-ghost use Rattle.std.specs.Prelude.{◌≡◌, true, OnOk};
-ghost use Rattle.be_base.specs.Lists.{BeginsWith};
+ghost use Rattle.std.specs.Prelude.{◌≡◌, true, OnOk, IfErr};
 ghost use Rattle.be_model.specs.Lies.{event_lies};
 ghost use Rattle.be_change.specs.Requests as asked;
-ghost use Rattle.be_protocol.specs.Short.{plain_reply};
-ghost use Rattle.be_mirror.specs.Sessions.{IsTold, Steps};
+ghost use Rattle.be_protocol.specs.Short.{plain_reply, short_of};
+ghost use Rattle.be_mirror.specs.Sessions.{IsTold, Replies};
 
 use crate::room::Room;
 use be_base::{NoMemory, NoRead};
@@ -21,8 +20,8 @@ pub fn hits<T: Sheet<J>, J: Naming>(
     event: &Event,
 ) -> Result<(), NoRead>
     requires { event_lies J.schema event.now ≡ true }
-    ensures told { OnOk result (IsTold J.schema (asked.publish event.now) room.new.reply.items glass.old.known glass.new.known) }
-    ensures grows { BeginsWith glass.new.known glass.old.known }
+    ensures told { OnOk result (IsTold J.schema (asked.publish event.now) room.new.reply.items glass.old glass.new) }
+    ensures refused { IfErr result (λ no. Replies J.schema (asked.publish event.now, plain_reply (short_of no)) glass.old glass.new) }
 {
     room.reply.clear();
     let n = glass.hits(event, &mut room.ids, &mut room.names)?;
@@ -40,8 +39,8 @@ pub fn dumped<T: Sheet<J>, J: Naming>(
     room: &mut Room,
 ) -> Result<(), NoRead>
     requires { schema.now ≡ J.schema }
-    ensures told { OnOk result (IsTold J.schema asked.dumping room.new.reply.items glass.old.known glass.new.known) }
-    ensures grows { BeginsWith glass.new.known glass.old.known }
+    ensures told { OnOk result (IsTold J.schema asked.dumping room.new.reply.items glass.old glass.new) }
+    ensures refused { IfErr result (λ no. Replies J.schema (asked.dumping, plain_reply (short_of no)) glass.old glass.new) }
 {
     room.reply.clear();
     let n = glass.all(&mut room.found)?;
@@ -62,8 +61,8 @@ pub fn tail<T: Sheet<J>, J: Naming>(
     max: u64,
 ) -> Result<(), NoRead>
     requires { schema.now ≡ J.schema }
-    ensures told { OnOk result (IsTold J.schema (asked.tailing place max) room.new.reply.items glass.old.known glass.new.known) }
-    ensures grows { BeginsWith glass.new.known glass.old.known }
+    ensures told { OnOk result (IsTold J.schema (asked.tailing place max) room.new.reply.items glass.old glass.new) }
+    ensures refused { IfErr result (λ no. Replies J.schema (asked.tailing place max, plain_reply (short_of no)) glass.old glass.new) }
 {
     room.reply.clear();
     room.changes.clear();
@@ -79,7 +78,7 @@ pub fn tail<T: Sheet<J>, J: Naming>(
 /// What a search for the event costs.
 pub fn cost<T: Sheet<J>, J: Naming>(glass: &mut Glass<T, J>, event: &Event) -> Short
     requires { event_lies J.schema event.now ≡ true }
-    ensures { Steps J.schema (asked.costing event.now, plain_reply result) glass.old.known glass.new.known }
+    ensures { Replies J.schema (asked.costing event.now, plain_reply result) glass.old glass.new }
 {
     match glass.cost(event) {
         Ok((n, cost)) => Short::Costs { n, cost },

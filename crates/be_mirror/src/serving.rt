@@ -81,7 +81,7 @@ pub fn run_mirror<
     T: Sheet<J> + Send + Sync,
     J: Naming + Send + Sync,
     R: Threads + Wait + Sync,
-    S: Source + Send,
+    S: Source,
     L: Link + Drop + Send,
     D: Door<L> + Sync,
     G: Gate + Sync,
@@ -138,7 +138,7 @@ fn mirror<
     T: Sheet<J> + Send + Sync,
     J: Naming + Send + Sync,
     R: Threads + Wait + Sync,
-    S: Source + Send,
+    S: Source,
     L: Link + Drop + Send,
     D: Door<L> + Sync,
     G: Gate + Sync,
@@ -171,7 +171,7 @@ fn mirror<
     ensures kept { S.kept_by_read source.new ≡ S.kept_by_read source.old }
 {
     let jobs = jobs_for(alloc, schema, glasses, &*door, counts)?;
-    let (feed, ends) = run_beside(rt, alloc, feeder, jobs, source, &*door, gate);
+    let (ends, feed) = run_beside(rt, alloc, feeder, jobs, source, &*door, gate);
     let LinksLeft {
         sessions,
         sums,
@@ -194,7 +194,7 @@ fn run_beside<
     T: Sheet<J> + Send + Sync,
     J: Naming + Send + Sync,
     R: Threads + Wait + Sync,
-    S: Source + Send,
+    S: Source,
     L: Link + Drop + Send,
     D: Door<L> + Sync,
     G: Gate + Sync,
@@ -206,26 +206,20 @@ fn run_beside<
     source: &mut S,
     door: &D,
     gate: &G,
-) -> (FeedEnd, Result<Vec<WorkEnd<T, J, L>>, NoMemory>)
+) -> (Result<Vec<WorkEnd<T, J, L>>, NoMemory>, FeedEnd)
     requires feeder { (feeder.old ≡ new_feeder J.schema) × Follows [] feeder.old.took }
     requires few { length jobs.items ≤ SEATS }
     requires jobs { All (λ job. (job.worker ≤ SEATS) × IsNew (D.state door.now) job.count) jobs.items }
-    ensures feeds { result.0 ≢ FeedEnd.NoMemory → Feeds J.schema (source_state S.Source source.old) (source_state S.Source source.new) result.0 feeder.new.took.fed }
+    ensures feeds { result.1 ≢ FeedEnd.NoMemory → Feeds J.schema (source_state S.Source source.old) (source_state S.Source source.new) result.1 feeder.new.took.fed }
     ensures within { TakesWithin (S.taken source.old) (S.taken source.new) }
     ensures beside { S.kept_by_read source.new ≡ S.kept_by_read source.old }
-    ensures count { IfOk result.1 (λ ends. length ends.items ≡ length jobs.items) }
-    ensures ends { IfOk result.1 (λ ends. All (λ end. WorkerServed (link_state L.Source L.Sink) J.schema (D.state door.now) end.session end.count end.ends.items) ends.items) }
+    ensures count { IfOk result.0 (λ ends. length ends.items ≡ length jobs.items) }
+    ensures ends { IfOk result.0 (λ ends. All (λ end. WorkerServed (link_state L.Source L.Sink) J.schema (D.state door.now) end.session end.count end.ends.items) ends.items) }
 {
     let over = AtomicBool::new(false);
     let mut jobs = Some(jobs);
     join_mut(
         rt,
-        &mut || -> FeedEnd
-            requires { (feeder.now ≡ new_feeder J.schema) × Follows [] feeder.now.took }
-            ensures feeds { result ≢ FeedEnd.NoMemory → Feeds J.schema (source_state S.Source source.entry.now) (source_state S.Source source.exit.now) result feeder.exit.now.took.fed }
-            ensures within { TakesWithin (S.taken source.entry.now) (S.taken source.exit.now) }
-            ensures beside { S.kept_by_read source.exit.now ≡ S.kept_by_read source.entry.now }
-        { take_feed(rt, alloc, feeder, source, &over) },
         &mut || -> Result<Vec<WorkEnd<T, J, L>>, NoMemory>
             requires { IfSome jobs (λ jobs. (length jobs.items ≤ SEATS) × All (λ job. (job.worker ≤ SEATS) × IsNew (D.state door.now) job.count) jobs.items) }
             ensures { IfSome jobs.entry (λ jobs. IfOk result (λ ends. (length ends.items ≡ length jobs.items)
@@ -238,6 +232,12 @@ fn run_beside<
             over.store(true, Ordering::SeqCst);
             ends
         },
+        &mut || -> FeedEnd
+            requires { (feeder.now ≡ new_feeder J.schema) × Follows [] feeder.now.took }
+            ensures feeds { result ≢ FeedEnd.NoMemory → Feeds J.schema (source_state S.Source source.entry.now) (source_state S.Source source.exit.now) result feeder.exit.now.took.fed }
+            ensures within { TakesWithin (S.taken source.entry.now) (S.taken source.exit.now) }
+            ensures beside { S.kept_by_read source.exit.now ≡ S.kept_by_read source.entry.now }
+        { take_feed(rt, alloc, feeder, source, &over) },
     )
 }
 

@@ -1,29 +1,26 @@
-//! A session of reads.
+//! A session of reads: a reply for each line, until a QUIT, the end of the input or a fault.
 
-ghost use Rattle.std.specs.Prelude.{◌≡◌, ◌↔◌, None, true, false, length, max, OnOk, IfErr};
-ghost use Rattle.be_base.specs.Lists.{BeginsWith};
-ghost use Rattle.be_io.specs.Outside.{link_state};
-ghost use Rattle.be_protocol.specs.Conversation.{TakesWithin, KeepsBeside};
-ghost use Rattle.be_published.specs.Reads.{Learns};
-ghost use Rattle.be_mirror.specs.Reading.{MirrorSessionEnds};
+ghost use Rattle.std.specs.Prelude.{◌≡◌, ◌↔◌, true, length, max, None, OnOk, IfErr};
 ghost use Rattle.std.specs.Arc.{arc_value};
-ghost use Rattle.be_io.specs.Lines as line;
-ghost use Rattle.be_io.specs.Outside.{sink_state};
-ghost use Rattle.be_change.specs.Requests as asked;
+ghost use Rattle.be_base.specs.Lists.{BeginsWith};
+ghost use Rattle.be_io.specs.Outside.{link_state, sink_state};
 ghost use Rattle.be_change.specs.Sound.{Sound};
-ghost use Rattle.be_model.specs.Schemas.{Attributes};
-ghost use Rattle.be_protocol.specs.Replies.{reply_text};
+ghost use Rattle.be_protocol.specs.Conduct.{GivesReply};
+ghost use Rattle.be_protocol.specs.Conversation.{TakesWithin, KeepsBeside};
 ghost use Rattle.be_protocol.specs.Short.{plain_reply, short_of};
-ghost use Rattle.be_mirror.specs.Asked.{asked as asked_by, plain_ask, ask_lies};
-ghost use Rattle.be_mirror.specs.Sessions.{Answered, Writes, done};
+ghost use Rattle.be_published.specs.Reads.{Learns};
+ghost use Rattle.be_session.specs.Saying.{Says, SaysText};
+ghost use Rattle.be_mirror.specs.Asked.{plain_ask, ask_lies};
+ghost use Rattle.be_mirror.specs.Reading.{MirrorSessionEnds};
+ghost use Rattle.be_mirror.specs.Sessions.{mirror_conduct};
 
 use crate::asking::{Ask, read_ask};
 use crate::reads::{cost, dumped, hits, tail};
 use crate::room::Room;
 use be_base::{NoMemory, NoRead};
-use be_io::{Gate, Link, Sink, SinkFault, write_all};
+use be_io::{Gate, Link, Sink, write_all};
 use be_model::Schema;
-use be_protocol::{Refusal, SessionEnd, Short, say};
+use be_protocol::{Refusal, Replier, SessionEnd, Short, Turn, converse, say};
 use be_published::{Glass, Naming, Shade, Sheet, Told};
 use std::alloc::Global;
 use std::marker::Model;
@@ -88,40 +85,26 @@ impl<T: Sheet<J>, J: Naming> Session<T, J> {
         self.glass.shade()
     }
 
-    /// Serves a link.
+    /// Answers the lines of a link until a QUIT, the end of the input or a fault. It takes no lock, and waits for no change. Replies
+    /// are handed on before a read that may wait, and at the end. The gate is called by the worker's number before and after each
+    /// line.
     pub fn serve<L: Link, G: Gate>(&mut self, link: &mut L, gate: &G, worker: u32) -> SessionEnd
-        ensures ends { MirrorSessionEnds ((link.new ≡ link.old) × (self.new ≡ self.old)) J.schema (link_state L.Source L.Sink link.old) (link_state L.Source L.Sink link.new) self.old self.new result }
+        // Each end with its cause, with what was read and written, and with the lists that bear the replies out.
+        ensures ends { MirrorSessionEnds ((link.new ≡ link.old) × (self.new ≡ self.old)) J.schema
+            (link_state L.Source L.Sink link.old) (link_state L.Source L.Sink link.new) self.old self.new result }
         ensures grows { BeginsWith self.new.known self.old.known }
         ensures within { TakesWithin (L.taken link.old) (L.taken link.new) }
+        // All bytes that the link gives from first to last, and the objects that it borrows, are the same ones.
         ensures beside { KeepsBeside (L.kept_by_read link.old) (L.kept_by_read link.new) }
     {
-        gate.before(worker, 0);
-        SessionEnd::NoMemory
-    }
-
-    /// Answers one line of text, and says whether it was a QUIT.
-    pub fn answer_line<K: Sink>(&mut self, text: &[u8], out: &mut K) -> Result<bool, SinkFault>
-        ensures answered { Answered J.schema (asked_by J.schema (line.text text.now)) self.old.known self.new.known (sink_state K.Sink out.old) (sink_state K.Sink out.new) result }
-        ensures beside { K.kept_by_write out.new ≡ K.kept_by_write out.old }
-    {
-        match read_ask(self.alloc, &self.schema, text) {
-            Ok(ask) => self.answer(ask, out),
-            Err(NoMemory) => tell(out, Short::NoMemory, false),
-        }
-    }
-
-    /// Answers a line over the limit.
-    pub fn refuse_long<K: Sink>(&self, out: &mut K) -> Result<bool, SinkFault>
-        ensures answered { Answered J.schema (asked.refused asked.long) self.now.known self.now.known (sink_state K.Sink out.old) (sink_state K.Sink out.new) result }
-        ensures beside { K.kept_by_write out.new ≡ K.kept_by_write out.old }
-    {
-        tell(out, Short::Refused(Refusal::Long), false)
+        converse(self.alloc, self, link, gate, worker)
     }
 
     // Answers what was asked.
-    fn answer<K: Sink>(&mut self, ask: Ask, out: &mut K) -> Result<bool, SinkFault>
+    fn reply<K: Sink>(&mut self, ask: Ask, out: &mut K) -> Turn
         requires { ask_lies J.schema ask ≡ true }
-        ensures answered { Answered J.schema (plain_ask ask) self.old.known self.new.known (sink_state K.Sink out.old) (sink_state K.Sink out.new) result }
+        ensures gives { GivesReply (mirror_conduct J.schema) (plain_ask ask) self.old self.new
+            (sink_state K.Sink out.old) (sink_state K.Sink out.new) result.by result.written }
         ensures beside { K.kept_by_write out.new ≡ K.kept_by_write out.old }
     {
         match ask {
@@ -129,7 +112,7 @@ impl<T: Sheet<J>, J: Naming> Session<T, J> {
                 let built = hits(&mut self.glass, &mut self.room, &event);
                 tell_built(out, &self.room, built)
             }
-            Ask::Costing(event) => tell(out, cost(&mut self.glass, &event), false),
+            Ask::Costing(event) => tell(out, cost(&mut self.glass, &event), None),
             Ask::Dumping => {
                 let built = dumped(&self.schema, &mut self.glass, &mut self.room);
                 tell_built(out, &self.room, built)
@@ -143,42 +126,66 @@ impl<T: Sheet<J>, J: Naming> Session<T, J> {
                 Short::Bye {
                     n: self.glass.front(),
                 },
-                true,
+                Some(SessionEnd::Quit),
             ),
-            Ask::Refused(refusal) => tell(out, Short::Refused(refusal), false),
+            Ask::Refused(refusal) => tell(out, Short::Refused(refusal), None),
         }
     }
 }
 
-// Writes a reply that takes no room, to a QUIT or not.
-fn tell<K: Sink>(out: &mut K, reply: Short, quits: bool) -> Result<bool, SinkFault>
-    ensures writes { (s : Attributes) → Writes (reply_text s (plain_reply reply)) quits (sink_state K.Sink out.old) (sink_state K.Sink out.new) result }
-    ensures beside { K.kept_by_write out.new ≡ K.kept_by_write out.old }
-{
-    done(quits, say(out, reply))
+impl<T: Sheet<J>, J: Naming> Replier for Session<T, J> {
+    ghost use Rattle.std.specs.Prelude.{[]};
+    ghost use Rattle.be_published.specs.States.{GlassState};
+    ghost use Rattle.be_mirror.specs.Sessions.{mirror_conduct};
+
+    ghost State = { GlassState };
+
+    ghost state = { λ g. g };
+
+    ghost kept = { λ g. record { schema = J.schema; references = [] } };
+
+    ghost conduct = { mirror_conduct };
+
+    ghost IsReady = { λ g. Unit {0} };
+
+    fn answer<K: Sink>(&mut self, text: &[u8], out: &mut K) -> Turn {
+        match read_ask(self.alloc, &self.schema, text) {
+            Ok(ask) => self.reply(ask, out),
+            Err(NoMemory) => tell(out, Short::NoMemory, None),
+        }
+    }
+
+    fn refuse_long<K: Sink>(&mut self, out: &mut K) -> Turn {
+        tell(out, Short::Refused(Refusal::Long), None)
+    }
+
+    fn tend(&mut self) {}
+
+    fn leave(&mut self) {}
 }
 
-// Writes the reply that was built, or says why there is none.
-fn tell_built<K: Sink>(
-    out: &mut K,
-    room: &Room,
-    built: Result<(), NoRead>,
-) -> Result<bool, SinkFault>
-    ensures built { OnOk built (Writes room.now.reply.items false (sink_state K.Sink out.old) (sink_state K.Sink out.new) result) }
-    ensures refused { IfErr built (λ no. (s : Attributes) → Writes (reply_text s (plain_reply (short_of no))) false (sink_state K.Sink out.old) (sink_state K.Sink out.new) result) }
+// Writes a reply that takes no room, and ends the session so or doesn't.
+fn tell<K: Sink>(out: &mut K, reply: Short, by: Option<SessionEnd>) -> Turn
+    ensures says { Says by (plain_reply reply) (sink_state K.Sink out.old) (sink_state K.Sink out.new) result }
     ensures beside { K.kept_by_write out.new ≡ K.kept_by_write out.old }
 {
-    match built {
-        Ok(()) => done(false, write_all(out, room.reply.as_slice())),
-        Err(no) => tell(out, Short::from(no), false),
+    Turn {
+        by,
+        written: say(out, reply),
     }
 }
 
-fn done(quits: bool, wrote: Result<(), SinkFault>) -> Result<bool, SinkFault>
-    ensures { result ≡ done quits wrote }
+// Writes the reply that was built, or says why there is none.
+fn tell_built<K: Sink>(out: &mut K, room: &Room, built: Result<(), NoRead>) -> Turn
+    ensures built { OnOk built (SaysText None room.now.reply.items (sink_state K.Sink out.old) (sink_state K.Sink out.new) result) }
+    ensures refused { IfErr built (λ no. Says None (plain_reply (short_of no)) (sink_state K.Sink out.old) (sink_state K.Sink out.new) result) }
+    ensures beside { K.kept_by_write out.new ≡ K.kept_by_write out.old }
 {
-    match wrote {
-        Ok(()) => Ok(quits),
-        Err(fault) => Err(fault),
+    match built {
+        Ok(()) => Turn {
+            by: None,
+            written: write_all(out, room.reply.as_slice()),
+        },
+        Err(no) => tell(out, Short::from(no), None),
     }
 }

@@ -1,5 +1,5 @@
--- The reply tells what the read found.
-use Rattle.std.proofs.Common.{◌≡◌, true, All, refl, sym, ap, ◌∙◌, subst}
+-- The reply tells what the read found, or why there is none.
+use Rattle.std.proofs.Common.{rules, ◌≡◌, true, All, Err, refl, sym, ap, ◌∙◌, subst}
 use Rattle.be_model.specs.Lies.{row_lies}
 use Rattle.be_model.specs.Rows.{rows_in}
 use Rattle.be_model.specs.Schemas.{Attributes}
@@ -8,11 +8,13 @@ use Rattle.be_change.specs.Requests as asked
 use Rattle.be_change.specs.Walk.{live_rows}
 use Rattle.be_protocol.specs.Replies.{reply_text}
 use Rattle.be_session.proofs.LiveLies.{live_lies}
-use Rattle.be_mirror.proofs.Stepping.{read_steps, refuses_grows}
+use Rattle.be_mirror.proofs.Stepping.{read_replies, spent_replies, unbuilt_replies}
 use Rattle.be_mirror.proofs.reads.dumped.Goals as goal
 
-pub returns-in_err-n-clause-grows : goal.returns-in_err-n-clause-grows
-returns-in_err-n-clause-grows g c = refuses_grows c.args.glass.now c.all.new.self c.in_err-n.field-0.0 c.in_err-n.ensures.refused
+pub returns-in_err-n-clause-refused : goal.returns-in_err-n-clause-refused
+returns-in_err-n-clause-refused g c =
+    let gives : c.from_residual.result ≡ Err c.in_err-n.field-0.0 = search rules in
+    unbuilt_replies g.J.Naming.schema asked.dumping c.args.glass.now c.all.new.self c.from_residual.result c.in_err-n.field-0.0 gives refl c.in_err-n.ensures.refused
 
 pub write_rows-requires-clause-lies : goal.write_rows-requires-clause-lies
 write_rows-requires-clause-lies g c =
@@ -27,7 +29,10 @@ returns-in-Ok-clause-told g c =
     let n = c.in_ok-n.n in
     let rows : rows_in c.rows.result.now ≡ live_rows h = c.rows.ensures ∙ c.in_ok-n.ensures.found in (
       asked.dumped n (live_rows h),
-      read_steps s asked.dumping (asked.dumped n (live_rows h)) n c.args.glass.now.known h refl c.in_ok-n.ensures.read.known c.in_ok-n.ensures.read.length
+      read_replies s asked.dumping (asked.dumped n (live_rows h)) n c.args.glass.now c.all.new.self refl c.in_ok-n.ensures.read c.in_ok-n.ensures.read.counts
           (λ k w at front. (at, ap live_rows (sym front), refl)),
       c.in-Ok.ensures ∙ (ap (λ l. reply_text c.args.schema.now (asked.dumped n l)) rows ∙ ap (λ (t : Attributes). reply_text t (asked.dumped n (live_rows h))) c.requires),
     )
+
+pub returns-in-Err-clause-refused : goal.returns-in-Err-clause-refused
+returns-in-Err-clause-refused g c = spent_replies g.J.Naming.schema asked.dumping c.in_ok-n.n c.args.glass.now c.all.new.self refl c.in_ok-n.ensures.read

@@ -1,5 +1,6 @@
--- The reply was written as far as the sink took it.
+-- The reply was written, and the session goes on by it.
+use Rattle.std.proofs.Common.{refl}
 use Rattle.be_mirror.proofs.session.tell.Goals as goal
 
-pub returns-clause-writes : goal.returns-clause-writes
-returns-clause-writes g c = λ s. (c.say.result, c.say.ensures.wrote s, c.done.ensures)
+pub returns-clause-says : goal.returns-clause-says
+returns-clause-says g c = λ s. (refl, c.say.ensures.wrote s)
