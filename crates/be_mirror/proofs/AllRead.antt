@@ -16,14 +16,14 @@ use Rattle.be_door.specs.Counts.{CountState, sums_of, with_counts, all_kept}
 use Rattle.be_door.specs.Door.{DoorState, IsOf, AreAllCounts}
 use Rattle.be_door.specs.Sums.{no_sums}
 use Rattle.be_door.specs.declared.sums.Sums.{Sums}
-use Rattle.be_hub.specs.Files.{lacks_memory}
+use Rattle.be_hub.specs.Files.{lacks_memory, is_split_end}
 use Rattle.be_hub.specs.Links.{IsCounted}
 use Rattle.be_protocol.specs.Conversation.{ConversationEnds}
 use Rattle.be_protocol.specs.declared.ends.SessionEnd.{SessionEnd}
 use Rattle.be_protocol.specs.declared.ends.SessionEnd.TheVariants.{Eof, Quit, ReadFault, WriteFault, Spent, Split, NoMemory}
 use Rattle.be_published.specs.States.{GlassState}
 use Rattle.be_mirror.specs.Links.{IsQuiet, WasRead, WorkerServed}
-use Rattle.be_mirror.specs.Serving.{ReadLink, IsReadLink, list_terms, number_and_link, told_of, AreKept, LinksAreRead}
+use Rattle.be_mirror.specs.Serving.{ReadLink, IsReadLink, LinkEnds, list_terms, number_and_link, told_of, AreKept, LinksAreRead}
 
 -- these numbers say what a count's say
 record Covers (sums : Sums) {L : Type 0} (c : CountState L) : Type 0 where
@@ -76,30 +76,31 @@ module _ {X : Type 0} where
       one_of zero b m n k l is it here rest some = let r = rest (omega (arith, some, is)) in omega (arith, r, it)
       one_of (suc a) b m n k l is it here rest some = let r = here (omega arith) in omega (arith, r, it)
 
+abbrev Rest : {L : Type 0} → List (CountState L) → CountState L → Type 0
+Rest {L} cs c = (c.write_faults ≤ sum_by (λ (x : CountState L). x.write_faults) cs) × (c.most ≤ fold (λ most (x : CountState L). max most x.most) 0 cs)
+
 -- what one worker's numbers say, those of all say
 all_covered : {L : Type 0} (cs : List (CountState L)) → All (Covers (with_counts no_sums cs)) cs
 all_covered {L} cs =
-    both (λ (c : CountState L). c.read_faults ≤ sum_by (λ (x : CountState L). x.read_faults) cs) Rest (Covers (with_counts no_sums cs)) cs
+    both (λ (c : CountState L). c.read_faults ≤ sum_by (λ (x : CountState L). x.read_faults) cs) (Rest cs) (Covers (with_counts no_sums cs)) cs
     (λ c le rest. record { read_faults = raises c.read_faults _ le; write_faults = raises c.write_faults _ rest.0; most = rest.1 })
     (in_sum (λ (x : CountState L). x.read_faults) cs)
-    (both (λ (c : CountState L). c.write_faults ≤ sum_by (λ (x : CountState L). x.write_faults) cs) (λ (c : CountState L). c.most ≤ fold (λ most (x : CountState L). max most x.most) 0 cs) Rest cs (λ c a b. (a, b))
-        (in_sum (λ (x : CountState L). x.write_faults) cs) (in_most (λ (x : CountState L). x.most) cs 0))
+    (both (λ (c : CountState L). c.write_faults ≤ sum_by (λ (x : CountState L). x.write_faults) cs) (λ (c : CountState L). c.most ≤ fold (λ most (x : CountState L). max most x.most) 0 cs) (Rest cs) cs (λ c a b. (a, b))
+    (in_sum (λ (x : CountState L). x.write_faults) cs) (in_most (λ (x : CountState L). x.most) cs 0))
   where
-    abbrev Rest : CountState L → Type 0
-    Rest c = (c.write_faults ≤ sum_by (λ (x : CountState L). x.write_faults) cs) × (c.most ≤ fold (λ most (x : CountState L). max most x.most) 0 cs)
-
     raises : (a b : ℕ) → a ≤ b → 0 < a → 0 < raised b 0
     raises a b le some = omega (arith, some, le)
 
--- an end otherwise than for want of memory
-strict : (s : Attributes) (h : List Entry) (shuts : Bool) (before after : LinkState) (end : SessionEnd) → lacks_memory end ≡ false → ConversationEnds (Unit {0}) (list_terms s h shuts) before after end → ConversationEnds ⊥ (list_terms s h shuts) before after end
-strict s h shuts before after Eof no e = e
-strict s h shuts before after Quit no e = e
-strict s h shuts before after ReadFault no e = e
-strict s h shuts before after WriteFault no e = e
-strict s h shuts before after Spent no e = e
-strict s h shuts before after (Split i j) no e = e
-strict s h shuts before after NoMemory no e = absurd cc
+-- an end otherwise than for want of memory, or by two numbers that differ
+strict : (s : Attributes) (h : List Entry) (shuts : Bool) (before after : LinkState) (end : SessionEnd) → lacks_memory end ≡ false → is_split_end end ≡ false → ConversationEnds (Unit {0}) (list_terms s h shuts) before after end
+    → LinkEnds (list_terms s h shuts) before after end
+strict s h shuts before after Eof no one e = e
+strict s h shuts before after Quit no one e = e
+strict s h shuts before after ReadFault no one e = e
+strict s h shuts before after WriteFault no one e = e
+strict s h shuts before after Spent no one e = e
+strict s h shuts before after (Split i j) no one e = absurd cc
+strict s h shuts before after NoMemory no one e = absurd cc
 
 none_in : {X : Type 0} (p : X → Bool) (xs : List X) → list_any p xs ≡ false → All (λ x. p x ≡ false) xs
 none_in p [] no = All-nil (λ x. p x ≡ false)
@@ -158,7 +159,7 @@ module _ {L : Type 0} (told : L → LinkState) {E : Type 0} (glass_in : E → Gl
           unused = was.unused;
           is_unused = was.is_unused;
           whole = was.whole;
-          ends = strict s h shuts was.unused x.link x.end more.0 (was.ends h shuts seen.known seen.quiet);
+          ends = strict s h shuts was.unused x.link x.end more.0 was.never_split (was.ends h shuts seen.known seen.quiet);
           counted = covered sums (count_in e) covers x.end more.1;
         })
         w.links.each (both (λ (x : ReadLink). lacks_memory x.end ≡ false) (λ (x : ReadLink). IsCounted (sums_of (count_in e)) x.end) (λ (x : ReadLink). (lacks_memory x.end ≡ false) × IsCounted (sums_of (count_in e)) x.end) ls (λ x a b. (a, b)) lacked counted)
@@ -215,3 +216,12 @@ module _ {L : Type 0} (told : L → LinkState) {E : Type 0} (glass_in : E → Gl
 
       from_none : {a b : ℕ} → a ≡ b → a ≡ 0 + b
       from_none {a} {b} is = omega (arith, is)
+
+  -- so it is of all workers, where their readers were shown what is published
+  pub all_seen : (h : List Entry) (shuts : Bool) (ends : List E) (glasses : List GlassState) → glasses ≡ map glass_in ends → All (λ (x : GlassState). BeginsWith h x.known) glasses → (shuts ≡ false → All (λ e. (glass_in e).shuts ≡ 0) ends)
+      → list_any (λ e. list_any lacks_memory (ends_in e)) ends ≡ false → All (IsSeen h shuts) ends
+  all_seen h shuts ends glasses is shown quiet none =
+      both (λ e. BeginsWith h (glass_in e).known) (λ e. IsQuiet shuts (glass_in e) × (list_any lacks_memory (ends_in e) ≡ false)) (IsSeen h shuts) ends (λ e known more. record { known = known; quiet = more.0; none_lacked = more.1 })
+      (mapped_back glass_in (λ (x : GlassState). BeginsWith h x.known) ends (subst (All (λ (x : GlassState). BeginsWith h x.known)) is shown))
+      (both (λ e. IsQuiet shuts (glass_in e)) (λ e. list_any lacks_memory (ends_in e) ≡ false) (λ e. IsQuiet shuts (glass_in e) × (list_any lacks_memory (ends_in e) ≡ false)) ends (λ e a b. (a, b))
+      (λ k d lt no. quiet no k d lt) (none_in (λ e. list_any lacks_memory (ends_in e)) ends none))

@@ -1,5 +1,5 @@
 -- A feed goes on by one more piece.
-use Rattle.std.proofs.Common.{◌≡◌, ℕ, ◌+◌, ◌-◌, ◌<◌, ◌≤◌, List, [], ◌++◌, length, take, Option, Some, None, refl, sym, ap, ◌∙◌, subst, append_assoc, arith}
+use Rattle.std.proofs.Common.{◌≡◌, ℕ, ◌+◌, ◌-◌, ◌<◌, ◌≤◌, List, [], ◌++◌, length, take, drop, length-append, length-take, length-drop, Result, Ok, Err, Option, Some, None, refl, sym, ap, ◌∙◌, subst, append_assoc, arith}
 use Rattle.std.proofs.lemmas.List.{append-nil}
 use Rattle.be_base.specs.Counts.{raised, HasRisen, HasRisenBy, RisesBy}
 use Rattle.be_base.specs.declared.limits.TheConstants.{SOURCE_BYTES}
@@ -9,6 +9,7 @@ use Rattle.be_io.proofs.FillLemmas.{WhereTold-from_read}
 use Rattle.be_model.specs.Schemas.{Attributes}
 use Rattle.be_follow.specs.Feeds.{Fed, Means}
 use Rattle.be_follow.specs.Followers.{FollowerState, Follows}
+use Rattle.be_protocol.specs.Conversation.{TakesWithin}
 use Rattle.be_mirror.specs.Feeding.{IsFed}
 use Rattle.be_mirror.specs.Serving.{Feeds, FeedEnds}
 use Rattle.be_mirror.specs.declared.feeding.FeedEnd.{FeedEnd}
@@ -103,3 +104,24 @@ feeds s before after end f fed ends = record {
   means = subst (λ (x : Attributes). Means x fed.bytes f.fed) fed.schema fed.follows.means;
   ends = ends;
 }
+
+-- so much was taken, where so much was left of what may be
+pub within_all : (left a b : ℕ) → RisesBy (SOURCE_BYTES - left) a b → TakesWithin a b
+within_all left a b rise = (SOURCE_BYTES - left, omega arith, rise)
+
+pub ok_no_err : {X E : Type 0} {x : X} {e : E} → Ok x ≡ Err e → ⊥
+ok_no_err is = absurd cc
+
+pub err_one : {X E : Type 0} (a b : E) → Err {X} a ≡ Err b → a ≡ b
+err_one a b e = cc
+
+-- how long a front is
+pub front_length : (n : ℕ) (xs : List ℕ) → n ≤ length xs → n ≡ length (take n xs)
+front_length n xs le = omega (arith, length-take n xs, le)
+
+pub front_short : (n : ℕ) (xs : List ℕ) → length (take n xs) ≤ n
+front_short n xs = omega (arith, length-take n xs)
+
+-- a buffer whose front was written is as long as it was
+pub still_long : (given items : List ℕ) (n : ℕ) → length items ≡ n → length (take n (given ++ drop (length given) items)) ≡ n
+still_long given items n is = omega (arith, is, length-take n (given ++ drop (length given) items), length-append given (drop (length given) items), length-drop (length given) items)

@@ -8,3 +8,4 @@ pub mod FeedGoing
 pub mod ReadLinks
 pub mod AllRead
 pub mod DoorSettled
+pub mod Accepts

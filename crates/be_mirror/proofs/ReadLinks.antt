@@ -18,7 +18,7 @@ use Rattle.be_change.specs.Requests.{Exchange}
 use Rattle.be_door.specs.Counts.{CountState, new_count, sums_of, after_back}
 use Rattle.be_door.specs.Kept.{put_last}
 use Rattle.be_door.specs.Links.{IsUnused}
-use Rattle.be_hub.specs.Files.{lacks_memory}
+use Rattle.be_hub.specs.Files.{is_split_end}
 use Rattle.be_hub.specs.Links.{IsCounted}
 use Rattle.be_hub.specs.Transcripts.{ShutsOnly}
 use Rattle.be_protocol.specs.Conversation.{ConversationEnds}
@@ -61,6 +61,15 @@ conversed U s before after g g' Spent e = e
 conversed U s before after g g' (Split i j) e = absurd e
 conversed U s before after g g' NoMemory e = e
 
+unsplit : (U : Type 0) (s : Attributes) (before after : LinkState) (g g' : GlassState) (end : SessionEnd) → MirrorSessionEnds U s before after g g' end → is_split_end end ≡ false
+unsplit U s before after g g' Eof e = refl
+unsplit U s before after g g' Quit e = refl
+unsplit U s before after g g' ReadFault e = refl
+unsplit U s before after g g' WriteFault e = refl
+unsplit U s before after g g' Spent e = refl
+unsplit U s before after g g' (Split i j) e = absurd e
+unsplit U s before after g g' NoMemory e = refl
+
 -- of what a glass knows and counted nothing was lost
 pub record Grew (g g' : GlassState) : Type 0 where
   pub known : BeginsWith g'.known g.known
@@ -71,6 +80,7 @@ still_read s g g' grew l w = record {
   unused = w.unused;
   is_unused = w.is_unused;
   whole = w.whole;
+  never_split = w.never_split;
   ends = λ h shuts begins quiet. w.ends h shuts (BeginsWith-along h g'.known g.known begins grew.known) (λ no. grew.quiet (quiet no));
 }
 
@@ -151,7 +161,7 @@ module _ {L : Type 0} (told : L → LinkState) where
           some_raised a b some = omega (arith, some)
 
       was_read : WasRead s g' new
-      was_read = record { unused = before; is_unused = unused; whole = whole; ends = over_list U s before (told link) g g' end served }
+      was_read = record { unused = before; is_unused = unused; whole = whole; never_split = unsplit U s before (told link) g g' end served; ends = over_list U s before (told link) g g' end served }
 
       -- one more link was served
       pub one_served : LinksServed told s g' c' (ends ++ end ∷ [])

@@ -7,6 +7,7 @@ use Rattle.be_change.specs.History.{Entry}
 use Rattle.be_door.specs.Counts.{CountState, IsSound, sums_of}
 use Rattle.be_door.specs.Door.{DoorState, IsOf, after_listen}
 use Rattle.be_door.specs.Links.{IsUnused}
+use Rattle.be_hub.specs.Files.{is_split_end}
 use Rattle.be_hub.specs.Links.{IsCounted}
 use Rattle.be_protocol.specs.Conversation.{ConversationEnds}
 use Rattle.be_protocol.specs.declared.ends.SessionEnd.{SessionEnd}
@@ -23,6 +24,7 @@ pub record WasRead (s : Attributes) (g : GlassState) (l : ReadLink) : Type 0 whe
   pub unused : LinkState
   pub is_unused : IsUnused unused
   pub whole : l.link.source.whole ≡ unused.source.whole
+  pub never_split : is_split_end l.end ≡ false
   pub ends : (h : List Entry) (shuts : Bool) → BeginsWith h g.known → IsQuiet shuts g → ConversationEnds (Unit {0}) (list_terms s h shuts) unused l.link l.end
 
 -- the door listens, and no link was drawn

@@ -1,66 +1,95 @@
-use Rattle.std.proofs.Common.{rules, ◌≡◌, ◌≢◌, ◌<◌, ◌≤◌, None, [], length, IfOk, IfErr, OnOk, ℕ, ◌+◌, ◌-◌, ◌*◌, ◌/◌, ◌%◌, Bool, true, false, nat_eq, nat_lt, List, ◌∷◌, ◌++◌, slice_index_or, slice_set, bit_and, bit_or, Fits, w8, w32, w64, Bor, MutBor}
+use Rattle.std.proofs.Common.{◌≡◌, ℕ, ◌+◌, ◌-◌, ◌<◌, ◌≤◌, length, refl, sym, ap, ◌∙◌, subst, rules, arith}
 use Rattle.be_base.specs.Counts.{RisesBy}
+use Rattle.be_base.specs.declared.limits.TheConstants.{SOURCE_BYTES}
 use Rattle.be_io.specs.Outside.{source_state}
-use Rattle.be_io.specs.Source.{SourceState}
-use Rattle.be_follow.specs.Followers.{Follows}
-use Rattle.be_protocol.specs.Conversation.{TakesWithin}
-use Rattle.be_mirror.specs.Feeders.{new_feeder}
-use Rattle.be_mirror.specs.Feeding.{IsFed, GivesAtMost}
-use Rattle.be_mirror.specs.Serving.{Feeds, FeedEnds}
+use Rattle.be_protocol.proofs.LinesGoing.{rises-along, spent}
+use Rattle.be_mirror.specs.Feeders.{FeederState}
+use Rattle.be_mirror.proofs.FeedGoing.{fed_none, rises_none, ends_on, feeds, within_all, err_one, ok_no_err, front_length, front_short, still_long}
+use Rattle.be_mirror.specs.declared.feeding.FeedEnd.TheVariants as feed
 use Rattle.be_mirror.proofs.feeding.take_feed.Goals as goal
 
--- src/feeding.rt:57:5
 pub loop-left-init : goal.loop-left-init
-loop-left-init g c = ?
+loop-left-init g c =
+    let new = c.requires.new in
+    record {
+      fed = fed_none g.J.Naming.schema (source_state g.S.Source c.args.source.now) c.args.feeder.now.took new.1 (ap (λ (f : FeederState). f.took.schema) new.0);
+      sound = ap (λ (f : FeederState). f.took.fed.fault) new.0;
+      bound = omega arith;
+      faults = refl;
+      taken = rises_none (g.S.Source.taken c.args.source.now) (g.S.Source.taken c.args.source.now) refl;
+      beside = refl;
+      room = omega (arith, c.in-Ok.ensures.len, c.in-Ok.buffer.ok.0);
+    }
 
--- src/feeding.rt:59:13
 pub returns-then-load-clause-feeds : goal.returns-then-load-clause-feeds
-returns-then-load-clause-feeds g c = ?
+returns-then-load-clause-feeds g c =
+    let i = c.loop-left.invariant in
+    λ _. feeds g.J.Naming.schema (source_state g.S.Source c.args.source.now) (source_state g.S.Source c.loop-left.source) _ c.loop-left.feeder.took i.fed (i.sound, i.faults)
 
--- src/feeding.rt:59:13
 pub returns-then-load-clause-within : goal.returns-then-load-clause-within
-returns-then-load-clause-within g c = ?
+returns-then-load-clause-within g c = let i = c.loop-left.invariant in within_all c.loop-left.left (g.S.Source.taken c.args.source.now) (g.S.Source.taken c.loop-left.source) i.taken
 
--- src/feeding.rt:59:13
 pub returns-then-load-clause-beside : goal.returns-then-load-clause-beside
-returns-then-load-clause-beside g c = ?
+returns-then-load-clause-beside g c = c.loop-left.invariant.beside
 
--- src/feeding.rt:62:46
-pub slice_bounds-take_piece-end : goal.slice_bounds-take_piece-end
-slice_bounds-take_piece-end g c = ?
-
--- src/feeding.rt:62:15
-pub take_piece-requires-clause-some : goal.take_piece-requires-clause-some
-take_piece-requires-clause-some g c = ?
-
--- src/feeding.rt:62:15
-pub take_piece-requires-clause-sound : goal.take_piece-requires-clause-sound
-take_piece-requires-clause-sound g c = ?
-
--- src/feeding.rt:57:5
-pub loop-left-preserved : goal.loop-left-preserved
-loop-left-preserved g c = ?
-
--- src/feeding.rt:64:25
-pub returns-in-Err-clause-feeds : goal.returns-in-Err-clause-feeds
-returns-in-Err-clause-feeds g c = ?
-
--- src/feeding.rt:64:25
-pub returns-in-Err-clause-within : goal.returns-in-Err-clause-within
-returns-in-Err-clause-within g c = ?
-
--- src/feeding.rt:64:25
-pub returns-in-Err-clause-beside : goal.returns-in-Err-clause-beside
-returns-in-Err-clause-beside g c = ?
-
--- src/feeding.rt:41:1
 pub returns-clause-feeds : goal.returns-clause-feeds
-returns-clause-feeds g c = ?
+returns-clause-feeds g c =
+    let i = c.loop-left.invariant in
+    λ _. feeds g.J.Naming.schema (source_state g.S.Source c.args.source.now) (source_state g.S.Source c.loop-left.source) _ c.loop-left.feeder.took i.fed (i.sound, spent (g.S.Source.taken c.args.source.now) (g.S.Source.taken c.loop-left.source) (SOURCE_BYTES - c.loop-left.left) i.taken (omega (arith, c.loop-left-test.false)), i.faults)
 
--- src/feeding.rt:41:1
 pub returns-clause-within : goal.returns-clause-within
-returns-clause-within g c = ?
+returns-clause-within g c = let i = c.loop-left.invariant in within_all c.loop-left.left (g.S.Source.taken c.args.source.now) (g.S.Source.taken c.loop-left.source) i.taken
 
--- src/feeding.rt:41:1
 pub returns-clause-beside : goal.returns-clause-beside
-returns-clause-beside g c = ?
+returns-clause-beside g c = c.loop-left.invariant.beside
+
+pub slice_bounds-take_piece-end : goal.slice_bounds-take_piece-end
+slice_bounds-take_piece-end g c = front_length c.min-most.result c.deref_mut.result.now (omega (arith, c.min-most.ensures, ap (λ l. length l) c.deref_mut.ensures.value, c.loop-left.invariant.room))
+
+pub take_piece-requires-clause-some : goal.take_piece-requires-clause-some
+take_piece-requires-clause-some g c =
+    let long = front_length c.min-most.result c.deref_mut.result.now (omega (arith, c.min-most.ensures, ap (λ l. length l) c.deref_mut.ensures.value, c.loop-left.invariant.room)) in
+    omega (arith, long, c.min-most.ensures, c.loop-left-test.true)
+
+pub take_piece-requires-clause-sound : goal.take_piece-requires-clause-sound
+take_piece-requires-clause-sound g c = c.loop-left.invariant.sound
+
+pub loop-left-preserved : goal.loop-left-preserved
+loop-left-preserved g c =
+    let i = c.loop-left.invariant in
+    let e = c.in-Ok-take_piece.ensures in
+    let count = c.in-Ok-take_piece.count in
+    let short = front_short c.min-most.result c.deref_mut.result.now in
+    let few : count ≤ c.loop-left.left = omega (arith, e.taken.1, short, c.min-most.ensures) in
+    record {
+      fed = c.take_piece.ensures.fed (λ wanting. ok_no_err (sym c.in-Ok-take_piece.is ∙ wanting)) (source_state g.S.Source c.args.source.now) i.fed;
+      sound = e.sound.1;
+      bound = omega (arith, i.bound);
+      faults = e.sound.0 ∙ i.faults;
+      taken = rises-along (g.S.Source.taken c.args.source.now) (g.S.Source.taken c.loop-left.source) (g.S.Source.taken c.take_piece.new.source) (SOURCE_BYTES - c.loop-left.left) count (SOURCE_BYTES - (c.loop-left.left - count)) i.taken e.taken.2 (omega (arith, few, i.bound));
+      beside = c.take_piece.ensures.beside ∙ i.beside;
+      room = still_long _ c.loop-left.buffer.items c.loop-left.buffer.len c.loop-left.buffer.ok.0 ∙ (sym c.loop-left.buffer.ok.0 ∙ i.room);
+    }
+
+pub returns-in-Err-clause-feeds : goal.returns-in-Err-clause-feeds
+returns-in-Err-clause-feeds g c = λ not_wanting.
+    let i = c.loop-left.invariant in
+    let before = source_state g.S.Source c.args.source.now in
+    let middle = source_state g.S.Source c.loop-left.source in
+    let after = source_state g.S.Source c.take_piece.new.source in
+    let fed = c.take_piece.ensures.fed (λ wanting. not_wanting (err_one c.in-Err.end feed.NoMemory (sym c.in-Err.is ∙ wanting))) before i.fed in
+    feeds g.J.Naming.schema before after c.in-Err.end c.take_piece.new.feeder.took fed
+    (ends_on before middle after i.fed.bytes (SOURCE_BYTES - c.loop-left.left) c.in-Err.end c.take_piece.new.feeder.took.fed i.fed.given i.faults i.taken (c.in-Err.ensures.ends not_wanting))
+
+pub returns-in-Err-clause-within : goal.returns-in-Err-clause-within
+returns-in-Err-clause-within g c =
+    let i = c.loop-left.invariant in
+    let more = c.take_piece.ensures.within in
+    let short = front_short c.min-most.result c.deref_mut.result.now in (
+      (SOURCE_BYTES - c.loop-left.left) + more.0,
+      omega (arith, more.1, short, c.min-most.ensures, i.bound),
+      rises-along (g.S.Source.taken c.args.source.now) (g.S.Source.taken c.loop-left.source) (g.S.Source.taken c.take_piece.new.source) (SOURCE_BYTES - c.loop-left.left) more.0 ((SOURCE_BYTES - c.loop-left.left) + more.0) i.taken more.2 refl,
+    )
+
+pub returns-in-Err-clause-beside : goal.returns-in-Err-clause-beside
+returns-in-Err-clause-beside g c = c.take_piece.ensures.beside ∙ c.loop-left.invariant.beside
