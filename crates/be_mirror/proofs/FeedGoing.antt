@@ -112,8 +112,8 @@ within_all left a b rise = (SOURCE_BYTES - left, omega arith, rise)
 pub ok_no_err : {X E : Type 0} {x : X} {e : E} → Ok x ≡ Err e → ⊥
 ok_no_err is = absurd cc
 
-pub err_one : {X E : Type 0} (a b : E) → Err {X} a ≡ Err b → a ≡ b
-err_one a b e = cc
+pub err_one : {X E : Type 0} (r : Result X E) (a b : E) → r ≡ Err a → r ≡ Err b → a ≡ b
+err_one r a b p q = cc
 
 -- how long a front is
 pub front_length : (n : ℕ) (xs : List ℕ) → n ≤ length xs → n ≡ length (take n xs)

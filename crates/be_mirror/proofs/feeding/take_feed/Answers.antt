@@ -68,7 +68,7 @@ loop-left-preserved g c =
       faults = e.sound.0 ∙ i.faults;
       taken = rises-along (g.S.Source.taken c.args.source.now) (g.S.Source.taken c.loop-left.source) (g.S.Source.taken c.take_piece.new.source) (SOURCE_BYTES - c.loop-left.left) count (SOURCE_BYTES - (c.loop-left.left - count)) i.taken e.taken.2 (omega (arith, few, i.bound));
       beside = c.take_piece.ensures.beside ∙ i.beside;
-      room = still_long _ c.loop-left.buffer.items c.loop-left.buffer.len c.loop-left.buffer.ok.0 ∙ (sym c.loop-left.buffer.ok.0 ∙ i.room);
+      room = still_long _ c.loop-left.buffer.items c.loop-left.buffer.len (sym c.loop-left.buffer.ok.0) ∙ (c.loop-left.buffer.ok.0 ∙ i.room);
     }
 
 pub returns-in-Err-clause-feeds : goal.returns-in-Err-clause-feeds
@@ -77,7 +77,7 @@ returns-in-Err-clause-feeds g c = λ not_wanting.
     let before = source_state g.S.Source c.args.source.now in
     let middle = source_state g.S.Source c.loop-left.source in
     let after = source_state g.S.Source c.take_piece.new.source in
-    let fed = c.take_piece.ensures.fed (λ wanting. not_wanting (err_one c.in-Err.end feed.NoMemory (sym c.in-Err.is ∙ wanting))) before i.fed in
+    let fed = c.take_piece.ensures.fed (λ wanting. not_wanting (err_one c.take_piece.result c.in-Err.end feed.NoMemory c.in-Err.is wanting)) before i.fed in
     feeds g.J.Naming.schema before after c.in-Err.end c.take_piece.new.feeder.took fed
     (ends_on before middle after i.fed.bytes (SOURCE_BYTES - c.loop-left.left) c.in-Err.end c.take_piece.new.feeder.took.fed i.fed.given i.faults i.taken (c.in-Err.ensures.ends not_wanting))
 
