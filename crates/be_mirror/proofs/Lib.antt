@@ -5,7 +5,3 @@ pub mod Showing
 pub mod Lacking
 pub mod Commanding
 pub mod FeedGoing
-pub mod ReadLinks
-pub mod AllRead
-pub mod DoorSettled
-pub mod Accepts

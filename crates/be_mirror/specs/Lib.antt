@@ -5,4 +5,3 @@ pub mod Sessions
 pub mod Reading
 pub mod Serving
 pub mod Feeding
-pub mod Links
