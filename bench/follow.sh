@@ -1,6 +1,7 @@
 #!/usr/bin/env bash
 # Prints how many lines of a feed a second `follow` takes, of 1,000,000 changes of which a fifth stays live, the least processor time
-# of three runs, and its memory at most beside that of `run` which made the same changes.
+# of three runs, and its memory at most beside that of `run` which made the same changes; and how many `mirror` takes, the least elapsed
+# time of three runs, with a thousand events a second beside.
 # shellcheck source=common.sh
 . "$(dirname "${BASH_SOURCE[0]}")/common.sh"
 use_program
@@ -22,3 +23,9 @@ seconds="$(least 3 in.txt "$program" follow schema.txt feed)"
 follower="$(peak in.txt "$program" follow schema.txt feed)" && leader="$(peak script.txt "$program" run schema.txt)" || exit 1
 row "lines of a feed a second, by \`follow\`, of $(grouped "$changes")" \
     "$(grouped "$(figure %f "$changes / $seconds")"); $(figure '%.0f MiB of memory at most, and %.0f by `run` with the same changes' "$follower / 1024, $leader / 1024")"
+
+need python3 python3
+taken() { for _ in 1 2 3; do timeout 90 python3 "$top/bench/taken.py" "$program" "$room/schema.txt" "$room/feed" "$changes" || exit 1; done | sort -n | sed -n 1p; }
+read -r took spent most <<<"$(taken)" && [ -n "$most" ] || fail "a mirror failed"
+row "lines of a feed a second, by \`mirror\` with 1,000 events a second beside, of $(grouped "$changes")" \
+    "$(grouped "$(figure %f "$changes / $took")"), $(figure %.2f "$seconds / $took") times those of \`follow\`, $(figure '%.1f processors; %.0f MiB of memory at most' "$spent / $took, $most / 1024")"

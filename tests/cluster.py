@@ -1,6 +1,7 @@
-"""Drives the example of a cluster: `serve`, tell.py, put.py, a Redis of its own, get.py and `follow`, each of which is killed in turn
-and started again. Then the feed has the leader's list and nothing else, and `follow` answers from it as the leader does. Its words:
-the program, and a folder to work in. Its last line is `N passed, N failed`."""
+"""Drives the example of a cluster: `serve`, tell.py, put.py, a Redis of its own with a replica, get.py, mirrors that are asked all the
+time, and `follow`, each of which is killed in turn and started again. Then the feed has the leader's list and nothing else, each
+reply of each mirror was true of it, and `follow` answers from it as the leader does. Its words: the program, and a folder to work
+in. Its last line is `N passed, N failed`."""
 import contextlib
 import os
 import pathlib
@@ -16,6 +17,8 @@ import redis
 
 sys.dont_write_bytecode = True
 import ports  # noqa: E402
+from changes import Illegal  # noqa: E402
+from mirrors import Mirror, judge  # noqa: E402
 
 TOP = pathlib.Path(__file__).resolve().parent.parent
 sys.path.insert(0, str(TOP / "examples" / "client"))
@@ -88,9 +91,10 @@ class Cluster:
     def __init__(self, program, room):
         self.program, self.room, self.started = program, pathlib.Path(room), []
         self.count = 0
-        self.redis_port = ports.free_port()
-        self.url = f"redis://127.0.0.1:{self.redis_port}"
+        self.redis_port, self.replica_port = ports.free_port(), ports.free_port()
+        self.url, self.replica_url = (f"redis://127.0.0.1:{port}" for port in (self.redis_port, self.replica_port))
         self.store = redis.Redis(port=self.redis_port)
+        self.mirrors = []
 
     def start(self, *words, **pipes):
         process = subprocess.Popen([str(word) for word in words], **pipes)
@@ -102,6 +106,18 @@ class Cluster:
             "redis-server", "--port", self.redis_port, "--bind", "127.0.0.1", "--dir", self.room, "--save", "", "--appendonly", "yes", "--appendfsync", "always",
             stdout=subprocess.DEVNULL,
         )  # fmt: skip
+
+    def start_replica(self):
+        self.start(
+            "redis-server", "--port", self.replica_port, "--bind", "127.0.0.1", "--dir", self.room, "--save", "", "--dbfilename", "replica.rdb",
+            "--replicaof", "127.0.0.1", self.redis_port, stdout=subprocess.DEVNULL,
+        )  # fmt: skip
+
+    def start_mirrors(self):
+        """One of the primary, and one of its replica."""
+        get = [sys.executable, CLUSTER / "get.py", "feed", "--beat", "0.2", "--redis"]
+        for url in (self.url, self.replica_url):
+            self.mirrors.append(Mirror(self.program, SCHEMA, [*get, url], self.room / "said"))
 
     def start_leader(self):
         def words(port):
@@ -154,8 +170,12 @@ class Cluster:
 
     def all_arrive(self, what):
         wait_until(what, lambda: self.arrived() == self.length())
+        for number, mirror in enumerate(self.mirrors, 1):
+            wait_until(f"{what}, at mirror {number}", lambda mirror=mirror: mirror.length() == self.length())
 
     def stop(self):
+        for mirror in self.mirrors:
+            mirror.stop()
         for process in self.started:
             if process.poll() is None:
                 process.kill()
@@ -176,6 +196,7 @@ def all_parts_run(c):
     c.relay = Relay(c.port)
     c.teller, c.putter = c.start_telling(c.relay.port)
     c.getter = c.start_getting(0)
+    c.start_mirrors()
     c.change(1500)
     c.all_arrive("the first changes")
 
@@ -216,6 +237,15 @@ def outlives_redis(c):
     c.all_arrive("the changes once Redis is started again")
 
 
+def outlives_mirrors(c):
+    """A mirror that is started anew begins at the first change."""
+    for mirror in c.mirrors:
+        mirror.kill()
+        c.change(100)
+        mirror.start()
+        c.all_arrive("the changes once a mirror is started again")
+
+
 def outlives_connection(c):
     c.relay.stop()
     c.change(100)
@@ -239,6 +269,18 @@ def is_the_leaders(c):
     once = subprocess.run([sys.executable, CLUSTER / "get.py", "feed", "--redis", c.url, "--once"], capture_output=True, check=False)
     if once.returncode or once.stdout.decode() != tail(c.writer):
         raise Failed(f"get.py --once ended with {once.returncode}: {once.stderr.decode()}")
+
+
+def are_mirrored(c):
+    """Each reply of each mirror was true of the leader's list, and in no session n fell."""
+    changes = [line.split(" ", 2)[2] for line in tail(c.writer).splitlines()]
+    asked = 0
+    for mirror in c.mirrors:
+        if mirror.ended():
+            raise Failed("a mirror has ended")
+        replies = mirror.told()
+        asked += judge(SCHEMA, changes, replies)
+    print(f"cluster: {asked} replies of {len(c.mirrors)} mirrors over {len(changes)} changes are right")
 
 
 def is_followed(c):
@@ -271,18 +313,19 @@ def is_away(_):
             raise Failed(f"{name} ended with {ended.returncode}: {ended.stderr.decode()}")
 
 
-CASES = [all_parts_run, outlives_put, outlives_tell, outlives_get, outlives_redis, outlives_connection, has_two_tellers, is_the_leaders, is_followed, is_another_list, is_away]
+CASES = [all_parts_run, outlives_put, outlives_tell, outlives_get, outlives_redis, outlives_mirrors, outlives_connection, has_two_tellers, is_the_leaders, are_mirrored, is_followed, is_another_list, is_away]
 
 
 def main(program, room):
     passed, cluster = 0, Cluster(program, room)
     try:
         cluster.start_redis()
+        cluster.start_replica()
         cluster.start_leader()
         for case in CASES:
             case(cluster)
             passed += 1
-    except (Failed, OSError) as fault:
+    except (Failed, Illegal, OSError) as fault:
         print(f"FAILED: the example of a cluster: {CASES[passed].__name__}: {fault}")
         with contextlib.suppress(OSError):
             print((pathlib.Path(room) / "said").read_text(encoding="utf-8")[-2000:])

@@ -1,4 +1,4 @@
-"""A server over TCP, clients that behave and clients that don't, and the judge of what they saw: a part of tests/serve.py."""
+"""A server over TCP, clients that behave and clients that don't, and the judge of what they saw: a part of tests/serve.py and tests/mirror.py."""
 import contextlib
 import socket
 import struct
@@ -20,11 +20,13 @@ class Server:
     """The program, serving so many links of a free port, or of this one. `end` waits for it, and gives its status, its output and
     its faults."""
 
+    command, input = "serve", subprocess.DEVNULL
+
     def __init__(self, program, schema, seats, links, load=(), port=None):
         def words(port):
-            return [program, "serve", schema, str(port), str(seats), str(links), *load]
+            return [program, self.command, schema, str(port), str(seats), str(links), *load]
 
-        options = {"stdin": subprocess.DEVNULL, "stdout": subprocess.PIPE, "stderr": subprocess.PIPE}
+        options = {"stdin": self.input, "stdout": subprocess.PIPE, "stderr": subprocess.PIPE}
         self.port, self.seats = port, seats
         if port:
             self.process = subprocess.Popen(words(port), **options)

@@ -2,6 +2,7 @@
 
 use be_io::Gate;
 use std::alloc::Global;
+use std::sync::Arc;
 use std::sync::atomic::{AtomicU64, Ordering};
 use std::thread;
 
@@ -15,12 +16,22 @@ pub struct Place {
     pub line: u64,
 }
 
-/// A worker is held before a line until another one has come to a line, or has answered it.
+/// What a worker is held for.
+#[derive(Clone, Copy)]
+pub enum Awaited {
+    /// Another one has come to a line.
+    Come(Place),
+    /// Another one has answered a line.
+    Answered(Place),
+    /// The input was asked so often: all pieces but the last were taken.
+    Read(u64),
+}
+
+/// A worker is held before a line until something has happened.
 #[derive(Clone, Copy)]
 pub struct Hold {
     pub held: Place,
-    pub awaited: Place,
-    pub is_answer: bool,
+    pub awaited: Awaited,
 }
 
 // The last line that a worker has come to, and the last one that it has answered.
@@ -45,18 +56,20 @@ pub struct HoldingGate {
     holds: Vec<Hold>,
     first: Progress,
     second: Progress,
+    reads: Arc<AtomicU64>,
     held: AtomicU64,
     limits_met: AtomicU64,
 }
 
 impl HoldingGate {
-    /// `None` says that memory ran out.
-    pub fn make(alloc: Global, holds: &[Hold]) -> Option<HoldingGate> {
+    /// It sees the calls of the input in `reads`. `None` says that memory ran out.
+    pub fn make(alloc: Global, holds: &[Hold], reads: Arc<AtomicU64>) -> Option<HoldingGate> {
         let holds = Vec::from_slice(alloc, holds).ok()?;
         Some(HoldingGate {
             holds,
             first: Progress::none(),
             second: Progress::none(),
+            reads,
             held: AtomicU64::new(0),
             limits_met: AtomicU64::new(0),
         })
@@ -81,13 +94,15 @@ impl HoldingGate {
     }
 
     fn is_over(&self, hold: &Hold) -> bool {
-        let progress = self.progress(hold.awaited.worker);
-        let line = if hold.is_answer {
-            progress.answered.load(Ordering::SeqCst)
-        } else {
-            progress.come.load(Ordering::SeqCst)
-        };
-        line >= hold.awaited.line
+        match hold.awaited {
+            Awaited::Come(place) => {
+                self.progress(place.worker).come.load(Ordering::SeqCst) >= place.line
+            }
+            Awaited::Answered(place) => {
+                self.progress(place.worker).answered.load(Ordering::SeqCst) >= place.line
+            }
+            Awaited::Read(count) => self.reads.load(Ordering::SeqCst) >= count,
+        }
     }
 
     fn wait(&self, hold: &Hold) {

@@ -7,6 +7,7 @@
 #![tactic(auto)]
 
 mod gate;
+mod input;
 mod lines;
 mod links;
 mod row;

@@ -2,7 +2,7 @@
 
 ghost use Rattle.std.specs.Prelude.{◌<◌};
 
-use crate::gate::{Hold, Place};
+use crate::gate::{Awaited, Hold, Place};
 use std::alloc::Global;
 
 /// A link of the door: the lines that it gives, in pieces of so many bytes, and which read and which write of it fail (0: none).
@@ -15,10 +15,21 @@ pub struct LinkRow<'a> {
     ghost some: { 0 < piece },
 }
 
+/// The bytes of the input, in pieces of so many, and which read of it fails (0: none).
+#[derive(Clone, Copy)]
+pub struct InputRow<'a> {
+    pub lines: &'a str,
+    pub piece: usize,
+    pub failing_read: u64,
+    ghost some: { 0 < piece },
+}
+
 /// The words of the call, and what it finds: `accept N`, `listen N`, `ask N` and `out N` say that this accept, this listen of the
 /// door, this ask for a file, this write of the output fails; `file NAME: LINES` is a file; `link PIECE: LINES`, `link PIECE read N:
-/// LINES` and `link PIECE write N: LINES` are the door's links, in order; `hold W.L until V.M come` holds worker W before line L until
-/// worker V has come to line M, and with `answered` at the end until it has answered that; `may: OUTCOME` is an outcome that may be.
+/// LINES` and `link PIECE write N: LINES` are the door's links, in order; `input PIECE: LINES` and `input PIECE read N: LINES` are what
+/// the input gives; `hold W.L until V.M come` holds worker W before line L until worker V has come to line M, with `answered` at the
+/// end until it has answered that, and `hold W.L until read N` until the input was asked N times; `may: OUTCOME` is an outcome that
+/// may be.
 #[derive(Drop)]
 pub struct Row<'a> {
     pub words: &'a str,
@@ -29,6 +40,8 @@ pub struct Row<'a> {
     /// Each file's name and lines.
     pub files: Vec<(&'a str, &'a str)>,
     pub links: Vec<LinkRow<'a>>,
+    /// An input whose first read fails, where there is none.
+    pub input: Option<InputRow<'a>>,
     pub holds: Vec<Hold>,
     pub outcomes: Vec<&'a str>,
 }
@@ -43,6 +56,7 @@ impl<'a> Row<'a> {
             failing_out: 0,
             files: Vec::new(alloc),
             links: Vec::new(alloc),
+            input: None,
             holds: Vec::new(alloc),
             outcomes: Vec::new(alloc),
         }
@@ -64,10 +78,20 @@ impl<'a> Row<'a> {
         match word {
             "file" => self.files.push((rest, lines)).ok(),
             "link" => self.links.push(read_link(rest, lines)?).ok(),
+            "input" => self.add_input(read_link(rest, lines)?),
             "hold" => self.holds.push(read_hold(rest)?).ok(),
             "may" => self.outcomes.push(lines).ok(),
             _ => self.add_fault(word, rest.parse().ok()?),
         }
+    }
+
+    fn add_input(&mut self, link: LinkRow<'a>) -> Option<()> {
+        self.input = Some(InputRow {
+            lines: link.lines,
+            piece: link.piece,
+            failing_read: link.failing_read,
+        });
+        Some(())
     }
 
     fn add_fault(&mut self, word: &str, number: u64) -> Option<()> {
@@ -100,12 +124,20 @@ fn read_link<'a>(numbers: &str, lines: &'a str) -> Option<LinkRow<'a>> {
 
 fn read_hold(text: &str) -> Option<Hold> {
     let (held, rest) = text.split_once(" until ")?;
-    let (awaited, step) = rest.split_once(' ')?;
+    let (first, second) = rest.split_once(' ')?;
     Some(Hold {
         held: read_place(held)?,
-        awaited: read_place(awaited)?,
-        is_answer: step == "answered",
+        awaited: read_awaited(first, second)?,
     })
+}
+
+fn read_awaited(first: &str, second: &str) -> Option<Awaited> {
+    match (first, second) {
+        ("read", count) => Some(Awaited::Read(count.parse().ok()?)),
+        (place, "come") => Some(Awaited::Come(read_place(place)?)),
+        (place, "answered") => Some(Awaited::Answered(read_place(place)?)),
+        _ => None,
+    }
 }
 
 fn read_place(text: &str) -> Option<Place> {

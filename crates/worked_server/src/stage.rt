@@ -4,12 +4,15 @@ ghost use Rattle.std.specs.Prelude.{◌≡◌, IfSome};
 ghost use Rattle.be_io.specs.Shelf.{file_of};
 
 use crate::gate::HoldingGate;
+use crate::input::Input;
 use crate::lines::bytes_of;
 use crate::links::{Peer, door_of};
 use crate::row::Row;
 use be_door::MemDoor;
-use be_io::{MemShelf, MemSink, MemSource};
+use be_io::{MemShelf, MemSink};
 use std::alloc::Global;
+use std::sync::Arc;
+use std::sync::atomic::AtomicU64;
 
 /// The lines of the file `S`, where a row has none.
 const SCHEMA: &str = "int price 0 1000; int qty -5 5; sym side buy sell hold; int one 7 7";
@@ -19,7 +22,7 @@ const SCHEMA: &str = "int price 0 1000; int qty -5 5; sym side buy sell hold; in
 pub struct Stage<R> {
     pub words: Vec<String>,
     pub shelf: MemShelf,
-    pub input: MemSource,
+    pub input: Input,
     pub out: MemSink,
     pub door: MemDoor<Peer, R>,
     pub gate: HoldingGate,
@@ -29,9 +32,10 @@ pub struct Stage<R> {
 pub fn stage_of<R: Copy>(rt: R, alloc: Global, row: &Row<'_>) -> Option<Stage<R>> {
     let words = words_of(alloc, row)?;
     let shelf = shelf_of(alloc, row)?;
-    let input = no_input(alloc)?;
+    let reads = Arc::new(alloc, AtomicU64::new(0)).ok()?;
+    let input = Input::of(alloc, row, Arc::try_clone(&reads).ok()?)?;
     let out = out_of(alloc, row)?;
-    let gate = HoldingGate::make(alloc, row.holds.as_slice())?;
+    let gate = HoldingGate::make(alloc, row.holds.as_slice(), reads)?;
     let door = door_of(rt, alloc, row)?;
     Some(Stage {
         words,
@@ -69,12 +73,6 @@ fn file(alloc: Global, row: &Row<'_>, name: &str, lines: &str) -> Option<(String
     let bytes = bytes_of(alloc, row.file(name).unwrap_or(lines))?;
     let name = String::from_str(alloc, name).ok()?;
     Some((name, bytes))
-}
-
-// An input that no command of these rows reads: its first read fails.
-fn no_input(alloc: Global) -> Option<MemSource> {
-    let failing = vec![in alloc; 1].ok()?;
-    Some(MemSource::make(Vec::new(alloc), 1, failing))
 }
 
 fn out_of(alloc: Global, row: &Row<'_>) -> Option<MemSink> {
