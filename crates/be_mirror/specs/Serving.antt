@@ -16,6 +16,7 @@ use Rattle.be_door.specs.declared.sums.Sums.{Sums}
 use Rattle.be_follow.specs.Feeds.{Fed, Means}
 use Rattle.be_protocol.specs.Conversation.{Terms, ConversationEnds}
 use Rattle.be_protocol.specs.declared.ends.SessionEnd.{SessionEnd}
+use Rattle.be_protocol.specs.declared.ends.SessionEnd.TheVariants.{Split, NoMemory}
 use Rattle.be_hub.specs.Links.{IsCounted}
 use Rattle.be_hub.specs.Serving.{IsTried, served_door}
 use Rattle.be_hub.specs.Transcripts.{ShutsOnly}
@@ -60,6 +61,13 @@ list_terms s h shuts = record {
   InPart = λ lines ps p out. AreReads s 0 h lines (ps ++ p ∷ []) × ShutsOnly shuts (ps ++ p ∷ []);
 }
 
+-- how the conversation with a link that is told of may have ended: memory wasn't wanting to it, and no reply tells two numbers
+-- that differ
+abbrev pub LinkEnds : Terms → LinkState → LinkState → SessionEnd → Type 0
+LinkEnds t before after (Split seen written) = ⊥
+LinkEnds t before after NoMemory = ⊥
+LinkEnds t before after end = ConversationEnds ⊥ t before after end
+
 -- a link that was given out and served: its number, the link as it stood when it came back, and how its session ended
 pub record ReadLink : Type 0 where
   pub number : ℕ
@@ -72,7 +80,7 @@ pub record IsReadLink (s : Attributes) (h : List Entry) (shuts : Bool) (sums : S
   pub is_unused : IsUnused unused
   -- all bytes that the link gives from first to last are the same ones
   pub whole : l.link.source.whole ≡ unused.source.whole
-  pub ends : ConversationEnds ⊥ (list_terms s h shuts) unused l.link l.end
+  pub ends : LinkEnds (list_terms s h shuts) unused l.link l.end
   pub counted : IsCounted sums l.end
 
 abbrev pub number_and_link : ReadLink → ℕ × LinkState
