@@ -31,10 +31,6 @@ use Rattle.be_server.specs.Outside.{Passage}
 use Rattle.be_server.specs.Serve.{AreQuiet}
 use Rattle.be_server.specs.Status.{status_of_mirror}
 
--- where a mirror's numbers are given, memory wasn't wanting to its feed
-pub never_short : (before after : SourceState) (end : FeedEnd) (f : Fed) → FeedEnds before after end f → end ≡ feed.NoMemory → ⊥
-never_short before after end f ends is = subst (λ (e : FeedEnd). FeedEnds before after e f) is ends
-
 -- without a fault of any link its session ended by the input's end or by a QUIT
 read_by : (s : Attributes) (h : List Entry) (shuts : Bool) (sums : Sums) (before after : LinkState) (end : SessionEnd) → LinkEnds (list_terms s h shuts) before after end → IsCounted sums end → AreFaultless sums → IsRead end
 read_by s h shuts sums before after ends.Eof l c none = tt
