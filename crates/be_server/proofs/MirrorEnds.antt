@@ -1,5 +1,5 @@
 -- How `mirror` ends: its schema is read, its links are served beside the feed, and what came of it is written.
-use Rattle.std.proofs.Common.{◌≡◌, ◌⊎◌, inl, inr, ℕ, zero, suc, ◌+◌, ◌<◌, Bool, List, All, Ok, Err, sym, ap, subst, ◌∙◌, arith}
+use Rattle.std.proofs.Common.{◌≡◌, ◌⊎◌, inl, inr, ℕ, zero, suc, ◌+◌, ◌<◌, Bool, List, Ok, Err, sym, ap, subst, ◌∙◌, arith}
 use Rattle.std.proofs.lemmas.List.Elements.{All-weaker}
 use Rattle.be_base.specs.Counts.{raised}
 use Rattle.be_base.specs.declared.limits.TheConstants.{SOURCE_BYTES}
@@ -7,14 +7,12 @@ use Rattle.be_base.specs.declared.names.SessionNo.{SessionNo}
 use Rattle.be_change.specs.History.{Entry}
 use Rattle.be_door.specs.Door.{DoorState}
 use Rattle.be_door.specs.declared.sums.Sums.{Sums}
-use Rattle.be_follow.specs.Feeds.{Fed}
 use Rattle.be_hub.specs.Files.{IsRead}
 use Rattle.be_hub.specs.Links.{IsCounted}
 use Rattle.be_hub.specs.Serving.{AreFaultless, served_door}
 use Rattle.be_hub.proofs.WereRead.{served_tried}
 use Rattle.be_io.specs.Counts.{HasRisen, HasRisenBy}
 use Rattle.be_io.specs.Outside.{LinkState}
-use Rattle.be_io.specs.Source.{SourceState}
 use Rattle.be_mirror.specs.Serving.{FeedEnds, Mirrors, LinksAreRead, ReadLink, IsReadLink, LinkEnds, list_terms}
 use Rattle.be_mirror.specs.declared.feeding.FeedEnd.{FeedEnd}
 use Rattle.be_mirror.specs.declared.feeding.FeedEnd.TheVariants as feed
@@ -26,7 +24,7 @@ use Rattle.be_protocol.specs.declared.ends.SessionEnd.TheVariants as ends
 use Rattle.be_server.specs.declared.status.Status.{Status}
 use Rattle.be_server.specs.declared.status.Status.TheVariants.{Done, Words, SchemaBad, LoadBad, FeedBad, NoMemory, ReadFault, LongFile, WriteFault, Spent, Split, Ahead, Stray, Shut}
 use Rattle.be_server.specs.Files.{ToldFile, IsSchemaOf, LoadsSchema}
-use Rattle.be_server.specs.Mirror.{mirror_text, IsSound, Fails, Reflects, WereRead, Mirrored, RunsMirror, Runs, IsUntouched, MirrorEnds, EndsMirror}
+use Rattle.be_server.specs.Mirror.{mirror_text, Fails, Reflects, WereRead, Mirrored, RunsMirror, Runs, IsUntouched, MirrorEnds, EndsMirror}
 use Rattle.be_server.specs.Outside.{Passage}
 use Rattle.be_server.specs.Serve.{AreQuiet}
 use Rattle.be_server.specs.Status.{status_of_mirror}
@@ -157,14 +155,14 @@ module _ {L : Type 0} (p : Passage L) (port seats links : ℕ) (file : ToldFile)
   links_mirrored s status quiet is runs = go status runs
     where
       go : (x : Status) → RunsMirror p.told p.InputKept p.OutKept s port seats links p.before.link p.after.link p.before.door p.after.door x → MirrorEnds p port seats links file x
-      go ReadFault r = inr (quiet, s, is, r)
+      go ReadFault r = inr (quiet, (s, is, r))
       go NoMemory r = (quiet, inr (s, is, r))
-      go Done r = (quiet, s, is, r)
-      go (FeedBad line kind) r = (quiet, s, is, r)
-      go (Ahead known published) r = (quiet, s, is, r)
-      go (Shut shade) r = (quiet, s, is, r)
-      go Spent r = (quiet, s, is, r)
-      go WriteFault r = (quiet, s, is, r)
+      go Done r = (quiet, (s, is, r))
+      go (FeedBad line kind) r = (quiet, (s, is, r))
+      go (Ahead known published) r = (quiet, (s, is, r))
+      go (Shut shade) r = (quiet, (s, is, r))
+      go Spent r = (quiet, (s, is, r))
+      go WriteFault r = (quiet, (s, is, r))
       go (Split rift) r = absurd r.reflects
       go (Stray stray) r = absurd r.reflects
       go Words r = absurd r.reflects
