@@ -14,7 +14,7 @@ _justmeadow_words() {
 
 _justmeadow() {
     local current="${COMP_WORDS[COMP_CWORD]}" before first=1 place word
-    local commands="run serve drill heat follow cover gen"
+    local commands="run serve drill heat follow mirror cover gen"
     COMPREPLY=()
     # behind --dist and --unproved stand the program's words
     case "${COMP_WORDS[1]-}" in --dist | --unproved) first=2 ;; esac
@@ -49,15 +49,15 @@ _justmeadow() {
 # _justmeadow_place COMMAND:PLACE WORD BEFORE: what stands at this place behind the command
 _justmeadow_place() {
     case "$1" in
-        run:1 | serve:1 | drill:1 | heat:1 | follow:1 | cover:1) _justmeadow_files "$2" ;;
+        run:1 | serve:1 | drill:1 | heat:1 | follow:1 | mirror:1 | cover:1) _justmeadow_files "$2" ;;
         follow:2 | cover:2) _justmeadow_files "$2" ;;
         # the names of the load file
         cover:3) _justmeadow_words "$2" "$(awk '$1 == "ROW" { print $2 }' "$3" 2>/dev/null)" ;;
         drill:2 | heat:2) _justmeadow_words "$2" "0 100 1000" ;;
         drill:* | heat:*) _justmeadow_files "$2" ;;
-        serve:2) _justmeadow_words "$2" 7000 ;;
-        serve:3) _justmeadow_words "$2" "8 64" ;;
-        serve:4) _justmeadow_words "$2" 1000000 ;;
+        serve:2 | mirror:2) _justmeadow_words "$2" 7000 ;;
+        serve:3 | mirror:3) _justmeadow_words "$2" "8 64" ;;
+        serve:4 | mirror:4) _justmeadow_words "$2" 1000000 ;;
     esac
 }
 

@@ -42,6 +42,12 @@ call drill schema.txt 0 in --load; same 'drill with a load file without a name' 
 call drill schema.txt 0 in --load load.txt --load=load.txt; same 'drill with two load files' 2 '' 'words refused\n'
 call drill schema.txt 0 in --rounds=3; same 'drill with an unknown option' 2 '' 'words refused\n'
 call drill schema.txt 0 -- -x; same 'drill of a missing file behind a separator' 4 '' 'read fault\n'
+for words in 'schema.txt 0 1 1' 'schema.txt 65536 1 1' 'schema.txt 7000 0 1' 'schema.txt 7000 65 1' 'schema.txt 7000 1 0' \
+    'schema.txt 7000 1 1000001' 'schema.txt 7000 1' 'schema.txt 7000 1 1 1' 'schema.txt x 1 1' 'schema.txt 7000 1 1 --load load.txt' ''; do
+    # shellcheck disable=SC2086
+    call mirror $words; same "faulty words of mirror: $words" 2 '' 'words refused\n'
+done
+call mirror missing.txt 7000 1 1; same 'mirror of a missing schema' 4 '' 'read fault\n'
 call gen x 0 0; same 'gen without a number' 2 '' 'words refused\n'
 call gen 18446744073709551616 0 0; same 'gen of a number that is too large' 2 '' 'words refused\n'
 
@@ -117,6 +123,7 @@ call run first.txt --load missing.txt; same 'a faulty schema before a missing lo
 call drill first.txt 0 missing.txt; same 'a faulty schema before a missing file of drill' 3 '' 'schema line 1: Range\n'
 call heat first.txt 0 missing.txt; same 'a faulty schema before a missing file of heat' 3 '' 'schema line 1: Range\n'
 call follow first.txt missing.txt; same 'a faulty schema before a missing feed' 3 '' 'schema line 1: Range\n'
+call mirror first.txt 7000 1 1; same 'a faulty schema of mirror' 3 '' 'schema line 1: Range\n'
 call cover first.txt missing.txt a; same 'a faulty schema before a missing file of cover' 3 '' 'schema line 1: Range\n'
 printf "$three" >in
 

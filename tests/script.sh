@@ -40,7 +40,8 @@ printf 'LIST\n' >in
 script --help; cp out usage
 same 'the usage' 0 "$(sed 's/%/%%/g' usage)\n" ''
 for words in 'run SCHEMA' 'run SCHEMA --load FILE' 'gen NUMBER SUBS EVENTS' 'cover SCHEMA FILE NAME' 'drill SCHEMA ROUNDS FILE..' \
-    'serve SCHEMA PORT SEATS LINKS' 'heat SCHEMA ROUNDS FILE..' 'follow SCHEMA FILE' 'SUB name condition' 'UNSUB name' 'PUB event' \
+    'serve SCHEMA PORT SEATS LINKS' 'heat SCHEMA ROUNDS FILE..' 'follow SCHEMA FILE' 'mirror SCHEMA PORT SEATS LINKS' \
+    'SUB name condition' 'UNSUB name' 'PUB event' \
     'COST event' LIST 'SEND event' 'FETCH most' DUMP 'TAIL place most' QUIT --help --version --test --dist --where --build --unproved; do
     if grep -q -- "^    \(./justmeadow \)\?$words" usage; then
         passed=$((passed + 1))
@@ -86,6 +87,7 @@ script follow missing; same 'too few words for follow' 6 'ran follow missing\n' 
 script heat there 1 missing --load there; same 'a load file where there is none' 6 'ran heat there 1 missing --load there\n' ''
 script run -- -x; same 'a name behind a separator' 6 'ran run -- -x\n' "justmeadow: there is no file '-x'\n"
 script serve there 7000 2 2; same 'no file is missing' 6 'ran serve there 7000 2 2\n' ''
+script mirror missing 7000 2 2; same 'a schema of mirror that is missing' 6 'ran mirror missing 7000 2 2\n' "justmeadow: there is no file 'missing'\n"
 script drill there 10 there missing; same 'a file of lines that is missing' 6 'ran drill there 10 there missing\n' "justmeadow: there is no file 'missing'\n"
 script follow missing there; same 'a schema that is missing' 6 'ran follow missing there\n' "justmeadow: there is no file 'missing'\n"
 script cover there there name; same 'a name is no file' 6 'ran cover there there name\n' ''

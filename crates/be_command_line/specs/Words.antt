@@ -10,7 +10,8 @@ use Rattle.be_base.specs.declared.limits.TheConstants.{GENERATED_SUBSCRIPTIONS, 
 use Rattle.be_command_line.specs.declared.words.TheConstants.{PORTS}
 use Rattle.be_command_line.specs.Arguments.{Arguments, arguments}
 use Rattle.be_command_line.specs.declared.words.Request.{Request as WordsRequest}
-use Rattle.be_command_line.specs.declared.words.Request.TheVariants.{Run, Gen, Cover, Drill, Heat, Serve, Follow}
+use Rattle.be_command_line.specs.declared.words.Request.TheVariants.{Run, Gen, Cover, Drill, Heat, Serve, Follow, Mirror}
+use Rattle.be_command_line.specs.declared.words.Service.{Service as WordsService}
 use Rattle.be_command_line.specs.declared.words.Sessions.{Sessions as WordsSessions}
 use Rattle.be_command_line.specs.declared.words.WordsFault.{WordsFault}
 use Rattle.be_command_line.specs.declared.words.WordsFault.TheVariants.{Refused, NoMemory}
@@ -31,6 +32,8 @@ pub data Request : Type 0 where
   serve : Text → Option Text → ℕ → ℕ → ℕ → Request
   -- events answered from a list of changes that another server wrote: the schema's file, and that of the changes
   follow : Text → Text → Request
+  -- workers over the list that a feed gives, a session of reads a link: the schema's file, the port, the seats, the links
+  mirror : Text → ℕ → ℕ → ℕ → Request
 
 -- FILE of `--load` stands once or not at all
 abbrev pub once_loaded : List Text → Option (Option Text)
@@ -95,14 +98,28 @@ abbrev pub heat_of : List Text → List Text → Option Request
 heat_of words [] = option_map (λ (s : Sessions). heat s.schema s.rounds s.files) (sessions_of words)
 heat_of _ _ = None
 
-abbrev pub serve_with : Text → Option ℕ → Option ℕ → Option ℕ → List Text → Option Request
-serve_with schema (Some port) (Some seats) (Some links) loads = load_once (λ load. serve schema load port seats links) loads
-serve_with _ _ _ _ _ = None
+-- what `serve` and `mirror` take: the schema's file, the port, the seats, the links
+pub record Service : Type 0 where
+  pub schema : Text
+  pub port : ℕ
+  pub seats : ℕ
+  pub links : ℕ
+
+abbrev pub service_with : Text → Option ℕ → Option ℕ → Option ℕ → Option Service
+service_with schema (Some port) (Some seats) (Some links) = Some (record { schema = schema; port = port; seats = seats; links = links })
+service_with _ _ _ _ = None
+
+abbrev pub service_of : List Text → Option Service
+service_of (schema ∷ port ∷ seats ∷ links ∷ []) =
+    service_with schema (count_from_one PORTS port) (count_from_one SEATS seats) (count_from_one LINKS links)
+service_of _ = None
 
 abbrev pub serve_of : List Text → List Text → Option Request
-serve_of (schema ∷ port ∷ seats ∷ links ∷ []) loads =
-    serve_with schema (count_from_one PORTS port) (count_from_one SEATS seats) (count_from_one LINKS links) loads
-serve_of _ _ = None
+serve_of words loads = option_and_then (λ load. option_map (λ (s : Service). serve s.schema load s.port s.seats s.links) (service_of words)) (once_loaded loads)
+
+abbrev pub mirror_of : List Text → List Text → Option Request
+mirror_of words [] = option_map (λ (s : Service). mirror s.schema s.port s.seats s.links) (service_of words)
+mirror_of _ _ = None
 
 abbrev pub follow_of : List Text → List Text → Option Request
 follow_of (schema ∷ file ∷ []) [] = Some (follow schema file)
@@ -122,6 +139,7 @@ commands =
     ∷ record { word = codes "serve"; request = serve_of }
     ∷ record { word = codes "heat"; request = heat_of }
     ∷ record { word = codes "follow"; request = follow_of }
+    ∷ record { word = codes "mirror"; request = mirror_of }
     ∷ []
 
 abbrev pub row_of : Text → Option Row
@@ -146,9 +164,13 @@ plain_request (Drill schema load rounds files) = drill schema.now (option_map no
 plain_request (Heat schema rounds files) = heat schema.now rounds (map now_of files.items)
 plain_request (Serve schema load port seats links) = serve schema.now (option_map now_of load) port seats links
 plain_request (Follow schema file) = follow schema.now file.now
+plain_request (Mirror schema port seats links) = mirror schema.now port seats links
 
 abbrev pub plain_sessions : WordsSessions → Sessions
 plain_sessions s = record { schema = s.schema.now; rounds = s.rounds; files = map now_of s.files.items }
+
+abbrev pub plain_service : WordsService → Service
+plain_service s = record { schema = s.schema.now; port = s.port; seats = s.seats; links = s.links }
 
 -- the request exactly where the words have a reading, and the refusal exactly where they have none, want of memory aside
 abbrev pub IsAnswerTo : List Text → Result WordsRequest WordsFault → Type 0
@@ -162,4 +184,5 @@ IsWithin (Gen number subs events) = (subs ≤ GENERATED_SUBSCRIPTIONS) × (event
 IsWithin (Drill schema load rounds files) = (rounds ≤ ROUNDS) × (0 < length files.items) × (length files.items ≤ SEATS)
 IsWithin (Heat schema rounds files) = (rounds ≤ ROUNDS) × (0 < length files.items) × (length files.items ≤ SEATS)
 IsWithin (Serve schema load port seats links) = (0 < seats) × (seats ≤ SEATS) × (0 < links) × (links ≤ LINKS)
+IsWithin (Mirror schema port seats links) = (0 < seats) × (seats ≤ SEATS) × (0 < links) × (links ≤ LINKS)
 IsWithin request = Unit {0}

@@ -2,7 +2,7 @@
 
 ghost use Rattle.std.specs.Prelude.{◌≡◌, map, option_map, ◌<◌, ◌≤◌, IfOk, IfSome, length};
 ghost use Rattle.be_base.specs.Readers.{now_of};
-ghost use Rattle.be_command_line.specs.Words.{IsAnswerTo, words_of, plain_request, plain_sessions, request_of, run_of, gen_of, cover_of, follow_of, drill_of, heat_of, serve_of, sessions_of, once_loaded, count_within, count_from_one, IsWithin};
+ghost use Rattle.be_command_line.specs.Words.{IsAnswerTo, words_of, plain_request, plain_service, plain_sessions, request_of, run_of, gen_of, cover_of, follow_of, drill_of, heat_of, serve_of, mirror_of, service_of, sessions_of, once_loaded, count_within, count_from_one, IsWithin};
 
 use crate::arguments::{LOAD, WORD, read_arguments, values_of};
 use be_base::{
@@ -59,6 +59,13 @@ pub enum Request<'a> {
         schema: &'a str,
         file: &'a str,
     },
+    /// So many links of this port, answered by workers of so many seats from the list that the input gives.
+    Mirror {
+        schema: &'a str,
+        port: u16,
+        seats: u32,
+        links: u64,
+    },
 }
 
 // What `drill` and `heat` take: the schema's file, the maintainer's calls, and the sessions' files.
@@ -67,6 +74,15 @@ struct Sessions<'a> {
     schema: &'a str,
     rounds: u64,
     files: Vec<&'a str>,
+}
+
+// What `serve` and `mirror` take: the schema's file, the port, the seats, and the links.
+#[derive(Drop)]
+struct Service<'a> {
+    schema: &'a str,
+    port: u16,
+    seats: u32,
+    links: u64,
 }
 
 /// Why there is no request.
@@ -233,21 +249,62 @@ fn heat_of<'a>(
     }
 }
 
+// `SCHEMA PORT SEATS LINKS`.
+fn service_of<'a>(words: &[&'a str]) -> Option<Service<'a>>
+    ensures service { option_map plain_service result ≡ service_of (map now_of words.now) }
+    ensures within { IfSome result (λ s. (0 < s.seats) × (s.seats ≤ SEATS) × (0 < s.links) × (s.links ≤ LINKS)) }
+{
+    let [schema, port, seats, links] = words else {
+        return None;
+    };
+    Some(Service {
+        schema,
+        port: count_from_one(PORTS, port)? as u16,
+        seats: count_from_one(SEATS as u64, seats)? as u32,
+        links: count_from_one(LINKS, links)?,
+    })
+}
+
 // `serve SCHEMA PORT SEATS LINKS`, with one `--load FILE` or none.
 fn serve_of<'a>(words: &[&'a str], loads: &[&'a str]) -> Option<Request<'a>>
     ensures request { option_map plain_request result ≡ serve_of (map now_of words.now) (map now_of loads.now) }
     ensures within { IfSome result IsWithin }
 {
     let load = once_loaded(loads)?;
-    let [schema, port, seats, links] = words else {
-        return None;
-    };
+    let Service {
+        schema,
+        port,
+        seats,
+        links,
+    } = service_of(words)?;
     Some(Request::Serve {
         schema,
         load,
-        port: count_from_one(PORTS, port)? as u16,
-        seats: count_from_one(SEATS as u64, seats)? as u32,
-        links: count_from_one(LINKS, links)?,
+        port,
+        seats,
+        links,
+    })
+}
+
+// `mirror SCHEMA PORT SEATS LINKS`.
+fn mirror_of<'a>(words: &[&'a str], loads: &[&'a str]) -> Option<Request<'a>>
+    ensures request { option_map plain_request result ≡ mirror_of (map now_of words.now) (map now_of loads.now) }
+    ensures within { IfSome result IsWithin }
+{
+    if !loads.is_empty() {
+        return None;
+    }
+    let Service {
+        schema,
+        port,
+        seats,
+        links,
+    } = service_of(words)?;
+    Some(Request::Mirror {
+        schema,
+        port,
+        seats,
+        links,
     })
 }
 
@@ -304,6 +361,7 @@ fn request_of<'a>(
         "serve" => Ok(serve_of(words, loads)),
         "heat" => heat_of(alloc, words, loads),
         "follow" => Ok(follow_of(words, loads)),
+        "mirror" => Ok(mirror_of(words, loads)),
         _ => Ok(None),
     }
 }

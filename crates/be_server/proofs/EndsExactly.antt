@@ -12,9 +12,9 @@ use Rattle.be_model.specs.Schemas.{Attributes}
 use Rattle.be_load_files.specs.declared.faults.TableFault.TheVariants as table
 use Rattle.be_load_files.specs.declared.faults.TableKind.{TableKind}
 use Rattle.be_load_files.specs.Tables.{table_of}
-use Rattle.be_command_line.specs.Words.{Request, run, gen, cover, drill, serve, heat, follow}
+use Rattle.be_command_line.specs.Words.{Request, run, gen, cover, drill, serve, heat, follow, mirror}
 use Rattle.be_server.specs.declared.status.Status.{Status}
-use Rattle.be_server.specs.declared.status.Status.TheVariants.{Done, Words, SchemaBad, LoadBad, FeedBad, NoMemory, ReadFault, LongFile, WriteFault, Spent, Split, Stray, Shut}
+use Rattle.be_server.specs.declared.status.Status.TheVariants.{Done, Words, SchemaBad, LoadBad, FeedBad, NoMemory, ReadFault, LongFile, WriteFault, Spent, Split, Ahead, Stray, Shut}
 use Rattle.be_server.specs.Exact.{IsFaultless, FileIsRefused, ToldAs, LoadIsGood, SchemaDecides, LoadDecides, AllIsDone, EndsDrill, ScriptDecides, ScriptsDecide, IsExact, IsQuiet, EndsExactly}
 use Rattle.be_server.specs.Files.{ToldFile, RunFiles, run_files, FileReads, FileIsLong, IsSchemaOf, IfLoads, TableReads, AreRowsOf, SchemaIsBad, LoadIsBad, OneIsLong}
 use Rattle.be_server.specs.Cover.{CoverEnds}
@@ -25,9 +25,11 @@ use Rattle.be_server.specs.Run.{RunEnds}
 use Rattle.be_server.specs.Commands.{Ends}
 use Rattle.be_server.specs.Follow.{follow_files}
 use Rattle.be_server.specs.Heat.{prints_heat}
+use Rattle.be_server.specs.Mirror.{EndsMirror, MirrorEnds, Runs}
 use Rattle.be_server.specs.Serve.{EndsServe, RanServe, ServeEnds}
 use Rattle.be_server.proofs.ServeEnds.{serve_quiet}
 use Rattle.be_server.proofs.FollowExactly.{exact_follow}
+use Rattle.be_server.proofs.MirrorEnds.{mirror_quiet}
 use Rattle.be_server.proofs.ToldFiles.{one_reading, not_long, not_gone, not_short, long_stays, same_schema, schema_good, load_good}
 
 -- the rows of a load file that is named
@@ -136,6 +138,7 @@ exact_run p files LongFile r = exact_long files p r.2
 exact_run p files WriteFault r = exact_served files p WriteFault r.1.schema r.1.rows r.1.is_schema r.1.are_rows (λ quiet. absurd (quiet.sink r.1.ends.0))
 exact_run p files Spent r = exact_served files p Spent r.1.schema r.1.rows r.1.is_schema r.1.are_rows (λ quiet. absurd (quiet.bytes r.1.ends.0))
 exact_run p files (Split rift) r = absurd r
+exact_run p files (Ahead known published) r = absurd r
 exact_run p files (Stray stray) r = absurd r
 exact_run p files (Shut shade) r = absurd r
 
@@ -215,6 +218,7 @@ module _ {L : Type 0} (p : Passage L) (Prints : Printing) (files : ToldFiles)
   exact_files WriteFault r = exact_ran WriteFault r.1 (λ quiet. absurd (quiet.sink (failed r.1.schema r.1.rows r.1.scripts r.1.runs.0 r.1.runs.1)))
   exact_files Spent r = absurd r.1.runs
   exact_files (Split rift) r = exact_ran (Split rift) r.1 (λ quiet. tt)
+  exact_files (Ahead known published) r = absurd r.1.runs
   exact_files (Stray stray) r = exact_ran (Stray stray) r.1 (λ quiet. tt)
   exact_files (Shut shade) r = exact_ran (Shut shade) r.1 (λ quiet. tt)
 
@@ -240,8 +244,41 @@ module _ {L : Type 0} (p : Passage L) (port seats links : ℕ) (files : RunFiles
   exact_serve WriteFault r = exact_ran_serve WriteFault r.1
   exact_serve Spent r = exact_ran_serve Spent r.1
   exact_serve (Split rift) r = exact_ran_serve (Split rift) r.1
+  exact_serve (Ahead known published) r = exact_ran_serve (Ahead known published) r.1
   exact_serve (Stray stray) r = exact_ran_serve (Stray stray) r.1
   exact_serve (Shut shade) r = exact_ran_serve (Shut shade) r.1
+
+module _ {L : Type 0} (p : Passage L) (port seats links : ℕ) (name : Text) where
+  abbrev files : RunFiles
+  files = run_files p.before.content name None
+
+  abbrev IsMirrored : Status → Type 0
+  IsMirrored status = IsExact files p status (IsFaultless p → IsQuiet p → EndsMirror status)
+
+  exact_ran_mirror : (status : Status) → Runs p port seats links files.schema status → IsMirrored status
+  exact_ran_mirror status r = record {
+    schema = schema_good files.schema r.0 p status r.1.1;
+    load = λ s file good named. absurd cc;
+    good = λ s good loads quiet sound.
+        mirror_quiet p.told p.InputKept p.OutKept r.0 port seats links p.before.link p.after.link p.before.door p.after.door status r.2 quiet.source quiet.bytes sound;
+  }
+
+  exact_mirror : (status : Status) → MirrorEnds p port seats links files.schema status → IsMirrored status
+  exact_mirror (SchemaBad l k) r = exact_schema_bad files p l k r.2
+  exact_mirror (LoadBad l k) r = exact_ran_mirror (LoadBad l k) r.1
+  exact_mirror (FeedBad l k) r = exact_ran_mirror (FeedBad l k) r.1
+  exact_mirror NoMemory r = exact_refused files p NoMemory (inr (refl, r.0)) (λ quiet sound. tt)
+  exact_mirror ReadFault (inl r) = exact_refused files p ReadFault (inl (refl, r.0)) (λ quiet sound. absurd (quiet.shelf r.0))
+  exact_mirror ReadFault (inr r) = exact_ran_mirror ReadFault r.1
+  exact_mirror LongFile r = exact_long files p (inl r.2)
+  exact_mirror Done r = exact_ran_mirror Done r.1
+  exact_mirror Words r = exact_ran_mirror Words r.1
+  exact_mirror WriteFault r = exact_ran_mirror WriteFault r.1
+  exact_mirror Spent r = exact_ran_mirror Spent r.1
+  exact_mirror (Split rift) r = exact_ran_mirror (Split rift) r.1
+  exact_mirror (Ahead known published) r = exact_ran_mirror (Ahead known published) r.1
+  exact_mirror (Stray stray) r = exact_ran_mirror (Stray stray) r.1
+  exact_mirror (Shut shade) r = exact_ran_mirror (Shut shade) r.1
 
 pub exact_ends : {L : Type 0} (p : Passage L) (request : Option Request) (status : Status) → Ends p request status → EndsExactly p request status
 exact_ends p None status e = tt
@@ -254,3 +291,4 @@ exact_ends p (Some (serve schema load port seats links)) status e = exact_serve 
 exact_ends p (Some (heat schema rounds files)) status e =
     exact_files p (prints_heat p) (drill_files p.before.content schema None files) (λ s rows scripts shuts printed. printed.written.1) status e.1
 exact_ends p (Some (follow schema file)) status e = exact_follow p (follow_files p.before.content schema file) status e
+exact_ends p (Some (mirror schema port seats links)) status e = exact_mirror p port seats links schema status e

@@ -10,7 +10,7 @@ use Rattle.be_follow.specs.declared.faults.FeedKind.{FeedKind}
 use Rattle.be_follow.proofs.OneMeaning.{feeds_mean_one}
 use Rattle.be_model.specs.Schemas.{Attributes}
 use Rattle.be_server.specs.declared.status.Status.{Status}
-use Rattle.be_server.specs.declared.status.Status.TheVariants.{Done, Words, SchemaBad, LoadBad, FeedBad, NoMemory, ReadFault, LongFile, WriteFault, Spent, Split, Stray, Shut}
+use Rattle.be_server.specs.declared.status.Status.TheVariants.{Done, Words, SchemaBad, LoadBad, FeedBad, NoMemory, ReadFault, LongFile, WriteFault, Spent, Split, Ahead, Stray, Shut}
 use Rattle.be_server.specs.Exact.{FileIsRefused, ToldAs, SchemaDecides, FeedDecides, FollowIsExact, ToldFed, AllIsDone}
 use Rattle.be_server.specs.Files.{ToldFile, FileReads, FileIsLong, IsSchemaOf}
 use Rattle.be_server.specs.Follow.{FollowFiles, FollowEnds, HasCome, IsListOf, FeedIsBad, FeedIsLong}
@@ -136,5 +136,6 @@ module _ {L : Type 0} (p : Passage L) (files : FollowFiles) where
   exact_follow WriteFault r = followed WriteFault r.1.schema r.1.list r.1.is_schema r.1.is_list (λ quiet. absurd (quiet.sink r.1.ends.0))
   exact_follow Spent r = followed Spent r.1.schema r.1.list r.1.is_schema r.1.is_list (λ quiet. absurd (quiet.bytes r.1.ends.0))
   exact_follow (Split rift) r = absurd r
+  exact_follow (Ahead known published) r = absurd r
   exact_follow (Stray stray) r = absurd r
   exact_follow (Shut shade) r = absurd r

@@ -15,4 +15,5 @@ pub mod ServeEnds
 pub mod HeatEnds
 pub mod FollowEnds
 pub mod FollowExactly
+pub mod MirrorEnds
 pub mod ToldFiles

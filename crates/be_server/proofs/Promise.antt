@@ -10,19 +10,20 @@ use Rattle.be_model.specs.Schemas.{Attributes}
 use Rattle.be_follow.specs.Reads.{ReadsEnd}
 use Rattle.be_protocol.specs.declared.ends.SessionEnd.TheVariants as ends
 use Rattle.be_protocol.specs.Conversation.{TakesWithin}
-use Rattle.be_command_line.specs.Words.{Request, run, gen, cover, drill, serve, heat, follow}
+use Rattle.be_command_line.specs.Words.{Request, run, gen, cover, drill, serve, heat, follow, mirror}
 use Rattle.be_server.specs.declared.status.Status.{Status}
 use Rattle.be_server.specs.declared.status.Status.TheVariants.{Words, NoMemory}
 use Rattle.be_server.specs.Asked.{AsksFor}
 use Rattle.be_server.specs.Commands.{Ends, LeavesDoor}
 use Rattle.be_server.specs.Cover.{WroteCover}
 use Rattle.be_server.specs.Drill.{ToldFiles, Printing, Ran, SessionsEnd, drill_files, prints_drill}
-use Rattle.be_server.specs.Files.{RunFiles, run_files}
+use Rattle.be_server.specs.Files.{ToldFile, RunFiles, run_files}
 use Rattle.be_server.specs.Follow.{FollowFiles, FollowedWith, follow_files}
 use Rattle.be_server.specs.Gen.{WroteSums}
 use Rattle.be_server.specs.Heat.{prints_heat}
+use Rattle.be_server.specs.Mirror as mirrored
 use Rattle.be_server.specs.Outside.{Moment, Passage}
-use Rattle.be_server.specs.Promise.{RefusesWords, WantsMemory, Promise}
+use Rattle.be_server.specs.Promise.{RefusesWords, LeavesInput, WantsMemory, Promise}
 use Rattle.be_server.specs.Run.{SessionRuns, ServedWith}
 use Rattle.be_server.specs.Serve.{RunsServe, RanServe, IsUntouched}
 use Rattle.be_server.proofs.EndsExactly.{exact_ends}
@@ -41,6 +42,7 @@ module _ {L : Type 0} (p : Passage L) where
   words_stand (serve schema load port seats links) e = e.1.1.runs
   words_stand (heat schema rounds files) e = e.1.1.runs
   words_stand (follow schema file) e = e
+  words_stand (mirror schema port seats links) e = e.1.2.reflects
 
   refuses_words : (request : Option Request) (status : Status) → Ends p request status → RefusesWords request status
   refuses_words None status e = (λ is. refl, λ none. e.0)
@@ -94,7 +96,15 @@ module _ {L : Type 0} (p : Passage L) where
     cover_kept files name (inl kept) = kept
     cover_kept files name (inr w) = absurd (quiet w.written.1)
 
-    kept : (request : Option Request) → Ends p request NoMemory → p.InputKept × p.OutKept
+    mirror_kept : (port seats links : ℕ) (file : ToldFile) → mirrored.IsUntouched p port seats links file ⊎ mirrored.Runs p port seats links file NoMemory → p.OutKept
+    mirror_kept port seats links file (inl kept) = kept.1
+    mirror_kept port seats links file (inr r) = by_end r.2
+      where
+        by_end : mirrored.RunsMirror p.told p.InputKept p.OutKept r.0 port seats links p.before.link p.after.link p.before.door p.after.door NoMemory → p.OutKept
+        by_end (inl kept) = kept.0
+        by_end (inr printed) = absurd (quiet printed.reflects.1)
+
+    kept : (request : Option Request) → Ends p request NoMemory → LeavesInput p request × p.OutKept
     kept None e = (e.2, e.3)
     kept (Some (run schema load)) e = run_kept (run_files p.before.content schema load) e.1
     kept (Some (gen number subs events)) e = (e.1, gen_kept number subs events e.2)
@@ -105,8 +115,9 @@ module _ {L : Type 0} (p : Passage L) where
     kept (Some (heat schema rounds files)) e =
         (e.0, files_kept (prints_heat p) (drill_files p.before.content schema None files) (λ s rows scripts shuts printed. printed.written.1) e.1.1)
     kept (Some (follow schema file)) e = follow_kept (follow_files p.before.content schema file) e.1
+    kept (Some (mirror schema port seats links)) e = (tt, mirror_kept port seats links (p.before.content schema) e.1)
 
-  wants_memory : (request : Option Request) (status : Status) → Ends p request status → WantsMemory p status
+  wants_memory : (request : Option Request) (status : Status) → Ends p request status → WantsMemory p request status
   wants_memory request status e is quiet = kept quiet request (subst (Ends p request) is e)
 
   -- all but four things follow from how a command ends
@@ -131,6 +142,7 @@ module _ {L : Type 0} (p : Passage L) where
   nothing_asked (Some (serve schema load port seats links)) same = inl (inl same)
   nothing_asked (Some (heat schema rounds files)) same = inl (inl same)
   nothing_asked (Some (follow schema file)) same = inl (inl same)
+  nothing_asked (Some (mirror schema port seats links)) same = inl (inl same)
 
   door_left : (request : Option Request) → p.DoorKept → LeavesDoor p request
   door_left None kept = kept
@@ -141,6 +153,7 @@ module _ {L : Type 0} (p : Passage L) where
   door_left (Some (serve schema load port seats links)) kept = tt
   door_left (Some (heat schema rounds files)) kept = kept
   door_left (Some (follow schema file)) kept = kept
+  door_left (Some (mirror schema port seats links)) kept = tt
 
   nothing_ends : (request : Option Request) → p.after.shelf ≡ p.before.shelf → p.InputKept → p.OutKept → p.after.door ≡ p.before.door → Ends p request NoMemory
   nothing_ends None quiet input out door = (inr refl, quiet, input, out)
@@ -151,6 +164,7 @@ module _ {L : Type 0} (p : Passage L) where
   nothing_ends (Some (serve schema load port seats links)) quiet input out door = (input, (quiet, inl (out, door)))
   nothing_ends (Some (heat schema rounds files)) quiet input out door = (input, (quiet, inl out))
   nothing_ends (Some (follow schema file)) quiet input out door = (quiet, inl (input, out))
+  nothing_ends (Some (mirror schema port seats links)) quiet input out door = (quiet, inl (input, out, door))
 
 -- what the outside is told to be where nothing was done
 abbrev still : {L : Type 0} → Moment L → (L → LinkState) → (InputKept OutKept DoorKept : Type 0) → Passage L

@@ -15,7 +15,7 @@ use Rattle.be_model.specs.declared.changes.Row.{Row}
 use Rattle.be_model.specs.Schemas.{Attributes}
 use Rattle.be_server.specs.Output.{WroteOut}
 use Rattle.be_server.specs.declared.status.Status.{Status}
-use Rattle.be_server.specs.declared.status.Status.TheVariants.{Done, Words, SchemaBad, LoadBad, FeedBad, NoMemory, ReadFault, LongFile, WriteFault, Spent, Split, Stray, Shut}
+use Rattle.be_server.specs.declared.status.Status.TheVariants.{Done, Words, SchemaBad, LoadBad, FeedBad, NoMemory, ReadFault, LongFile, WriteFault, Spent, Split, Ahead, Stray, Shut}
 use Rattle.be_server.specs.Serve.{Logs, Served, RunsServe, Runs, IsUntouched, ServeEnds, serve_text, AreQuiet, EndsServe}
 use Rattle.be_server.specs.Files.{RunFiles, IsSchemaOf, AreRowsOf, LoadsRun}
 use Rattle.be_server.specs.Outside.{Passage}
@@ -41,6 +41,7 @@ module _ {L : Type 0} (told : L → LinkState) (Kept : Type 0) (port seats links
       go NoMemory l = inr (made NoMemory l (λ no. absurd cc))
       go (Split rift) l = absurd l
       go (Stray stray) l = absurd l
+      go (Ahead known published) l = absurd l
       go Words l = absurd l
       go (SchemaBad line kind) l = absurd l
       go (LoadBad line kind) l = absurd l
@@ -109,6 +110,7 @@ serve_quiet {L} told K s rows port seats links door door' before after status ru
     go Spent r = absurd (omega (arith, quiet.bytes, r.logs.2, ap (λ (d : DoorState L). d.most) r.door_is))
     go WriteFault r = absurd (wrote r r.logs.1)
     go ReadFault r = absurd (read r)
+    go (Ahead known published) r = absurd r
     go Words r = absurd r
     go (SchemaBad line kind) r = absurd r
     go (LoadBad line kind) r = absurd r

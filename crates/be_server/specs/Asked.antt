@@ -4,7 +4,7 @@ use Rattle.be_base.specs.Text.{Text}
 use Rattle.be_model.specs.declared.changes.Row.{Row}
 use Rattle.be_model.specs.Schemas.{Attributes}
 use Rattle.be_load_files.specs.Tables.{table_of}
-use Rattle.be_command_line.specs.Words.{Request, run, gen, cover, drill, serve, heat, follow}
+use Rattle.be_command_line.specs.Words.{Request, run, gen, cover, drill, serve, heat, follow, mirror}
 use Rattle.be_server.specs.Drill.{AreScripts}
 use Rattle.be_server.specs.Files.{ToldFile, FileReads, IsSchemaOf}
 use Rattle.be_server.specs.Outside.{Passage}
@@ -52,3 +52,4 @@ module _ {L : Type 0} (p : Passage L) where
   AsksFor (Some (serve schema load port seats links)) = Asks schema load []
   AsksFor (Some (heat schema rounds files)) = Asks schema None files
   AsksFor (Some (follow schema file)) = Asks schema None (file ∷ [])
+  AsksFor (Some (mirror schema port seats links)) = Asks schema None []

@@ -1,6 +1,6 @@
 -- How the program ends, by what its words ask for.
 use Rattle.std.specs.Prelude.{◌≡◌, ◌⊎◌, Option, Some, None}
-use Rattle.be_command_line.specs.Words.{Request, run, gen, cover, drill, serve, heat, follow}
+use Rattle.be_command_line.specs.Words.{Request, run, gen, cover, drill, serve, heat, follow, mirror}
 use Rattle.be_server.specs.declared.status.Status.{Status}
 use Rattle.be_server.specs.declared.status.Status.TheVariants.{Words, NoMemory}
 use Rattle.be_server.specs.Cover.{CoverEnds}
@@ -9,11 +9,12 @@ use Rattle.be_server.specs.Files.{run_files}
 use Rattle.be_server.specs.Follow.{follow_files, FollowEnds}
 use Rattle.be_server.specs.Gen.{GenEnds}
 use Rattle.be_server.specs.Heat.{HeatEnds}
+use Rattle.be_server.specs.Mirror.{MirrorEnds}
 use Rattle.be_server.specs.Outside.{Passage}
 use Rattle.be_server.specs.Run.{RunEnds}
 use Rattle.be_server.specs.Serve.{ServeEnds}
 
--- words without a reading touch nothing, and of the commands `run` and `follow` alone read the input
+-- words without a reading touch nothing, and of the commands `run`, `follow` and `mirror` alone read the input
 module _ {L : Type 0} (p : Passage L) where
   abbrev pub Ends : Option Request → Status → Type 0
   Ends None status = ((status ≡ Words) ⊎ (status ≡ NoMemory)) × (p.after.shelf ≡ p.before.shelf) × p.InputKept × p.OutKept
@@ -26,8 +27,10 @@ module _ {L : Type 0} (p : Passage L) where
       p.InputKept × ServeEnds p port seats links (run_files p.before.content schema load) status
   Ends (Some (heat schema rounds files)) status = p.InputKept × HeatEnds p (drill_files p.before.content schema None files) status
   Ends (Some (follow schema file)) status = FollowEnds p (follow_files p.before.content schema file) status
+  Ends (Some (mirror schema port seats links)) status = MirrorEnds p port seats links (p.before.content schema) status
 
-  -- the door is as it was, but in `serve`
+  -- the door is as it was, but in `serve` and `mirror`
   abbrev pub LeavesDoor : Option Request → Type 0
   LeavesDoor (Some (serve schema load port seats links)) = Unit {0}
+  LeavesDoor (Some (mirror schema port seats links)) = Unit {0}
   LeavesDoor request = p.DoorKept

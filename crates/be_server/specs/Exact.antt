@@ -14,11 +14,12 @@ use Rattle.be_model.specs.Schemas.{Attributes}
 use Rattle.be_load_files.specs.declared.faults.TableFault.TheVariants as table
 use Rattle.be_load_files.specs.declared.faults.TableKind.{TableKind}
 use Rattle.be_load_files.specs.Tables.{table_of}
-use Rattle.be_command_line.specs.Words.{Request, run, gen, cover, drill, serve, heat, follow}
+use Rattle.be_command_line.specs.Words.{Request, run, gen, cover, drill, serve, heat, follow, mirror}
 use Rattle.be_server.specs.declared.status.Status.{Status}
 use Rattle.be_server.specs.declared.status.Status.TheVariants.{Done, SchemaBad, LoadBad, FeedBad, NoMemory, ReadFault, LongFile, Split, Stray, Shut}
 use Rattle.be_server.specs.Files.{ToldFile, RunFiles, run_files}
 use Rattle.be_server.specs.Follow.{FollowFiles, follow_files}
+use Rattle.be_server.specs.Mirror.{EndsMirror}
 use Rattle.be_server.specs.Outside.{Passage}
 use Rattle.be_server.specs.Serve.{AreQuiet, EndsServe}
 
@@ -128,3 +129,4 @@ module _ {L : Type 0} (p : Passage L) where
       RunsExactly schema load status (IsFaultless p → IsQuiet → EndsServe status)
   EndsExactly (Some (heat schema rounds files)) status = RunsExactly schema None status (ScriptsDecide (map p.before.content files) p status)
   EndsExactly (Some (follow schema file)) status = FollowIsExact (follow_files p.before.content schema file) p status (AllIsDone p status)
+  EndsExactly (Some (mirror schema port seats links)) status = RunsExactly schema None status (IsFaultless p → IsQuiet → EndsMirror status)

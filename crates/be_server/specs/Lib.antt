@@ -12,5 +12,6 @@ pub mod Asked
 pub mod Serve
 pub mod Heat
 pub mod Follow
+pub mod Mirror
 pub mod Commands
 pub mod Promise

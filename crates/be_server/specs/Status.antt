@@ -13,13 +13,15 @@ use Rattle.be_hub.specs.declared.close.CloseFault.{CloseFault}
 use Rattle.be_hub.specs.declared.close.CloseFault.TheVariants as close
 use Rattle.be_hub.specs.declared.serving.ServeFault.{ServeFault}
 use Rattle.be_hub.specs.declared.serving.ServeFault.TheVariants as serving
+use Rattle.be_mirror.specs.declared.serving.MirrorFault.{MirrorFault}
+use Rattle.be_mirror.specs.declared.serving.MirrorFault.TheVariants as mirroring
 use Rattle.be_protocol.specs.declared.ends.SessionEnd.{SessionEnd}
 use Rattle.be_protocol.specs.declared.ends.SessionEnd.TheVariants as ends
 use Rattle.be_load_files.specs.Faults as tables
 use Rattle.be_load_files.specs.declared.faults.TableFault.{TableFault}
 use Rattle.be_load_files.specs.declared.faults.TableFault.TheVariants as table
 use Rattle.be_server.specs.declared.status.Status.{Status}
-use Rattle.be_server.specs.declared.status.Status.TheVariants.{Done, Words, SchemaBad, LoadBad, FeedBad, NoMemory, ReadFault, LongFile, WriteFault, Spent, Split, Stray, Shut}
+use Rattle.be_server.specs.declared.status.Status.TheVariants.{Done, Words, SchemaBad, LoadBad, FeedBad, NoMemory, ReadFault, LongFile, WriteFault, Spent, Split, Ahead, Stray, Shut}
 
 abbrev pub code_of : Status → ℕ
 code_of Done = 0
@@ -32,6 +34,7 @@ code_of LongFile = 4
 code_of WriteFault = 5
 code_of NoMemory = 6
 code_of (Split rift) = 7
+code_of (Ahead known published) = 7
 code_of Spent = 8
 code_of (Stray stray) = 9
 code_of (Shut shade) = 10
@@ -49,6 +52,7 @@ status_text LongFile = codes "file over 67108864 bytes"
 status_text WriteFault = codes "write fault"
 status_text Spent = codes "input over 1099511627776 bytes"
 status_text (Split rift) = codes "split " ++ decimal (numbers_of rift).seen ++ 32 ∷ decimal (numbers_of rift).written
+status_text (Ahead known published) = codes "ahead " ++ decimal known ++ 32 ∷ decimal published
 status_text (Stray stray) = codes "stray " ++ decimal stray.at
 status_text (Shut shade) = codes "reader refused"
 
@@ -88,6 +92,12 @@ status_of_serve serving.Failed = ReadFault
 status_of_serve (serving.Split rift) = Split rift
 status_of_serve (serving.Stray stray) = Stray stray
 status_of_serve serving.NoMemory = NoMemory
+
+-- the same where a feed was to be mirrored
+abbrev pub status_of_mirror : MirrorFault → Status
+status_of_mirror mirroring.Failed = ReadFault
+status_of_mirror (mirroring.Ahead known published) = Ahead known published
+status_of_mirror mirroring.NoMemory = NoMemory
 
 -- the status where a feed has a fault, or memory was wanting to it
 abbrev pub status_of_feed : FeedFault → Status

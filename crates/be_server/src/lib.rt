@@ -3,7 +3,7 @@
 //! Its contract is that of `be_main` (src/entry.rt), a `Promise` over what the outside was and is: how a command may end, and what
 //! was then read and written. Each command has the same contract for its own words. specs/Commands names the page of each command,
 //! specs/Exact says which status is due. It stands on be_session, which serves one session over a board, on be_hub for sessions at
-//! once, on be_follow and be_demand, on be_load_files and be_event for the texts of files, and on be_workload for generated runs. Begin
+//! once, on be_mirror for reads beside a feed, on be_follow and be_demand, on be_load_files and be_event for the texts of files, and on be_workload for generated runs. Begin
 //! with specs/Promise and specs/Run, then src/run.rt.
 #![tactic(auto)]
 
@@ -17,6 +17,8 @@ mod follow;
 mod generate;
 mod heat;
 mod hubs;
+mod mirror;
+mod mirror_stub;
 mod output;
 mod run;
 mod scripts;

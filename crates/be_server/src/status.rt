@@ -1,7 +1,7 @@
 //! How the program ends.
 
 ghost use Rattle.std.specs.Prelude.{◌≡◌, Some};
-ghost use Rattle.be_server.specs.Status.{code_of, status_text, status_of_shelf, status_of_schema, status_of_table, status_of_feed, status_of_close, status_of_serve};
+ghost use Rattle.be_server.specs.Status.{code_of, status_text, status_of_shelf, status_of_schema, status_of_table, status_of_feed, status_of_close, status_of_serve, status_of_mirror};
 
 use be_base::NoMemory;
 use be_desk::{Rift, Stray};
@@ -10,6 +10,7 @@ use be_follow::{FeedFault, FeedKind};
 use be_hub::{CloseFault, ServeFault};
 use be_io::ShelfFault;
 use be_load_files::{TableFault, TableKind};
+use be_mirror::MirrorFault;
 use be_published::Shade;
 use std::fmt;
 
@@ -35,6 +36,8 @@ pub enum Status {
     Spent,
     /// Two numbers of a seat and the desk differ which should agree.
     Split(Rift),
+    /// A mirror's reader knows more than what is published: the two lengths.
+    Ahead { known: u64, published: u64 },
     /// The sessions' records and the closing list differ.
     Stray(Stray),
     /// A reader was refused an entry.
@@ -121,6 +124,18 @@ impl From<ServeFault> for Status {
     }
 }
 
+impl From<MirrorFault> for Status {
+    ghost from_gives = { λ fault status. status ≡ status_of_mirror fault };
+
+    fn from(fault: MirrorFault) -> Status {
+        match fault {
+            MirrorFault::Failed => Status::ReadFault,
+            MirrorFault::Ahead { known, published } => Status::Ahead { known, published },
+            MirrorFault::NoMemory => Status::NoMemory,
+        }
+    }
+}
+
 impl Status {
     /// The exit code of the process.
     pub fn code(&self) -> u8
@@ -133,7 +148,7 @@ impl Status {
             Status::ReadFault | Status::LongFile => 4,
             Status::WriteFault => 5,
             Status::NoMemory => 6,
-            Status::Split(_) => 7,
+            Status::Split(_) | Status::Ahead { .. } => 7,
             Status::Spent => 8,
             Status::Stray(_) => 9,
             Status::Shut(_) => 10,
@@ -157,6 +172,7 @@ impl fmt::Display for Status {
             Status::WriteFault => write!(f, "write fault"),
             Status::Spent => write!(f, "input over 1099511627776 bytes"),
             Status::Split(rift) => write!(f, "split {} {}", rift.read(), rift.written()),
+            Status::Ahead { known, published } => write!(f, "ahead {known} {published}"),
             Status::Stray(stray) => write!(f, "stray {}", stray.at()),
             Status::Shut(_) => write!(f, "reader refused"),
         }

@@ -1,7 +1,7 @@
 -- What the words ask for is done by its command, which makes the same promise.
 use Rattle.std.proofs.Common.{rules, ◌≡◌, Some, None, option_map, map, refl}
 use Rattle.be_base.specs.Readers.{now_of}
-use Rattle.be_command_line.specs.Words.{run, gen, cover, drill, serve, heat, follow, reading, words_of}
+use Rattle.be_command_line.specs.Words.{run, gen, cover, drill, serve, heat, follow, mirror, reading, words_of}
 use Rattle.be_server.proofs.Promise.{nothing_done, words_refused}
 use Rattle.be_server.proofs.entry.be_main.Goals as goal
 
@@ -39,6 +39,11 @@ pub returns-in-Ok-Follow : goal.returns-in-Ok-Follow
 returns-in-Ok-Follow g c =
     let is : reading (words_of c.args.words.now) ≡ Some (follow c.in-Ok-Follow.schema.now c.in-Ok-Follow.file.now) = search rules in
     rw is (c.follow.ensures c.args.door.now)
+
+pub returns-in-Ok-Mirror : goal.returns-in-Ok-Mirror
+returns-in-Ok-Mirror g c =
+    let is : reading (words_of c.args.words.now) ≡ Some (mirror c.in-Ok-Mirror.schema.now c.in-Ok-Mirror.port c.in-Ok-Mirror.seats c.in-Ok-Mirror.links) = search rules in
+    rw is c.mirror.ensures
 
 pub returns-in-Err-Refused : goal.returns-in-Err-Refused
 returns-in-Err-Refused g c =
