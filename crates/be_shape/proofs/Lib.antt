@@ -29,4 +29,5 @@ pub mod Exchanges
 pub mod Replacements
 pub mod Reshaping
 pub mod SightHulls
+pub mod BoundedTests
 pub mod Depths

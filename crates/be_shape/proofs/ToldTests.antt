@@ -49,7 +49,7 @@ low_from x v h = or_right (int_eq x least) (le_z x v) (le_test x v h)
 high_from : (x v : ℤ) → v ≤ℤ x → (int_eq x greatest || le_z v x) ≡ true
 high_from x v h = or_right (int_eq x greatest) (le_z v x) (le_test v x h)
 
-in_from : (l h v : ℤ) → l ≤ℤ v → v ≤ℤ h → is_in (l, h) v ≡ true
+pub in_from : (l h v : ℤ) → l ≤ℤ v → v ≤ℤ h → is_in (l, h) v ≡ true
 in_from l h v a b = both (int_eq l least || le_z l v) (int_eq h greatest || le_z v h) (low_from l v a) (high_from h v b)
 
 -- the comparison holds of nothing beyond the ends, and where it is exact, of all between them
@@ -78,7 +78,7 @@ at_least v h w k e = both (int_eq v least || le_z v w) (int_eq h greatest || le_
 in_parts : (l h v : ℤ) → is_in (l, h) v ≡ true → ((int_eq l least || le_z l v) ≡ true) × ((int_eq h greatest || le_z v h) ≡ true)
 in_parts l h v k = and_parts (int_eq l least || le_z l v) (int_eq h greatest || le_z v h) k
 
-lt_test : (x y : ℤ) → x <ℤ y → lt_z x y ≡ true
+pub lt_test : (x y : ℤ) → x <ℤ y → lt_z x y ≡ true
 lt_test x y h = by_test (lt_z x y) refl
   where
     by_test : (b : Bool) → lt_z x y ≡ b → b ≡ true
@@ -100,10 +100,10 @@ below_back x v h = omega (arith, ints)
 above_back : (x v : ℤ) → (x +ℤ pos 1) ≤ℤ v → x <ℤ v
 above_back x v h = omega (arith, ints)
 
-less_one : (x : ℤ) → x <ℤ greatest → (x -ℤ pos 1) <ℤ greatest
+pub less_one : (x : ℤ) → x <ℤ greatest → (x -ℤ pos 1) <ℤ greatest
 less_one x h = omega (arith, ints)
 
-one_more : (x : ℤ) → least <ℤ x → least <ℤ (x +ℤ pos 1)
+pub one_more : (x : ℤ) → least <ℤ x → least <ℤ (x +ℤ pos 1)
 one_more x h = omega (arith, ints)
 
 equal_to : (x v : ℤ) → x ≤ℤ v → v ≤ℤ x → x ≡ v
@@ -176,7 +176,7 @@ all_more p xs x = list_all-append p xs (x ∷ []) ∙ ap (λ b. list_all p xs &&
 parts_of_more : {X : Type 0} (p : X → Bool) (xs : List X) (x : X) → list_all p (xs ++ x ∷ []) ≡ true → (list_all p xs ≡ true) × (p x ≡ true)
 parts_of_more p xs x h = and_parts (list_all p xs) (p x) (sym (all_more p xs x) ∙ h)
 
-more_of_parts : {X : Type 0} (p : X → Bool) (xs : List X) (x : X) → list_all p xs ≡ true → p x ≡ true → list_all p (xs ++ x ∷ []) ≡ true
+pub more_of_parts : {X : Type 0} (p : X → Bool) (xs : List X) (x : X) → list_all p xs ≡ true → p x ≡ true → list_all p (xs ++ x ∷ []) ≡ true
 more_of_parts p xs x h k = all_more p xs x ∙ both (list_all p xs) (p x) h k
 
 abbrev meets_pred : Assignments → Pred → Bool

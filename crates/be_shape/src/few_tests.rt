@@ -9,14 +9,15 @@ ghost use Rattle.be_model.specs.Rows.{has};
 ghost use Rattle.be_model.specs.Schemas.{numbered};
 ghost use Rattle.be_shape.specs.declared.glances.Extent.TheVariants.{Few};
 ghost use Rattle.be_shape.specs.FewTests.{has_first, has_second, has_third};
-ghost use Rattle.be_shape.specs.Glances.{may_meet, test_on, glance, glance_of};
+ghost use Rattle.be_shape.specs.Glances.{may_meet, test_on, is_whole, glance, glance_of};
 ghost use Rattle.be_shape.specs.Listed.{attrs_told};
+ghost use Rattle.be_shape.specs.Sights.{are_single, are_seen, are_bounded};
 ghost use Rattle.be_shape.specs.SmallSets.{extent_of, passes_set, passes_told, LosesNone};
 
 use crate::glances::{Ends, Extent, hull_in};
 use crate::listings::RowAttrs;
 use crate::looks::has_attr;
-use crate::sights::Sight;
+use crate::sights::{Sight, is_seen};
 use crate::small_sets::{Told, middle_of};
 use be_base::AttrNo;
 use be_model::{Conj, Op, Pred, Row, Schema};
@@ -140,7 +141,8 @@ impl FewTests {
 
     // Whether what is seen of the event lets it pass. Most often the first test says no.
     fn is_worth(&self, e: &Sight) -> bool
-        ensures { may_meet e.now self.now ≡ true → result ≡ true }
+        ensures worth { may_meet e.now self.now ≡ true → result ≡ true }
+        ensures exact { are_single e.now ≡ true → are_seen self.now ≡ true → are_bounded self.now ≡ true → result ≡ true → may_meet e.now self.now ≡ true }
     {
         (!self.count.has_first() || e.may_have(self.first, numbered(self.first_attr)))
             && (!self.count.has_second() || e.may_have(self.second, numbered(self.second_attr)))
@@ -232,9 +234,26 @@ impl FewTests {
         }
     }
 
+    // Whether a sight has hulls of the attributes. Unused tests are of the first one, so that they need no question.
+    fn are_seen(&self) -> bool
+        ensures { result ≡ true → are_seen self.now ≡ true }
+    {
+        is_seen(self.first_attr) && is_seen(self.second_attr) && is_seen(self.third_attr)
+    }
+
+    // Whether what is seen of the event decides: the tests are all of the condition, and each hull is a value or none.
+    fn is_decided(&self, told: Told, e: &Sight) -> bool
+        ensures whole { result ≡ true → is_whole (extent_of told) ≡ true }
+        ensures single { result ≡ true → are_single e.now ≡ true }
+        ensures seen { result ≡ true → are_seen self.now ≡ true }
+    {
+        told.extent().is_whole() && e.is_exact() && self.are_seen()
+    }
+
     // Whether what is seen of the event lets it pass the tests, and the set that is told.
     fn may_be_met(&self, told: Told, middle: u8, e: &Sight) -> bool
-        ensures { may_meet e.now self.now ≡ true → passes_told told middle self.now e.now ≡ true → result ≡ true }
+        ensures exact { are_single e.now ≡ true → are_seen self.now ≡ true → are_bounded self.now ≡ true → result ≡ true → may_meet e.now self.now ≡ true }
+        ensures met { may_meet e.now self.now ≡ true → passes_told told middle self.now e.now ≡ true → result ≡ true }
     {
         self.is_worth(e) && self.may_have_set(told, middle, e)
     }
@@ -247,7 +266,7 @@ impl FewTests {
         ensures { result ≡ satisfies e.now conj.now }
     {
         if self.may_be_met(told, middle, e) {
-            self.is_met_by_values(told.extent(), conj, e)
+            self.is_decided(told, e) || self.is_met_by_values(told.extent(), conj, e)
         } else {
             false
         }

@@ -2,12 +2,13 @@
 
 ghost use Rattle.std.specs.Prelude.{◌≡◌, ◌<◌, ◌∷◌, [], true, Option, Some, List, ℤ, IfSome, option_map};
 ghost use Rattle.be_model.specs.Forms.{attrs_rise};
+ghost use Rattle.be_model.specs.Schemas.{numbered};
 ghost use Rattle.be_model.specs.Matching.{attrs_of, values_of, is_assigned};
 ghost use Rattle.be_shape.specs.Glances.{has_in};
 ghost use Rattle.be_shape.specs.Ranges.{is_rising};
 ghost use Rattle.be_shape.specs.Search.{holds_value};
 ghost use Rattle.be_shape.specs.SmallSets.{may_be_any};
-ghost use Rattle.be_shape.specs.Sights.{AreSmall, clamped, overlaps, IsExact, IsHull, IsSight};
+ghost use Rattle.be_shape.specs.Sights.{AreSmall, clamped, overlaps, hull_of, IsExact, IsSight, is_single, are_single, is_bounded, is_seen};
 
 use crate::glances::{Ends, has_in, is_in};
 use crate::ranges::{NodeRange, holds_value};
@@ -34,6 +35,8 @@ pub const NO_HULLS: Hulls = [(i32::MAX, i32::MIN); SEEN];
 pub struct Sight<'a> {
     event: &'a Event,
     hulls: &'a Hulls,
+    // Whether the event has single values alone. Then what a hull says of a test is so, and no value is looked at.
+    exact: bool,
 }
 
 impl<'a> Model for Sight<'a> {
@@ -42,11 +45,12 @@ impl<'a> Model for Sight<'a> {
 
     ghost Value = { List (AttrNo × List ℤ) };
 
-    ghost use Rattle.be_shape.specs.Sights.{IsSight};
+    ghost use Rattle.std.specs.Prelude.{◌≡◌};
+    ghost use Rattle.be_shape.specs.Sights.{IsSight, are_single};
 
     ghost view = { λ s. s.event.now };
 
-    ghost invariant = { λ s. IsSight s.hulls.now s.event.now };
+    ghost invariant = { λ s. IsSight s.hulls.now s.event.now × (s.exact ≡ are_single s.event.now) };
 }
 
 // The number, or the nearest one of 32 bits.
@@ -72,10 +76,9 @@ fn overlaps(x: Ends, y: Ends) -> bool
 }
 
 // Ends that overlap all that hold some of the values. Several values aren't looked at.
-#[tactic(auto, using(crate::proofs::SightHulls::wide_is, crate::proofs::SightHulls::one_is, crate::proofs::SightHulls::wide_exact, crate::proofs::SightHulls::one_exact))]
+#[tactic(auto, using(crate::proofs::SightHulls::several_wide))]
 fn hull_of(values: &Values) -> Ends
-    ensures hull { IsHull result (Some values.now) }
-    ensures exact { IsExact result (Some values.now) }
+    ensures { result ≡ hull_of (Some values.now) }
 {
     match values.as_slice() {
         [v] => (clamped(*v), clamped(*v)),
@@ -114,6 +117,30 @@ fn only_of(ends: Ends) -> Option<Option<i64>>
     }
 }
 
+// Whether it is one number that is its own hull.
+fn is_single(values: &Values) -> bool
+    ensures { result ≡ is_single values.now }
+{
+    match values.as_slice() {
+        [v] => (i32::MIN as i64) < *v && *v < i32::MAX as i64,
+        _ => false,
+    }
+}
+
+// Whether each item has such a number.
+fn are_single(items: &[(AttrNo, Values)]) -> bool
+    ensures { result ≡ are_single items.now }
+{
+    items.iter().all(|item| is_single(&item.1))
+}
+
+/// Whether the table has a hull of the attribute of this number.
+pub(crate) fn is_seen(a: u8) -> bool
+    ensures { result ≡ is_seen (numbered a) }
+{
+    usize::from(a) < SEEN
+}
+
 /// Writes the hulls of the event's values.
 pub fn fill_hulls(hulls: &mut Hulls, e: &Event)
     requires { hulls.old ≡ NO_HULLS }
@@ -127,12 +154,24 @@ impl<'a> Sight<'a> {
         requires { IsSight hulls.now event.now }
         ensures { result ≡ event.now }
     {
-        Sight { event, hulls }
+        Sight {
+            event,
+            hulls,
+            exact: are_single(event.items()),
+        }
+    }
+
+    /// Whether the event has single values alone, which the table tells.
+    pub(crate) fn is_exact(&self) -> bool
+        ensures { result ≡ are_single self.now }
+    {
+        self.exact
     }
 
     /// Whether a value of the attribute may be between the ends.
     pub(crate) fn may_have(&self, ends: Ends, a: AttrNo) -> bool
-        ensures { has_in ends (values_of self.now a) ≡ true → result ≡ true }
+        ensures seen { has_in ends (values_of self.now a) ≡ true → result ≡ true }
+        ensures exact { are_single self.now ≡ true → is_seen a ≡ true → is_bounded ends ≡ true → result ≡ true → has_in ends (values_of self.now a) ≡ true }
     {
         if usize::from(a.0) < SEEN {
             overlaps(ends, self.hulls[usize::from(a.0)])

@@ -1,6 +1,6 @@
 use Rattle.std.proofs.Common.{◌≡◌, ◌<◌, ◌≤◌, ◌+◌, length, set, sym, ap, subst, ◌∙◌, arith}
 use Rattle.std.proofs.lemmas.List.{length-set}
-use Rattle.be_shape.proofs.SightHulls.{AreNoted, noted_none, noted_put, noted_beyond, told_all, told_exactly}
+use Rattle.be_shape.proofs.SightHulls.{AreNoted, noted_none, noted_put, noted_beyond, told_all}
 use Rattle.be_shape.proofs.sights.fill.Goals as goal
 use Rattle.be_shape.proofs.sights.fill.Goals.{then-a-lt-SEEN, else-a-lt-SEEN}
 
@@ -20,7 +20,7 @@ loop-item-preserved c =
           let hull = w.hull_of.result in
           let few : x.0.0 < 64 = omega (arith, w.if-a-lt-SEEN.true, c.from-a.ensures) in
           subst (λ hs. (length hs ≡ 64) × AreNoted hs e (i + 1)) (sym (w.hulls-is ∙ ap (λ n. set hulls n hull) c.from-a.ensures))
-          (length-set hulls x.0.0 hull ∙ was.0, noted_put hulls e i x hull was.0 c.requires.rise below c.item-item.is few w.hull_of.ensures.hull w.hull_of.ensures.exact was.1)
+          (length-set hulls x.0.0 hull ∙ was.0, noted_put hulls e i x hull was.0 c.requires.rise below c.item-item.is few w.hull_of.ensures was.1)
       | else-a-lt-SEEN w ↦
           let far : 64 ≤ x.0.0 = omega (arith, w.if-a-lt-SEEN.false, c.from-a.ensures) in
           subst (λ hs. (length hs ≡ 64) × AreNoted hs e (i + 1)) (sym w.hulls-is) (was.0, noted_beyond hulls e i x below c.item-item.is far was.1)
@@ -32,4 +32,4 @@ returns c =
     let e = c.args.items.now in
     let i = c.loop-item.item-index in
     let end : length e ≤ i = omega (arith, c.loop-item-test.false) in
-    record { size = c.loop-item.invariant.0; told = told_all hulls e i end c.loop-item.invariant.1; exact = told_exactly hulls e i end c.loop-item.invariant.1 }
+    record { size = c.loop-item.invariant.0; told = told_all hulls e i end c.loop-item.invariant.1 }
