@@ -50,7 +50,7 @@ is_single [] = false
 is_single (v ∷ []) = int_lt least v && int_lt v greatest
 is_single (v ∷ w ∷ vs) = false
 
--- the event gives no attribute other than such a value
+-- each attribute to which the event gives values has such a one alone
 abbrev pub are_single : Assignments → Bool
 are_single e = list_all (λ (item : AttrNo × List ℤ). is_single item.1) e
 

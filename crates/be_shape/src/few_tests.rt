@@ -234,7 +234,7 @@ impl FewTests {
         }
     }
 
-    // Whether a sight has hulls of the attributes. Unused tests are of the first one, so that they need no question.
+    // Whether a sight has hulls of the attributes. Of an unused test the attribute is 0, so the count isn't asked.
     fn are_seen(&self) -> bool
         ensures { result ≡ true → are_seen self.now ≡ true }
     {

@@ -2,8 +2,8 @@
 
 ghost use Rattle.std.specs.Prelude.{◌≡◌, ◌<◌, ◌∷◌, [], true, Option, Some, List, ℤ, IfSome, option_map};
 ghost use Rattle.be_model.specs.Forms.{attrs_rise};
-ghost use Rattle.be_model.specs.Schemas.{numbered};
 ghost use Rattle.be_model.specs.Matching.{attrs_of, values_of, is_assigned};
+ghost use Rattle.be_model.specs.Schemas.{numbered};
 ghost use Rattle.be_shape.specs.Glances.{has_in};
 ghost use Rattle.be_shape.specs.Ranges.{is_rising};
 ghost use Rattle.be_shape.specs.Search.{holds_value};
@@ -117,7 +117,7 @@ fn only_of(ends: Ends) -> Option<Option<i64>>
     }
 }
 
-// Whether it is one number that is its own hull.
+// Whether it is one number, strictly between the least and the greatest of 32 bits.
 fn is_single(values: &Values) -> bool
     ensures { result ≡ is_single values.now }
 {
