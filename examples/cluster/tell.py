@@ -3,10 +3,13 @@
 again and again, and prints each reply that has changes, whole and as it came. Its output is a feed.
 
     examples/cluster/tell.py 7000
+    examples/cluster/tell.py 7000 --beat 1 | ./justmeadow mirror examples/follower/schema.txt 7100 8 1000
 
-Where the connection breaks it connects again, after growing pauses, and goes on behind the last change that it printed, once the
-leader has told the same changes before it: a server that was started anew has another list. Ends with 1 where there is no leader
-within PATIENCE seconds at the start, or nobody reads its output, and with 3 where the list is another one."""
+With `--beat SECONDS` it prints a line `TAILED n 0`, which says nothing, where nothing came for so long: a mirror whose connections
+were all served ends with the next line. Where the connection breaks it connects again, after growing pauses, and goes on behind the
+last change that it printed, once the leader has told the same changes before it: a server that was started anew has another list.
+Ends with 1 where there is no leader within PATIENCE seconds at the start, or nobody reads its output, and with 3 where the list is
+another one."""
 import argparse
 import hashlib
 import os
@@ -52,11 +55,13 @@ class Teller:
 
     def go_on(self, session):
         """Prints what is new, until the connection breaks."""
-        wait = SOON
+        wait, last, beat = SOON, time.monotonic(), self.words.beat
         while True:
             lines, length = asked(session, self.place, STEP)
-            if lines:
+            if lines or (beat and time.monotonic() - last >= beat):
                 show([*lines, b"TAILED %d %d" % (length, len(lines))])
+                last = time.monotonic()
+            if lines:
                 self.place += len(lines)
                 note(self.told, lines)
                 wait = SOON
@@ -90,6 +95,7 @@ def main():
     words.add_argument("port", type=int)
     words.add_argument("--host", default="127.0.0.1")
     words.add_argument("--patience", type=float, default=30.0, help="seconds")
+    words.add_argument("--beat", type=float, default=0, metavar="SECONDS", help="print a line that says nothing where nothing came for so long")
     teller = Teller(words.parse_args())
     until = time.monotonic() + teller.words.patience
     with read_by_somebody("tell.py"):
