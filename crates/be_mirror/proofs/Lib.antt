@@ -5,3 +5,7 @@ pub mod Showing
 pub mod Lacking
 pub mod Commanding
 pub mod FeedGoing
+pub mod ReadLinks
+pub mod AllRead
+pub mod DoorSettled
+pub mod Accepts

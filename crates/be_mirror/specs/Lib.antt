@@ -5,3 +5,4 @@ pub mod Sessions
 pub mod Reading
 pub mod Serving
 pub mod Feeding
+pub mod Links

@@ -26,6 +26,8 @@ use Rattle.be_mirror.specs.declared.feeding.FeedEnd.{FeedEnd}
 use Rattle.be_mirror.specs.declared.feeding.FeedEnd.TheVariants as feed
 use Rattle.be_mirror.specs.declared.serving.MirrorFault.{MirrorFault}
 use Rattle.be_mirror.specs.declared.serving.MirrorFault.TheVariants as fault
+use Rattle.be_io.specs.declared.faults.ListenFault.{ListenFault}
+use Rattle.be_io.specs.declared.faults.ListenFault.TheVariants as listen
 
 -- no read of the input failed
 abbrev pub NoReadFailed : SourceState → SourceState → Type 0
@@ -124,3 +126,13 @@ module _ {L : Type 0} where
   -- all links were served. A reader that is shown what is published knows more than that, and these are the two lengths
   LeavesDoor before after port links workers (fault.Ahead known published) =
       (published < known) × (sums : Sums) × (after ≡ served_door before port links workers sums after.kept)
+
+-- the fault where the door didn't listen
+abbrev pub fault_of_listen : ListenFault → MirrorFault
+fault_of_listen listen.Failed = fault.Failed
+fault_of_listen listen.NoMemory = fault.NoMemory
+
+-- a reader knows more than what is published
+abbrev pub IsAhead : MirrorFault → Type 0
+IsAhead (fault.Ahead known published) = published < known
+IsAhead f = ⊥

@@ -12,12 +12,15 @@ mod asking;
 mod fed_press;
 mod feeder;
 mod feeding;
+mod links;
 mod reads;
 mod room;
 mod serving;
 mod session;
+mod settling;
+mod workers;
 
 pub use feeder::Feeder;
 pub use feeding::FeedEnd;
-pub use serving::{MirrorFault, Mirrored};
+pub use serving::{MirrorFault, Mirrored, run_mirror};
 pub use session::Session;

@@ -18,7 +18,6 @@ mod generate;
 mod heat;
 mod hubs;
 mod mirror;
-mod mirror_stub;
 mod output;
 mod run;
 mod scripts;

@@ -18,14 +18,13 @@ ghost use Rattle.be_server.specs.Promise.{Promise};
 ghost use Rattle.be_command_line.specs.Words.{mirror};
 
 use crate::files::load_schema;
-use crate::mirror_stub::run_mirror;
 use crate::output::write_out;
 use crate::status::Status;
 use be_base::{NoMemory, SOURCE_BYTES};
 use be_door::Door;
 use be_index::ListIndex;
 use be_io::{Gate, Link, Shelf, Sink, SinkFault, Source};
-use be_mirror::{FeedEnd, Feeder, MirrorFault, Mirrored};
+use be_mirror::{FeedEnd, Feeder, MirrorFault, Mirrored, run_mirror};
 use be_model::Schema;
 use be_published::{Glass, Naming, Opened, Page, make_pair};
 use be_tree::BeTree;
