@@ -12,7 +12,7 @@ use Rattle.be_model.specs.Forms.{attrs_rise}
 use Rattle.be_model.specs.Matching.{Assignments, attrs_of, values_of}
 use Rattle.be_model.proofs.EventItems.{values_of-at, values_of-none}
 use Rattle.be_shape.specs.Glances.{least, greatest, is_in, has_in}
-use Rattle.be_shape.specs.Sights.{AreSmall, wide, clamped, overlaps, hull_of, IsExact, TellHulls, is_single, are_single, is_bounded}
+use Rattle.be_shape.specs.Sights.{AreSmall, wide, clamped, overlaps, hull_of, TellHulls, is_single, are_single, is_bounded}
 use Rattle.be_shape.proofs.ToldTests.{both, le_test, equal_from, in_from}
 
 -- ends of 32 bits that hold some of the values overlap these
@@ -72,31 +72,9 @@ one_is v = λ ends small h.
     let parts = and_parts (int_eq ends.0 least || le_z ends.0 v) (int_eq ends.1 greatest || le_z v ends.1) (in_one ends v h) in
     overlap_from ends (clamped v, clamped v) (low_holds ends.0 v small.low_to parts.0) (high_holds ends.1 v small.high_from parts.1)
 
--- the widest ends say nothing exact
-wide_exact : (vs : Option (List ℤ)) → IsExact wide vs
-wide_exact vs = record { none = λ h. absurd (omega (arith, ints)); one = λ h k l. absurd (omega (arith, ints)) }
-
-clamped_same : (v : ℤ) → least <ℤ clamped v → clamped v <ℤ greatest → clamped v ≡ v
-clamped_same v h k = by_tests (lt_z v least) (lt_z greatest v) refl refl h k
-  where
-    by_tests : (a b : Bool) → lt_z v least ≡ a → lt_z greatest v ≡ b → least <ℤ cond a least (cond b greatest v) → cond a least (cond b greatest v) <ℤ greatest → cond a least (cond b greatest v) ≡ v
-    by_tests true b e f i j = absurd (omega (arith, ints))
-    by_tests false true e f i j = absurd (omega (arith, ints))
-    by_tests false false e f i j = refl
-
--- of one value, equal ends are that value, where they aren't the least or the greatest
-one_exact : (v : ℤ) → IsExact (clamped v, clamped v) (Some (v ∷ []))
-one_exact v = record {
-  none = λ h. absurd (omega (arith, ints));
-  one = λ h k l. ap (λ x. Some (x ∷ [])) (sym (clamped_same v k l));
-}
-
 -- the hull of no value
 abbrev turned : ℤ × ℤ
 turned = (greatest, least)
-
-turned_exact : IsExact turned None
-turned_exact = record { none = λ h. refl; one = λ h k l. absurd (omega (arith, ints)) }
 
 -- the ends of a table overlap all that hold some of the values
 pub hull_is : (vs : Option (List ℤ)) → IsHull (hull_of vs) vs
@@ -104,12 +82,6 @@ hull_is None = none_is turned
 hull_is (Some []) = wide_is (Some [])
 hull_is (Some (v ∷ [])) = one_is v
 hull_is (Some (v ∷ w ∷ vs)) = wide_is (Some (v ∷ w ∷ vs))
-
-pub hull_exact : (vs : Option (List ℤ)) → IsExact (hull_of vs) vs
-hull_exact None = turned_exact
-hull_exact (Some []) = wide_exact (Some [])
-hull_exact (Some (v ∷ [])) = one_exact v
-hull_exact (Some (v ∷ w ∷ vs)) = wide_exact (Some (v ∷ w ∷ vs))
 
 -- several values, or none, have the widest ends
 pub several_wide : (vs : List ℤ) → (length vs ≡ 1 → ⊥) → wide ≡ hull_of (Some vs)
