@@ -1,31 +1,17 @@
 -- What was made of a door, from its listen on.
-use Rattle.std.proofs.Common.{◌≡◌, ℕ, ◌+◌, ◌⊎◌, inl, inr, List, sum_by, sym, ap, ◌∙◌, subst, arith}
-use Rattle.be_base.specs.Counts.{raised, HasRisenBy}
+use Rattle.std.proofs.Common.{◌≡◌, ℕ, ◌+◌, List, sum_by, sym, ap, ◌∙◌, arith}
+use Rattle.be_base.specs.Counts.{raised}
 use Rattle.be_door.specs.Counts.{CountState, with_counts, all_kept}
 use Rattle.be_door.specs.Door.{DoorState, after_settle, after_listen}
 use Rattle.be_door.specs.Sums.{no_sums}
 use Rattle.be_door.specs.declared.sums.Sums.{Sums}
-use Rattle.be_hub.specs.Serving.{served_door, IsTried}
-use Rattle.be_hub.proofs.WereRead.{served_tried}
+use Rattle.be_hub.specs.Serving.{served_door}
 use Rattle.be_mirror.specs.Links.{Listened}
 
 twice : (n a : ℕ) → raised n a ≡ raised (raised n 0) a
 twice n a = omega arith
 
-same_count : (a b : ℕ) → b ≡ a → HasRisenBy 0 a b
-same_count a b is = omega (arith, is)
-
 module _ {L : Type 0} (d d₁ d₂ : DoorState L) (port links workers : ℕ) (is : Listened d d₁ port links workers) where
-  pub listened : IsTried d d₁ port
-  listened = record {
-    tries = ap (λ (x : DoorState L). x.tries) is;
-    port_is = ap (λ (x : DoorState L). x.port) is;
-    listens = inr (ap (λ (x : DoorState L). x.listens) is);
-    keeps = ap (λ (x : DoorState L). x.keeps) is;
-    read_faults = same_count d.read_faults d₁.read_faults (ap (λ (x : DoorState L). x.read_faults) is);
-    write_faults = same_count d.write_faults d₁.write_faults (ap (λ (x : DoorState L). x.write_faults) is);
-  }
-
   module _ (counts : List (CountState L)) (settled : d₂ ≡ after_settle d₁ counts) where
     abbrev sums : Sums
     sums = with_counts no_sums counts
@@ -57,11 +43,3 @@ module _ {L : Type 0} (d d₁ d₂ : DoorState L) (port links workers : ℕ) (is
     pub all_links : d₂.given + d₂.failed + d₂.refused ≡ d₂.links → sums.refused ≡ 0 → sums.given + sums.failed ≡ links
     all_links all none =
         omega (arith, all, none, ap (λ (x : DoorState L). x.given) door_served, ap (λ (x : DoorState L). x.failed) door_served, ap (λ (x : DoorState L). x.refused) door_served, ap (λ (x : DoorState L). x.links) door_served)
-
-    pub settled_tried : IsTried d d₂ port
-    settled_tried = served_tried d d₂ port links workers sums d₂.kept door_served
-
-  -- the door is as it was after the listen, or settled
-  pub left_tried : (counts : List (CountState L)) → (d₂ ≡ d₁) ⊎ (d₂ ≡ after_settle d₁ counts) → IsTried d d₂ port
-  left_tried counts (inl same) = subst (λ x. IsTried d x port) (sym same) listened
-  left_tried counts (inr settled) = settled_tried counts settled

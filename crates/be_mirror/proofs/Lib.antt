@@ -9,3 +9,4 @@ pub mod ReadLinks
 pub mod AllRead
 pub mod DoorSettled
 pub mod Accepts
+pub mod MirrorServed

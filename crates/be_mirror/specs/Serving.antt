@@ -1,15 +1,13 @@
 -- What became of a mirror's feed, and what the links of a door gave and hold, over the list that the feed means.
-use Rattle.std.specs.Prelude.{◌≡◌, ℕ, ◌+◌, ◌<◌, ◌++◌, ◌⊎◌, Bool, true, false, List, [], ◌∷◌, length, map, All, Some, None}
+use Rattle.std.specs.Prelude.{◌≡◌, ℕ, ◌+◌, ◌<◌, ◌++◌, Bool, true, false, List, [], ◌∷◌, length, map, All, Some, None}
 use Rattle.be_base.specs.Counts.{HasRisen, HasRisenBy}
 use Rattle.be_base.specs.declared.limits.TheConstants.{SOURCE_BYTES}
 use Rattle.be_base.specs.declared.names.SessionNo.{SessionNo}
-use Rattle.be_io.specs.Lines.{TextLine}
 use Rattle.be_io.specs.Outside.{LinkState}
 use Rattle.be_io.specs.Source.{SourceState}
 use Rattle.be_io.specs.Told.{WhereTold}
 use Rattle.be_model.specs.Schemas.{Attributes}
 use Rattle.be_change.specs.History.{Entry}
-use Rattle.be_change.specs.Requests.{Exchange}
 use Rattle.be_door.specs.Door.{DoorState, after_try}
 use Rattle.be_door.specs.Links.{IsUnused}
 use Rattle.be_door.specs.declared.sums.Sums.{Sums}

@@ -66,7 +66,9 @@ impl From<ListenFault> for MirrorFault {
 }
 
 impl From<NoMemory> for MirrorFault {
-    ghost from_gives = { λ _ given. given ≡ MirrorFault.NoMemory };
+    ghost use Rattle.be_mirror.specs.declared.serving.MirrorFault.TheVariants.{NoMemory};
+
+    ghost from_gives = { λ _ given. given ≡ NoMemory };
 
     fn from(_: NoMemory) -> MirrorFault {
         MirrorFault::NoMemory
@@ -189,8 +191,57 @@ fn mirror<
     })
 }
 
+// A list that a feed is put into. A closure captures one behind a type parameter: the borrow checker covers none that captures a
+// reference to a type that names an associated one.
+trait FeedTaker {
+    ghost use Rattle.be_model.specs.Schemas.{Attributes};
+    ghost use Rattle.be_follow.specs.Feeds.{Fed};
+
+    ghost of: { Attributes };
+
+    ghost is_new: { Self → Type 0 };
+
+    ghost fed: { Self → Fed };
+
+    // Takes a feed from the input, until it ends or all links are served.
+    fn take<S: Source, R: Wait>(
+        &mut self,
+        rt: &R,
+        alloc: Global,
+        source: &mut S,
+        over: &AtomicBool,
+    ) -> FeedEnd
+        requires new { is_new self.old }
+        ensures feeds { result ≢ FeedEnd.NoMemory → Feeds of (source_state S.Source source.old) (source_state S.Source source.new) result (fed self.new) }
+        ensures within { TakesWithin (S.taken source.old) (S.taken source.new) }
+        ensures beside { S.kept_by_read source.new ≡ S.kept_by_read source.old };
+}
+
+impl<T: Sheet<J>, J: Naming> FeedTaker for Feeder<T, J> {
+    ghost use Rattle.std.specs.Prelude.{◌≡◌, []};
+    ghost use Rattle.be_follow.specs.Followers.{Follows};
+    ghost use Rattle.be_mirror.specs.Feeders.{new_feeder};
+
+    ghost of = { J.schema };
+
+    ghost is_new = { λ f. (f ≡ new_feeder J.schema) × Follows [] f.took };
+
+    ghost fed = { λ f. f.took.fed };
+
+    fn take<S: Source, R: Wait>(
+        &mut self,
+        rt: &R,
+        alloc: Global,
+        source: &mut S,
+        over: &AtomicBool,
+    ) -> FeedEnd {
+        take_feed(rt, alloc, self, source, over)
+    }
+}
+
 // Takes the feed beside the workers, each of which does a job.
 fn run_beside<
+    F: FeedTaker,
     T: Sheet<J> + Send + Sync,
     J: Naming + Send + Sync,
     R: Threads + Wait + Sync,
@@ -201,43 +252,70 @@ fn run_beside<
 >(
     rt: &R,
     alloc: Global,
-    feeder: &mut Feeder<T, J>,
+    feeder: &mut F,
     jobs: Vec<Job<T, J, L>>,
     source: &mut S,
     door: &D,
     gate: &G,
 ) -> (Result<Vec<WorkEnd<T, J, L>>, NoMemory>, FeedEnd)
-    requires feeder { (feeder.old ≡ new_feeder J.schema) × Follows [] feeder.old.took }
+    requires feeder { F.is_new feeder.old }
     requires few { length jobs.items ≤ SEATS }
     requires jobs { All (λ job. (job.worker ≤ SEATS) × IsNew (D.state door.now) job.count) jobs.items }
-    ensures feeds { result.1 ≢ FeedEnd.NoMemory → Feeds J.schema (source_state S.Source source.old) (source_state S.Source source.new) result.1 feeder.new.took.fed }
+    ensures feeds { result.1 ≢ FeedEnd.NoMemory → Feeds F.of (source_state S.Source source.old) (source_state S.Source source.new) result.1 (F.fed feeder.new) }
     ensures within { TakesWithin (S.taken source.old) (S.taken source.new) }
     ensures beside { S.kept_by_read source.new ≡ S.kept_by_read source.old }
     ensures count { IfOk result.0 (λ ends. length ends.items ≡ length jobs.items) }
     ensures ends { IfOk result.0 (λ ends. All (λ end. WorkerServed (link_state L.Source L.Sink) J.schema (D.state door.now) end.session end.count end.ends.items) ends.items) }
 {
     let over = AtomicBool::new(false);
+    let over = &over;
     let mut jobs = Some(jobs);
-    join_mut(
+    take_beside(
         rt,
-        &mut || -> Result<Vec<WorkEnd<T, J, L>>, NoMemory>
+        alloc,
+        &mut move || -> Result<Vec<WorkEnd<T, J, L>>, NoMemory>
             requires { IfSome jobs (λ jobs. (length jobs.items ≤ SEATS) × All (λ job. (job.worker ≤ SEATS) × IsNew (D.state door.now) job.count) jobs.items) }
             ensures { IfSome jobs.entry (λ jobs. IfOk result (λ ends. (length ends.items ≡ length jobs.items)
                 × All (λ end. WorkerServed (link_state L.Source L.Sink) J.schema (D.state door.entry.now) end.session end.count end.ends.items) ends.items)) }
         {
-            let Some(jobs) = jobs.take() else {
-                unreachable!();
+            let ends = match jobs.take() {
+                Some(jobs) => serve_jobs(rt, alloc, door, jobs, gate),
+                None => Err(NoMemory),
             };
-            let ends = serve_jobs(rt, alloc, door, jobs, gate);
             over.store(true, Ordering::SeqCst);
             ends
         },
+        feeder,
+        source,
+        over,
+    )
+}
+
+// Takes the feed beside the work.
+fn take_beside<R: Threads + Wait + Sync, W: FnMut() -> A + Send, A: Send, F: FeedTaker, S: Source>(
+    rt: &R,
+    alloc: Global,
+    work: &mut W,
+    feeder: &mut F,
+    source: &mut S,
+    over: &AtomicBool,
+) -> (A, FeedEnd)
+    requires work { W.pre work.old }
+    requires feeder { F.is_new feeder.old }
+    ensures works { W.step work.old result.0 work.new }
+    ensures feeds { result.1 ≢ FeedEnd.NoMemory → Feeds F.of (source_state S.Source source.old) (source_state S.Source source.new) result.1 (F.fed feeder.new) }
+    ensures within { TakesWithin (S.taken source.old) (S.taken source.new) }
+    ensures beside { S.kept_by_read source.new ≡ S.kept_by_read source.old }
+{
+    join_mut(
+        rt,
+        work,
         &mut || -> FeedEnd
-            requires { (feeder.now ≡ new_feeder J.schema) × Follows [] feeder.now.took }
-            ensures feeds { result ≢ FeedEnd.NoMemory → Feeds J.schema (source_state S.Source source.entry.now) (source_state S.Source source.exit.now) result feeder.exit.now.took.fed }
+            requires { F.is_new feeder.now }
+            ensures feeds { result ≢ FeedEnd.NoMemory → Feeds F.of (source_state S.Source source.entry.now) (source_state S.Source source.exit.now) result (F.fed feeder.exit.now) }
             ensures within { TakesWithin (S.taken source.entry.now) (S.taken source.exit.now) }
             ensures beside { S.kept_by_read source.exit.now ≡ S.kept_by_read source.entry.now }
-        { take_feed(rt, alloc, feeder, source, &over) },
+        { feeder.take(rt, alloc, source, over) },
     )
 }
 

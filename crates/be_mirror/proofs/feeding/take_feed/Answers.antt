@@ -1,5 +1,4 @@
-use Rattle.std.proofs.Common.{◌≡◌, ℕ, ◌+◌, ◌-◌, ◌<◌, ◌≤◌, length, refl, sym, ap, ◌∙◌, subst, rules, arith}
-use Rattle.be_base.specs.Counts.{RisesBy}
+use Rattle.std.proofs.Common.{◌+◌, ◌-◌, ◌≤◌, length, refl, sym, ap, ◌∙◌, arith}
 use Rattle.be_base.specs.declared.limits.TheConstants.{SOURCE_BYTES}
 use Rattle.be_io.specs.Outside.{source_state}
 use Rattle.be_protocol.proofs.LinesGoing.{rises-along, spent}
