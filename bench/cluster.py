@@ -2,11 +2,9 @@
 `WHAT|FIGURE`."""
 import os
 import pathlib
-import socket
 import statistics
 import subprocess
 import sys
-import threading
 import time
 
 sys.dont_write_bytecode = True
@@ -61,34 +59,14 @@ def length(port):
         return int(session.ask("TAIL 0 0").split(" ")[1])
 
 
-def in_bulk(port, text, came):
-    """Sends all lines while it reads the replies."""
-    with socket.create_connection(("127.0.0.1", port)) as link:
-        sender = threading.Thread(target=link.sendall, args=(text,))
-        sender.start()
-        left = text.count(b"\n")
-        while left:
-            piece = link.recv(1 << 20)
-            if not piece:
-                sys.exit("cluster.py: a server ended a link")
-            left -= piece.count(b"\n")
-        sender.join()
-    came.append(1)
-
-
-def rate(servers, text, lines):
-    """Events a second of these servers together, and how many processors they took."""
-    came, threads = [], []
+def rate(servers, lines):
+    """Events a second of these servers together, each of which a client asks in bulk, and how many processors they took."""
     before = [processor_seconds(process) for process, _ in servers]
     began = time.monotonic()
-    for _, port in servers:
-        threads.append(threading.Thread(target=in_bulk, args=(port, text, came)))
-        threads[-1].start()
-    for thread in threads:
-        thread.join()
-    took = time.monotonic() - began
-    if len(came) != len(servers):
+    clients = [start(room / "client", "bulk", port, room / "events.txt", process.pid, stdout=subprocess.DEVNULL) for process, port in servers]
+    if any(client.wait() for client in clients):
         sys.exit("cluster.py: a client failed")
+    took = time.monotonic() - began
     spent = sum(processor_seconds(process) - was for (process, _), was in zip(servers, before))
     return len(servers) * lines / took, spent / took
 
@@ -118,11 +96,10 @@ def main():
     list(writer.ask_all(conditions))
     mirrors = [mirror(url) for _ in range(3)]
     wait_until(lambda: all(length(port) >= len(conditions) for _, port in mirrors))
-    text = (room / "events.txt").read_bytes()
-    lines = text.count(b"\n")
+    lines = (room / "events.txt").read_bytes().count(b"\n")
     found = []
     for count in range(4):
-        found.append(max(rate([leader, *mirrors[:count]], text, lines) for _ in range(3)))
+        found.append(max(rate([leader, *mirrors[:count]], lines) for _ in range(3)))
     for count, (events, processors) in enumerate(found):
         beside = "alone" if not count else f"and {count} mirror{'s' * (count > 1)} beside it"
         times = "" if not count else f", {events / found[0][0]:.2f} times those of the leader alone"

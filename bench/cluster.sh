@@ -10,6 +10,7 @@ use_program
 need redis-server redis-server
 need python3 python3
 /usr/bin/python3 -c 'import redis' 2>/dev/null || fail "there is no module redis for /usr/bin/python3 here; Debian's package python3-redis has it"
+compiled client client.c
 cd "$room" || exit 1
 subs="$(scaled 10000)" events="$(scaled 200000)"
 schema market >schema.txt
