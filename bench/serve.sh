@@ -204,7 +204,7 @@ holds() {
     held 'a LIST of all' 5 subs.txt
     echo QUIT >calls.txt
     held 'the leave of all' 1 subs.txt
-    # each tend earns 64, and there is one after 16 replies: so a look comes due
+    # a look comes due after 1,024 tends, and there is one after 16 replies
     yes 'PUB -' | head -n $((5 * (most / 4 + 1000))) >calls.txt
     held "$(grouped $((most / 4 + 1000))) PUBs that find nothing, and a look for a step," 5 empty.txt "${loaded[@]}"
 }

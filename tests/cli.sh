@@ -217,6 +217,13 @@ same 'a pipe that is left' 5 '' 'write fault\n'
 "$program" 2>&- >out <in; code=$?; : >err
 same 'a closed standard error' 2 '' ''
 
+# where no memory is left for a SUB, what is held back serves UNSUBs and the QUIT for a while
+{ seq -f 'SUB n%.0f price < 5' 60000; seq -f 'UNSUB n%.0f' 300; echo QUIT; } >in
+(ulimit -v 16000; exec "$program" run schema.txt) <in >out 2>err; code=$?
+grep -q '^NOMEM$' out || { echo 'FAILED: memory suffices for each SUB'; exit 1; }
+tail -n 301 out | sed 's/ .*//' | sort | uniq -c | tr -s ' ' >held; mv held out
+same 'removals without memory' 0 ' 1 BYE\n 300 OK\n' ''
+
 # examples
 for script in "$top"/examples/*/script.txt; do
     folder="$(dirname "$script")" name="$(basename "$(dirname "$script")")"

@@ -1,7 +1,7 @@
 """Drives the example of a cluster: `serve`, tell.py, put.py, a Redis of its own with a replica, get.py, mirrors that are asked all the
 time, and `follow`, each of which is killed in turn and started again. Then the feed has the leader's list and nothing else, each
-reply of each mirror was true of it, and `follow` answers from it as the leader does. Its words: the program, and a folder to work
-in. Its last line is `N passed, N failed`."""
+reply of each mirror was true of it, and `follow` answers from it as the leader does. mirror.sh ends with its parts, and get.py where
+its stream has another list. Its words: the program, and a folder to work in. Its last line is `N passed, N failed`."""
 import contextlib
 import os
 import pathlib
@@ -22,7 +22,7 @@ from mirrors import Mirror, judge  # noqa: E402
 
 TOP = pathlib.Path(__file__).resolve().parent.parent
 sys.path.insert(0, str(TOP / "examples" / "client"))
-from justmeadow import Connection  # noqa: E402
+from justmeadow import Connection, Ended  # noqa: E402
 
 CLUSTER, SCHEMA = TOP / "examples" / "cluster", TOP / "examples" / "follower" / "schema.txt"
 PATIENCE = 20  # seconds until what is waited for counts as a failure
@@ -66,7 +66,12 @@ class Relay:
     def serve(self, door):
         with contextlib.suppress(OSError):
             while True:
-                pair = [door.accept()[0], socket.create_connection(("127.0.0.1", self.target))]
+                near = door.accept()[0]
+                try:
+                    pair = [near, socket.create_connection(("127.0.0.1", self.target))]
+                except OSError:  # no leader is there now
+                    near.close()
+                    continue
                 self.open += pair
                 threading.Thread(target=self.carry, args=(pair,), daemon=True).start()
 
@@ -94,7 +99,7 @@ class Cluster:
         self.redis_port, self.replica_port = ports.free_port(), ports.free_port()
         self.url, self.replica_url = (f"redis://127.0.0.1:{port}" for port in (self.redis_port, self.replica_port))
         self.store = redis.Redis(port=self.redis_port)
-        self.mirrors = []
+        self.mirrors, self.pairs = [], []
 
     def start(self, *words, **pipes):
         process = subprocess.Popen([str(word) for word in words], **pipes)
@@ -176,6 +181,9 @@ class Cluster:
     def stop(self):
         for mirror in self.mirrors:
             mirror.stop()
+        for pair in self.pairs:
+            pair.process.terminate()
+            pair.process.wait()
         for process in self.started:
             if process.poll() is None:
                 process.kill()
@@ -255,11 +263,11 @@ def outlives_connection(c):
 
 
 def has_two_tellers(c):
-    second = c.start_telling(c.port)
+    c.second = c.start_telling(c.port)
     c.change(300)
     c.all_arrive("the changes of two tellers")
     time.sleep(0.3)
-    running = [process.poll() for process in (c.teller, c.putter, c.getter, *second)]
+    running = [process.poll() for process in (c.teller, c.putter, c.getter, *c.second)]
     if running != [None] * 5:
         raise Failed(f"a part has ended: {running}")
 
@@ -303,7 +311,95 @@ def is_another_list(c):
     wait_until("put.py sees another list", lambda: putter.poll() == 3)
 
 
-def is_away(_):
+class Pair:
+    """mirror.sh with a get.py and a mirror, which has the list of the feed."""
+
+    def __init__(self, c, url, *words):
+        self.port = ports.free_port()
+        mirror = [c.program, "mirror", SCHEMA, self.port, 2, 1000000]
+        with open(c.room / "said", "a", encoding="utf-8") as said:
+            self.process = c.start(CLUSTER / "mirror.sh", "feed", "--redis", url, *words, "--", *mirror, stdin=subprocess.DEVNULL, stdout=subprocess.DEVNULL, stderr=said)
+        c.pairs.append(self)
+
+    def length(self):
+        with contextlib.suppress(OSError, Ended), Connection(self.port, within=PATIENCE) as session:
+            return int(session.ask("TAIL 0 0").split(" ")[1])
+        return 0
+
+    def parts(self):
+        """The process ids of get.py and of the mirror."""
+        children = pathlib.Path(f"/proc/{self.process.pid}/task/{self.process.pid}/children").read_text(encoding="ascii").split()
+        of_get = [child for child in children if b"get.py" in pathlib.Path(f"/proc/{child}/cmdline").read_bytes()]
+        if len(children) != 2 or len(of_get) != 1:
+            raise Failed(f"mirror.sh has other parts than two: {children}")
+        return [int(child) for child in sorted(children, key=lambda child: child not in of_get)]
+
+
+def ends_as_one(c):
+    """mirror.sh ends when get.py does, or the mirror, or by a signal, and leaves neither behind."""
+    away = Pair(c, f"redis://127.0.0.1:{ports.free_port()}", "--patience", "0.2")
+    pairs = [Pair(c, c.url) for _ in range(4)]
+    wait_until("mirror.sh ends where Redis isn't there", lambda: away.process.poll() == 1)
+    for pair in pairs:
+        wait_until("mirror.sh has a mirror with a list", lambda pair=pair: pair.length() > 0)
+    parts = [pair.parts() for pair in pairs]
+    os.kill(parts[0][0], signal.SIGKILL)
+    os.kill(parts[1][1], signal.SIGKILL)
+    pairs[2].process.send_signal(signal.SIGTERM)
+    pairs[3].process.send_signal(signal.SIGINT)
+    for what, pair, wanted in zip(("get.py is killed", "the mirror is killed", "it gets SIGTERM", "it gets SIGINT"), pairs, (137, 137, -signal.SIGTERM, -signal.SIGINT)):
+        wait_until(f"mirror.sh ends where {what}", lambda pair=pair: pair.process.poll() is not None)
+        if pair.process.returncode != wanted:
+            raise Failed(f"mirror.sh ended with {pair.process.returncode} where {what}")
+    left = [part for pair in parts for part in pair if os.path.exists(f"/proc/{part}")]
+    if left:
+        raise Failed(f"mirror.sh left its parts behind: {left}")
+
+
+def is_refilled(c):
+    """get.py prints nothing of a list that came in the place of its own."""
+    old, new = [b"AT 0 SUB 1 0 a all", b"AT 1 SUB 1 1 b all"], [b"AT 0 SUB 1 0 x all", b"AT 1 SUB 1 1 y all", b"AT 2 SUB 1 2 z all"]
+
+    def fill(lines):
+        with c.store.pipeline() as at_once:
+            at_once.delete("refilled")
+            for place, line in enumerate(lines):
+                at_once.xadd("refilled", {"line": line}, id=f"{place + 1}-0")
+            at_once.execute()
+
+    for lines, told in ((new[:1], b"no longer has the change at place 1"), (new, b"has another change at place 1")):
+        fill(old)
+        get = c.start(sys.executable, CLUSTER / "get.py", "refilled", "--redis", c.url, stdout=subprocess.PIPE, stderr=subprocess.PIPE)
+        given = [get.stdout.readline().rstrip(b"\n") for _ in old]
+        fill(lines)
+        rest, said = get.communicate(timeout=PATIENCE)
+        if given != old or rest or get.returncode != 3 or told not in said:
+            raise Failed(f"get.py ended with {get.returncode} and {said!r}, and printed {[*given, rest]!r}")
+
+
+def is_interrupted(c):
+    """Ctrl-C ends the scripts by its signal, and without a word."""
+    teller, putter = c.second
+    # so that it doesn't see the end of the teller first
+    putter.send_signal(signal.SIGSTOP)
+    for process in (teller, putter, c.getter):
+        process.send_signal(signal.SIGINT)
+    putter.send_signal(signal.SIGCONT)
+    for process in (teller, putter, c.getter):
+        wait_until("Ctrl-C ends a script", lambda process=process: process.poll() == -signal.SIGINT)
+
+
+def is_refused(c):
+    """Words without a reading end with 2, an output that takes nothing with 1, and neither with a traceback."""
+    stream = ["feed", "--redis", c.url, "--once"]
+    for name, words, wanted in (("get.py", [*stream, "--place", "-1"], 2), ("get.py", [*stream, "--redis", "foo"], 2), ("get.py", stream, 1), ("tell.py", ["0"], 2), ("tell.py", [str(c.port)], 1)):
+        with open("/dev/full", "wb") as full:
+            ended = subprocess.run([sys.executable, CLUSTER / name, *words], stdout=full, stderr=subprocess.PIPE, check=False)
+        if ended.returncode != wanted or b"Traceback" in ended.stderr:
+            raise Failed(f"{name} {words} ended with {ended.returncode}: {ended.stderr.decode()}")
+
+
+def is_away(c):
     """Nothing is there at the start."""
     port = str(ports.free_port())
     stream = ["feed", "--redis", f"redis://127.0.0.1:{port}"]
@@ -311,12 +407,16 @@ def is_away(_):
         ended = subprocess.run([sys.executable, CLUSTER / name, *words, "--patience", "0.2"], stdin=subprocess.DEVNULL, capture_output=True, check=False)
         if ended.returncode != 1 or b": no " not in ended.stderr or ended.stdout:
             raise Failed(f"{name} ended with {ended.returncode}: {ended.stderr.decode()}")
+    if b"Traceback" in (c.room / "said").read_bytes():
+        raise Failed("a script ended with a traceback")
 
 
-CASES = [all_parts_run, outlives_put, outlives_tell, outlives_get, outlives_redis, outlives_mirrors, outlives_connection, has_two_tellers, is_the_leaders, are_mirrored, is_followed, is_another_list, is_away]
+CASES = [all_parts_run, outlives_put, outlives_tell, outlives_get, outlives_redis, outlives_mirrors, outlives_connection, has_two_tellers, is_the_leaders, are_mirrored, is_followed, ends_as_one, is_refilled, is_interrupted, is_refused, is_another_list, is_away]
 
 
 def main(program, room):
+    # whoever started this may ignore it, and so would what is started here
+    signal.signal(signal.SIGINT, signal.default_int_handler)
     passed, cluster = 0, Cluster(program, room)
     try:
         cluster.start_redis()

@@ -155,7 +155,7 @@ class Calls(contextlib.AbstractContextManager):
         return Told(told.numbers[0], [change for _, change in told.rows])
 
     def quit(self):
-        """Ends the session. Returns the number of its leave."""
+        """Ends the session. Returns the number of its leave; at a mirror, where it is no change, how many changes the mirror has."""
         return self._told("QUIT", "BYE", "HELD").numbers[0]
 
 
@@ -185,7 +185,7 @@ class Session(Calls):
         except OSError as error:
             raise Ended("the connection broke off") from error
         if not line.endswith(b"\n"):
-            raise Ended(f"no whole reply, but {line[:200]!r}")
+            raise Ended(f"no whole reply, but {line[:200]!r}" if line else "it closed its side")
         return line[:-1].decode("ascii", "backslashreplace")
 
     def ask(self, line):

@@ -7,58 +7,78 @@ with `--once` as far as the stream goes now.
 
 With `--beat SECONDS` it prints a line `TAILED place 0`, which says nothing, where nothing came for so long: a mirror whose
 connections were all served ends with the next line. Where Redis goes away it tries again, after growing pauses, and goes on behind
-the last change that it printed. Ends with 1 where there is no Redis at the start, or nobody reads its output, and with 3 where the
-stream lacks a change. Needs Debian's python3-redis."""
+the last change that it printed. Ends with 1 where there is no Redis at the start, or its output takes no more, and with 3 where the
+stream lacks a change, or no longer has the last one that was printed: it is another list then, and nothing of it is printed. Needs
+Debian's python3-redis."""
 import sys
 import time
 
 sys.dont_write_bytecode = True
-from output import pause, read_by_somebody, show  # noqa: E402
-from streams import Stream, arguments, other_list  # noqa: E402
+from output import other_list, pause, place, seconds, show, writing  # noqa: E402
+from streams import Stream, arguments  # noqa: E402
 
 AT_ONCE = 1000  # entries
 WAIT = 1000  # milliseconds that a read waits for an entry
 
 
-def entries(stream, place, once, wait):
-    """The entries from this place on, as many at once as there are. There may be none."""
-    while True:
-        asked = {stream.key: f"{place}-0"}
-        reply = stream.call(lambda asked=asked: stream.redis.xread(asked, count=AT_ONCE, block=None if once else wait))
-        if reply:
-            found = reply[0][1]
-            place += len(found)
-            yield found
-        elif once:
+class Getter:
+    def __init__(self, words):
+        self.stream, self.words = Stream(words), words
+        self.place, self.line = words.place, None  # of the next change, and the last one that was printed
+        self.wait = min(WAIT, max(1, int(1000 * words.beat))) if words.beat else WAIT
+
+    def read(self):
+        """The entries from this place on, as many at once as there are. There may be none."""
+        asked = {self.stream.key: f"{self.place}-0"}
+        reply = self.stream.call(lambda: self.stream.redis.xread(asked, count=AT_ONCE, block=None if self.words.once else self.wait))
+        return reply[0][1] if reply else []
+
+    def compare(self):
+        """Sees that the stream still has the last change that was printed. What was read before is of the same list then."""
+        if self.line is None:
             return
-        else:
-            pause(0)
-            yield []
+        at = f"{self.place}-0"
+        there = self.stream.call(lambda: self.stream.redis.xrange(self.stream.key, at, at))
+        if not there or there[0][1].get(b"line") != self.line:
+            now = "has another" if there else "no longer has the"
+            other_list(f"the stream {self.stream.key} {now} change at place {self.place - 1}, which was printed")
+
+    def take(self, found):
+        lines = []
+        for number, fields in found:
+            line = fields.get(b"line", b"")
+            if number != b"%d-0" % (self.place + 1) or not line.startswith(b"AT %d " % self.place):
+                show(lines)
+                other_list(f"the stream {self.stream.key} doesn't have the change at place {self.place}")
+            lines.append(line)
+            self.place, self.line = self.place + 1, line
+        show(lines)
+
+    def go_on(self):
+        last, beat = time.monotonic(), self.words.beat
+        while True:
+            found = self.read()
+            self.compare()
+            if found:
+                self.take(found)
+                last = time.monotonic()
+            elif self.words.once:
+                return
+            elif beat and time.monotonic() - last >= beat:
+                show([b"TAILED %d 0" % self.place])
+                last = time.monotonic()
+            else:
+                pause(0)
 
 
 def main():
     words = arguments(__doc__)
-    words.add_argument("--place", type=int, default=0, help="of the first change")
+    words.add_argument("--place", type=place, default=0, help="of the first change")
     words.add_argument("--once", action="store_true", help="end where the stream ends now")
-    words.add_argument("--beat", type=float, default=0, metavar="SECONDS", help="print a line that says nothing where nothing came for so long")
+    words.add_argument("--beat", type=seconds, metavar="SECONDS", help="print a line that says nothing where nothing came for so long")
     words = words.parse_args()
-    stream, place, last = Stream(words), words.place, time.monotonic()
-    wait = min(WAIT, max(1, int(1000 * words.beat))) if words.beat else WAIT
-    with read_by_somebody("get.py"):
-        for found in entries(stream, place, words.once, wait):
-            lines = []
-            if not found and words.beat and time.monotonic() - last >= words.beat:
-                lines.append(b"TAILED %d 0" % place)
-            for number, fields in found:
-                line = fields.get(b"line", b"")
-                if number != b"%d-0" % (place + 1) or not line.startswith(b"AT %d " % place):
-                    show(lines)
-                    other_list(f"the stream {stream.key} doesn't have the change at place {place}")
-                lines.append(line)
-                place += 1
-            if lines:
-                show(lines)
-                last = time.monotonic()
+    with writing():
+        Getter(words).go_on()
 
 
 if __name__ == "__main__":

@@ -4,21 +4,32 @@ import os
 import sys
 import time
 
-import redis
-
 sys.dont_write_bytecode = True
+from output import name, say, seconds  # noqa: E402 # first, so that Ctrl-C is quiet from here on
+
+import redis  # noqa: E402
+
 sys.path.insert(0, os.path.join(os.path.dirname(os.path.abspath(__file__)), "..", "client"))
 from justmeadow import turns  # noqa: E402
 
 GONE = (redis.ConnectionError, redis.TimeoutError, redis.exceptions.ReadOnlyError)
-OTHER_LIST = 3  # the exit code where the stream and a line disagree, which no repeat mends
+
+
+def store(url):
+    """A word of a command line: the Redis at a URL."""
+    try:
+        found = redis.Redis.from_url(url, socket_timeout=30, socket_connect_timeout=5)
+        found.connection_pool.make_connection()  # which doesn't connect yet
+    except (ValueError, TypeError) as error:
+        raise argparse.ArgumentTypeError(f"no URL of a Redis: {error}") from error
+    return found
 
 
 def arguments(text):
     words = argparse.ArgumentParser(description=text, formatter_class=argparse.RawDescriptionHelpFormatter)
     words.add_argument("key", help="of the stream")
-    words.add_argument("--redis", default="redis://127.0.0.1:6379", metavar="URL")
-    words.add_argument("--patience", type=float, default=30.0, help="how many seconds Redis may be away at the start")
+    words.add_argument("--redis", type=store, default="redis://127.0.0.1:6379", metavar="URL")
+    words.add_argument("--patience", type=seconds, default=30.0, metavar="SECONDS", help="how long Redis may be away at the start")
     return words
 
 
@@ -26,8 +37,7 @@ class Stream:
     """A stream, which is there within `patience` seconds."""
 
     def __init__(self, words):
-        self.key, self.url = words.key, words.redis
-        self.redis = redis.Redis.from_url(self.url, socket_timeout=30, socket_connect_timeout=5)
+        self.key, self.redis = words.key, words.redis
         self._try(self.redis.ping, time.monotonic() + words.patience)
 
     def call(self, function):
@@ -45,17 +55,4 @@ class Stream:
                 fault = error
             except redis.RedisError as error:
                 sys.exit(f"{name()}: Redis refuses: {error}")
-        return sys.exit(f"{name()}: no Redis at {self.url} in time: {fault}")
-
-
-def name():
-    return os.path.basename(sys.argv[0])
-
-
-def say(text):
-    print(f"{name()}: {text}", file=sys.stderr, flush=True)
-
-
-def other_list(text):
-    say(text)
-    sys.exit(OTHER_LIST)
+        return sys.exit(f"{name()}: no Redis in time: {fault}")

@@ -8,7 +8,7 @@ again and again, and prints each reply that has changes, whole and as it came. I
 With `--beat SECONDS` it prints a line `TAILED n 0`, which says nothing, where nothing came for so long: a mirror whose connections
 were all served ends with the next line. Where the connection breaks it connects again, after growing pauses, and goes on behind the
 last change that it printed, once the leader has told the same changes before it: a server that was started anew has another list.
-Ends with 1 where there is no leader within PATIENCE seconds at the start, or nobody reads its output, and with 3 where the list is
+Ends with 1 where there is no leader within PATIENCE seconds at the start, or its output takes no more, and with 3 where the list is
 another one."""
 import argparse
 import hashlib
@@ -17,9 +17,10 @@ import sys
 import time
 
 sys.dont_write_bytecode = True
+from output import name, other_list, pause, port, say, seconds, show, writing  # noqa: E402
+
 sys.path.insert(0, os.path.join(os.path.dirname(os.path.abspath(__file__)), "..", "client"))
 from justmeadow import Connection, Ended, turns  # noqa: E402
-from output import pause, read_by_somebody, show  # noqa: E402
 
 STEP = 1000  # changes that are asked for at once
 SOON, LATER = 0.01, 0.25  # seconds until it asks again where nothing is new, from the first time on
@@ -40,18 +41,18 @@ class Teller:
                 return session
             except (OSError, Ended) as error:
                 fault = error
-        return sys.exit(f"tell.py: no leader at port {self.words.port} within {self.words.patience} seconds: {fault}")
+        return sys.exit(f"{name()}: no leader at port {self.words.port} within {self.words.patience} seconds: {fault}")
 
     def compare(self, session):
         place, told = 0, hashlib.sha256()
         while place < self.place:
             lines, length = asked(session, place, min(STEP, self.place - place))
             if not lines:
-                other_list(f"it has {length} changes, and {self.place} were told")
+                other_list(f"the leader has another list: it ends at change {length}, and change {self.place} was printed")
             place += len(lines)
             note(told, lines)
         if told.digest() != self.told.digest():
-            other_list(f"its first {place} changes are others")
+            other_list(f"the leader has another list: the changes up to {place} are others than were printed")
 
     def go_on(self, session):
         """Prints what is new, until the connection breaks."""
@@ -77,7 +78,7 @@ def asked(session, place, most):
         if last.startswith("TAILED "):
             return [line.encode() for line in lines], int(last.split(" ")[1])
         if last not in ("NOMEM", "SHUT"):
-            sys.exit(f"tell.py: no reply to TAIL: {last[:200]!r}")
+            sys.exit(f"{name()}: no reply to TAIL: {last[:200]!r}")
 
 
 def note(told, lines):
@@ -85,26 +86,21 @@ def note(told, lines):
         told.update(line + b"\n")
 
 
-def other_list(why):
-    print(f"tell.py: the leader has another list: {why}", file=sys.stderr)
-    sys.exit(3)
-
-
 def main():
     words = argparse.ArgumentParser(description=__doc__, formatter_class=argparse.RawDescriptionHelpFormatter)
-    words.add_argument("port", type=int)
+    words.add_argument("port", type=port)
     words.add_argument("--host", default="127.0.0.1")
-    words.add_argument("--patience", type=float, default=30.0, help="seconds")
-    words.add_argument("--beat", type=float, default=0, metavar="SECONDS", help="print a line that says nothing where nothing came for so long")
+    words.add_argument("--patience", type=seconds, default=30.0, metavar="SECONDS", help="how long the leader may be away at the start, and at most take for a reply")
+    words.add_argument("--beat", type=seconds, metavar="SECONDS", help="print a line that says nothing where nothing came for so long")
     teller = Teller(words.parse_args())
     until = time.monotonic() + teller.words.patience
-    with read_by_somebody("tell.py"):
+    with writing():
         while True:
             session = teller.session(until)
             try:
                 teller.go_on(session)
             except Ended as error:
-                print(f"tell.py: the leader is gone, trying again: {error}", file=sys.stderr, flush=True)
+                say(f"the leader is gone, trying again: {error}")
                 session.abandon()
             until = float("inf")
 

@@ -10,6 +10,7 @@ mod names;
 mod numbers;
 mod readers;
 mod refusals;
+mod reserve;
 mod sets;
 mod tokens;
 
@@ -17,11 +18,12 @@ pub use laws::tokens_are_from_the_left;
 pub use limits::{
     ASKED, ATTRIBUTES, BOX_LETTERS, COUNT_END, EARLY_ROWS, FEED_LINE_BYTES, FILE_BYTES, FIRST_INT,
     GENERATED_EVENTS, GENERATED_SUBSCRIPTIONS, INT_SIZE, LAST_INT, LEAF_ROWS, LINE_BYTES, LINKS,
-    LOG_CHANGES, MERGE_ROWS, NAME_BYTES, PREDICATES, READ_BYTES, ROUNDS, SEATS, SET_VALUES,
-    SHIFT_GAIN, SOURCE_BYTES, SYMBOLS,
+    LOG_CHANGES, MERGE_ROWS, NAME_BYTES, PREDICATES, READ_BYTES, REMOVALS_KEPT, ROUNDS, SEATS,
+    SET_VALUES, SHIFT_GAIN, SOURCE_BYTES, SYMBOLS,
 };
 pub use names::{AttrNo, Id, Name, NameFault, NoMemory, NoRead, SessionNo};
 pub use numbers::{read_count, read_int};
 pub use readers::{after_brace, after_word, is_end, read_word};
+pub use reserve::Reserve;
 pub use sets::{SetValue, read_value};
 pub use tokens::{Scan, Token, after_blanks, is_blank, is_word_byte, next_token};

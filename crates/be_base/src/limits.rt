@@ -39,6 +39,9 @@ pub const FILE_BYTES: usize = 67108864;
 /// Changes in a list of changes, those that room was made for included.
 pub const LOG_CHANGES: usize = 281474976710656;
 
+/// Changes that room is made for behind a subscription, so that removals and leaves find it where memory is wanting.
+pub const REMOVALS_KEPT: usize = 1024;
+
 /// The end of what is counted by numbers in texts: 2^63.
 pub const COUNT_END: u64 = 9223372036854775808;
 

@@ -16,7 +16,7 @@ ghost use Rattle.be_board.specs.LocalCopy.{IsLocalList, IsAnswered};
 
 use crate::answers::Answer;
 use crate::openings::opened;
-use be_base::{Id, Name, NoMemory, SessionNo};
+use be_base::{Id, Name, NoMemory, Reserve, SessionNo};
 use be_change::is_leave_of;
 use be_copy::{Copy2, Edit};
 use be_index::Index;
@@ -36,6 +36,8 @@ pub struct LocalCopy<I: Index> {
     opening: u64,
     // Whether the session has left.
     gone: bool,
+    // For removals and the leave.
+    held: Reserve,
 }
 
 impl<I: Index> Model for LocalCopy<I> {
@@ -67,6 +69,7 @@ impl<I: Index> LocalCopy<I> {
             copy,
             opening,
             gone: false,
+            held: Reserve::make(alloc),
         })
     }
 
@@ -146,6 +149,17 @@ impl<I: Index> LocalCopy<I> {
         ensures answered { IsAnswered self.old.list self.new.list (asked.unsubscribe name.now) result }
         ensures schema { I.schema self.new.index ≡ I.schema self.old.index }
     {
+        self.held.open();
+        let answer = self.remove_named(alloc, name);
+        self.held.close();
+        answer
+    }
+
+    fn remove_named(&mut self, alloc: Global, name: &Name) -> Answer
+        requires present { has_left 1 self.old.list ≡ false }
+        ensures answered { IsAnswered self.old.list self.new.list (asked.unsubscribe name.now) result }
+        ensures schema { I.schema self.new.index ≡ I.schema self.old.index }
+    {
         let m = self.len();
         let Some(row) = self.copy.named(name) else {
             return Answer::NoName { m };
@@ -166,16 +180,23 @@ impl<I: Index> LocalCopy<I> {
         ensures refused { OnErr result (self.new.list ≡ self.old.list) }
         ensures schema { I.schema self.new.index ≡ I.schema self.old.index }
     {
-        let change = Change::Unsub {
-            session: SESSION,
-            serial: self.serial(),
-            name,
-        };
+        let change = Change::removal(alloc, SESSION, self.serial(), name)?;
         self.append(alloc, change)
     }
 
     /// Puts the session's Bye last, after which none of its rows is live.
     pub fn leave(&mut self, alloc: Global) -> Answer
+        requires present { has_left 1 self.old.list ≡ false }
+        ensures answered { IsAnswered self.old.list self.new.list asked.quit result }
+        ensures schema { I.schema self.new.index ≡ I.schema self.old.index }
+    {
+        self.held.open();
+        let answer = self.put_bye(alloc);
+        self.held.close();
+        answer
+    }
+
+    fn put_bye(&mut self, alloc: Global) -> Answer
         requires present { has_left 1 self.old.list ≡ false }
         ensures answered { IsAnswered self.old.list self.new.list asked.quit result }
         ensures schema { I.schema self.new.index ≡ I.schema self.old.index }

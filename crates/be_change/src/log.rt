@@ -1,13 +1,13 @@
 //! The list of changes.
 
-ghost use Rattle.std.specs.Prelude.{◌≡◌, ℕ, ◌+◌, ◌-◌, ◌<◌, ◌≤◌, ◌==◌, [], ◌∷◌, ◌++◌, length, slice_get, Some, option_map, OnOk, OnErr, IfErr, IsOk};
+ghost use Rattle.std.specs.Prelude.{◌≡◌, ℕ, ◌+◌, ◌-◌, ◌<◌, ◌≤◌, ◌==◌, [], ◌∷◌, ◌++◌, length, slice_get, Some, option_map, OnOk, OnErr, IfErr, IsOk, true, false, min, if◌then◌else◌};
 ghost use Rattle.std.specs.List.{count_by, list_any};
 ghost use Rattle.std.specs.Arc.{arc_value};
-ghost use Rattle.be_base.specs.declared.limits.TheConstants.{LOG_CHANGES};
-ghost use Rattle.be_change.specs.History.{session_of, entries_of, is_leave_of, has_left, stand};
+ghost use Rattle.be_base.specs.declared.limits.TheConstants.{LOG_CHANGES, REMOVALS_KEPT};
+ghost use Rattle.be_change.specs.History.{session_of, entries_of, is_leave_of, is_sub, has_left, stand};
 ghost use Rattle.be_change.specs.Entries.{entry_of, log, row_in, HasIdAt, IdsArePlaces};
 
-use be_base::{COUNT_END, Id, LOG_CHANGES, NoMemory, SessionNo};
+use be_base::{COUNT_END, Id, LOG_CHANGES, NoMemory, REMOVALS_KEPT, SessionNo};
 use be_model::{Change, Row};
 use std::alloc::Global;
 use std::marker::Model;
@@ -85,6 +85,33 @@ impl ChangeLog {
         }
         self.changes.reserve(n)?;
         Ok(())
+    }
+
+    /// Makes room for the change. Behind a subscription it makes room for `REMOVALS_KEPT` more, so that removals and leaves go through for
+    /// a while where there is no memory for subscriptions.
+    pub fn make_room(&mut self, change: &Change) -> Result<(), NoMemory>
+        ensures list { self.new.list ≡ self.old.list }
+        ensures room { OnOk result (0 < self.new.spare) }
+        ensures behind { OnOk result (is_sub (entry_of change.now) ≡ true → min (1 + REMOVALS_KEPT) (LOG_CHANGES - length self.new.list) ≤ self.new.spare) }
+        ensures kept { self.old.spare ≤ self.new.spare }
+        ensures refused { OnErr result (self.new ≡ self.old) }
+        ensures succeeds { 1 + REMOVALS_KEPT ≤ self.old.spare → IsOk result }
+        ensures removal { is_sub (entry_of change.now) ≡ false → 0 < self.old.spare → IsOk result }
+    {
+        self.reserve(self.wanted_for(change))
+    }
+
+    // For how many changes room is made before this one is put.
+    fn wanted_for(&self, change: &Change) -> usize
+        ensures { result ≡ 1 + (if is_sub (entry_of change.now) then min REMOVALS_KEPT (LOG_CHANGES - length self.now.list - 1) else 0) }
+    {
+        match change {
+            Change::Sub { .. } => {
+                let left = LOG_CHANGES - self.changes.len();
+                1 + REMOVALS_KEPT.min(left.saturating_sub(1))
+            }
+            _ => 1,
+        }
     }
 
     /// Puts a change last, or hands it back.

@@ -12,6 +12,7 @@ use Rattle.be_model.proofs.RowsByIds.{put_found, put_other}
 use Rattle.be_change.specs.History.{is_of, has_name}
 use Rattle.be_copy.specs.Keys.{name_key}
 use Rattle.be_copy.specs.Places.{is_listed, is_pair}
+use Rattle.be_copy.specs.Bitmaps.{is_noted}
 use Rattle.be_copy.specs.declared.register.Register.{Register}
 use Rattle.be_copy.specs.declared.wanted.Wanted.{Wanted}
 use Rattle.be_copy.specs.declared.wanted.Wanted.TheVariants.{Named, Own, Of}
@@ -59,60 +60,60 @@ absent_at : (id i : ℕ) (m : ByIds) → has_id id m ≡ false → (id == i) ≡
 absent_at id i m new e = ap (λ (j : ℕ). row_at j m) (sym (eqb-true id i e)) ∙ absent id m new
 
 -- a row more is filed
-pub filed_put : (key : Row → ℕ) (pairs pairs' : List (ℕ × ℕ)) (row : Row) (n : ℕ) (m : ByIds) → n ≡ key row → has_id (id_of row) m ≡ false
-    → ((k i : ℕ) → is_listed pairs' k i ≡ cond (is_pair n (id_of row) k i) true (is_listed pairs k i)) → AreFiled key pairs m → AreFiled key pairs' (put_by_id row m)
-filed_put key pairs pairs' row n m is new update filed k i =
+pub filed_put : (key : Row → ℕ) (stands stands' : ℕ → ℕ → Bool) (row : Row) (n : ℕ) (m : ByIds) → n ≡ key row → has_id (id_of row) m ≡ false
+    → ((k i : ℕ) → stands' k i ≡ cond (is_pair n (id_of row) k i) true (stands k i)) → AreFiled key stands m → AreFiled key stands' (put_by_id row m)
+filed_put key stands stands' row n m is new update filed k i =
     update k i ∙ step (id_of row == i) refl ∙ ap (is_keyed key k) (sym (row_at-put row i m new))
   where
-    here : (id_of row == i) ≡ true → is_listed pairs k i ≡ false
+    here : (id_of row == i) ≡ true → stands k i ≡ false
     here e = filed k i ∙ ap (is_keyed key k) (absent_at (id_of row) i m new e)
 
     own : (n == k) ≡ (key row == k)
     own = ap (λ (j : ℕ). j == k) is
 
-    at_id : (a : Bool) → a ≡ (key row == k) → is_listed pairs k i ≡ false → cond (a && true) true (is_listed pairs k i) ≡ (key row == k)
+    at_id : (a : Bool) → a ≡ (key row == k) → stands k i ≡ false → cond (a && true) true (stands k i) ≡ (key row == k)
     at_id true e h = e
     at_id false e h = h ∙ e
 
-    elsewhere : (a : Bool) → cond (a && false) true (is_listed pairs k i) ≡ is_listed pairs k i
+    elsewhere : (a : Bool) → cond (a && false) true (stands k i) ≡ stands k i
     elsewhere true = refl
     elsewhere false = refl
 
-    step : (b : Bool) → (id_of row == i) ≡ b → cond ((n == k) && b) true (is_listed pairs k i) ≡ is_keyed key k (cond b (Some row) (row_at i m))
+    step : (b : Bool) → (id_of row == i) ≡ b → cond ((n == k) && b) true (stands k i) ≡ is_keyed key k (cond b (Some row) (row_at i m))
     step true e = at_id (n == k) own (here e)
     step false e = elsewhere (n == k) ∙ filed k i
 
 -- what a key has where the row of an id is known
-pub filed_off : (key : Row → ℕ) (pairs pairs' : List (ℕ × ℕ)) (row : Row) (n : ℕ) (m m' : ByIds) → n ≡ key row
-    → ((k i : ℕ) → is_listed pairs' k i ≡ cond (is_pair n (id_of row) k i) false (is_listed pairs k i))
-    → row_at (id_of row) m ≡ Some row → ((i : ℕ) → row_at i m' ≡ cond (id_of row == i) no_row (row_at i m)) → AreFiled key pairs m → AreFiled key pairs' m'
-filed_off key pairs pairs' row n m m' is update there gone filed k i =
+pub filed_off : (key : Row → ℕ) (stands stands' : ℕ → ℕ → Bool) (row : Row) (n : ℕ) (m m' : ByIds) → n ≡ key row
+    → ((k i : ℕ) → stands' k i ≡ cond (is_pair n (id_of row) k i) false (stands k i))
+    → row_at (id_of row) m ≡ Some row → ((i : ℕ) → row_at i m' ≡ cond (id_of row == i) no_row (row_at i m)) → AreFiled key stands m → AreFiled key stands' m'
+filed_off key stands stands' row n m m' is update there gone filed k i =
     update k i ∙ step (id_of row == i) refl ∙ ap (is_keyed key k) (sym (gone i))
   where
-    here : (id_of row == i) ≡ true → is_listed pairs k i ≡ (key row == k)
+    here : (id_of row == i) ≡ true → stands k i ≡ (key row == k)
     here e = filed k i ∙ ap (λ (j : ℕ). is_keyed key k (row_at j m)) (sym (eqb-true (id_of row) i e)) ∙ ap (is_keyed key k) there
 
     own : (n == k) ≡ (key row == k)
     own = ap (λ (j : ℕ). j == k) is
 
-    at_id : (a : Bool) → a ≡ (key row == k) → is_listed pairs k i ≡ (key row == k) → cond (a && true) false (is_listed pairs k i) ≡ false
+    at_id : (a : Bool) → a ≡ (key row == k) → stands k i ≡ (key row == k) → cond (a && true) false (stands k i) ≡ false
     at_id true e h = refl
     at_id false e h = h ∙ sym e
 
-    elsewhere : (a : Bool) → cond (a && false) false (is_listed pairs k i) ≡ is_listed pairs k i
+    elsewhere : (a : Bool) → cond (a && false) false (stands k i) ≡ stands k i
     elsewhere true = refl
     elsewhere false = refl
 
-    step : (b : Bool) → (id_of row == i) ≡ b → cond ((n == k) && b) false (is_listed pairs k i) ≡ is_keyed key k (cond b no_row (row_at i m))
+    step : (b : Bool) → (id_of row == i) ≡ b → cond ((n == k) && b) false (stands k i) ≡ is_keyed key k (cond b no_row (row_at i m))
     step true e = at_id (n == k) own (here e)
     step false e = elsewhere (n == k) ∙ filed k i
 
 -- a row is taken out
-pub filed_drop : (key : Row → ℕ) (pairs pairs' : List (ℕ × ℕ)) (row : Row) (n : ℕ) (m : ByIds) → n ≡ key row
-    → ((k i : ℕ) → is_listed pairs' k i ≡ cond (is_pair n (id_of row) k i) false (is_listed pairs k i))
-    → row_at (id_of row) m ≡ Some row → AreFiled key pairs m → AreFiled key pairs' (without_id (id_of row) m)
-filed_drop key pairs pairs' row n m is update there filed =
-    filed_off key pairs pairs' row n m (without_id (id_of row) m) is update there (λ i. row_at-without (id_of row) i m) filed
+pub filed_drop : (key : Row → ℕ) (stands stands' : ℕ → ℕ → Bool) (row : Row) (n : ℕ) (m : ByIds) → n ≡ key row
+    → ((k i : ℕ) → stands' k i ≡ cond (is_pair n (id_of row) k i) false (stands k i))
+    → row_at (id_of row) m ≡ Some row → AreFiled key stands m → AreFiled key stands' (without_id (id_of row) m)
+filed_drop key stands stands' row n m is update there filed =
+    filed_off key stands stands' row n m (without_id (id_of row) m) is update there (λ i. row_at-without (id_of row) i m) filed
 
 undone_at : (row : Row) (i : ℕ) (m : ByIds) → has_id (id_of row) m ≡ false → row_at i m ≡ cond (id_of row == i) no_row (row_at i (put_by_id row m))
 undone_at row i m new = step (id_of row == i) refl
@@ -122,15 +123,15 @@ undone_at row i m new = step (id_of row == i) refl
     step false e = sym (put_other i row m e)
 
 -- a row that was put is taken out again
-pub filed_undone : (key : Row → ℕ) (pairs pairs' : List (ℕ × ℕ)) (row : Row) (n : ℕ) (m : ByIds) → n ≡ key row → has_id (id_of row) m ≡ false
-    → ((k i : ℕ) → is_listed pairs' k i ≡ cond (is_pair n (id_of row) k i) false (is_listed pairs k i))
-    → AreFiled key pairs (put_by_id row m) → AreFiled key pairs' m
-filed_undone key pairs pairs' row n m is new update filed =
-    filed_off key pairs pairs' row n (put_by_id row m) m is update (put_found row m new) (λ i. undone_at row i m new) filed
+pub filed_undone : (key : Row → ℕ) (stands stands' : ℕ → ℕ → Bool) (row : Row) (n : ℕ) (m : ByIds) → n ≡ key row → has_id (id_of row) m ≡ false
+    → ((k i : ℕ) → stands' k i ≡ cond (is_pair n (id_of row) k i) false (stands k i))
+    → AreFiled key stands (put_by_id row m) → AreFiled key stands' m
+filed_undone key stands stands' row n m is new update filed =
+    filed_off key stands stands' row n (put_by_id row m) m is update (put_found row m new) (λ i. undone_at row i m new) filed
 
 -- a row at an id that isn't listed has another key
-pub other_key : (key : Row → ℕ) (pairs : List (ℕ × ℕ)) (m : ByIds) (k i : ℕ) (row : Row) → AreFiled key pairs m → is_listed pairs k i ≡ false → row_at i m ≡ Some row → (key row == k) ≡ false
-other_key key pairs m k i row filed none there = sym (ap (is_keyed key k) there) ∙ sym (filed k i) ∙ none
+pub other_key : (key : Row → ℕ) (stands : ℕ → ℕ → Bool) (m : ByIds) (k i : ℕ) (row : Row) → AreFiled key stands m → stands k i ≡ false → row_at i m ≡ Some row → (key row == k) ≡ false
+other_key key stands m k i row filed none there = sym (ap (is_keyed key k) there) ∙ sym (filed k i) ∙ none
 
 -- a row with another key has another name
 pub other_name : (row : Row) (name : Text) → (key_of_row row == name_key name) ≡ false → same_text row.name name ≡ false
@@ -151,10 +152,10 @@ other_own k name r e = step (is_of k.0 r) (has_name name r) e
 
 -- no wanted row stands where none is found
 pub not_wanted : (r : Register) (m : ByIds) (w : Wanted) (i : ℕ) (row : Row) → IsRegister r m → is_found r w i ≡ false → row_at i m ≡ Some row → wants w (i, row) ≡ false
-not_wanted r m (Named name) i row is none there = other_name row name.now (other_key key_of_row r.names.pairs.keys m (name_key name.now) i row is.names none there)
+not_wanted r m (Named name) i row is none there = other_name row name.now (other_key key_of_row (is_listed r.names.pairs.keys) m (name_key name.now) i row is.names none there)
 not_wanted r m (Own session name) i row is none there =
-    other_own session name.now (i, row) (other_name row name.now (other_key key_of_row r.names.pairs.keys m (name_key name.now) i row is.names none there))
-not_wanted r m (Of session) i row is none there = other_key session_of_row r.sessions.pairs.keys m session.0 i row is.sessions none there
+    other_own session name.now (i, row) (other_name row name.now (other_key key_of_row (is_listed r.names.pairs.keys) m (name_key name.now) i row is.names none there))
+not_wanted r m (Of session) i row is none there = other_key session_of_row (is_noted r.sessions.blocks.entries) m session.0 i row is.sessions none there
 
 -- a row stands where one is found
 pub is_there : (r : Register) (m : ByIds) (w : Wanted) (i : ℕ) → IsRegister r m → is_found r w i ≡ true → (row : Row) × (row_at i m ≡ Some row)

@@ -1,4 +1,6 @@
 pub mod Pairs
+mod MarkedBits
+mod Blocks
 pub mod Filed
 pub mod Firsts
 pub mod SoFar

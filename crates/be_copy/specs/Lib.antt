@@ -1,4 +1,5 @@
 pub mod Places
+pub mod Bitmaps
 pub mod Keys
 pub mod Copied
 pub mod Edits

@@ -12,6 +12,7 @@ use Rattle.be_copy.specs.declared.wanted.Wanted.{Wanted}
 use Rattle.be_copy.specs.declared.wanted.Wanted.TheVariants.{Named, Own, Of}
 use Rattle.be_copy.specs.Keys.{name_key}
 use Rattle.be_copy.specs.Places.{is_listed}
+use Rattle.be_copy.specs.Bitmaps.{is_noted}
 use Rattle.be_copy.specs.Wanted.{wants}
 
 abbrev pub session_of_row : Row → ℕ
@@ -26,18 +27,18 @@ is_keyed key k None = false
 is_keyed key k (Some row) = key row == k
 
 -- each row's id stands under its key, and nothing else stands there
-abbrev pub AreFiled : (Row → ℕ) → List (ℕ × ℕ) → ByIds → Type 0
-AreFiled key pairs m = (k i : ℕ) → is_listed pairs k i ≡ is_keyed key k (row_at i m)
+abbrev pub AreFiled : (Row → ℕ) → (ℕ → ℕ → Bool) → ByIds → Type 0
+AreFiled key stands m = (k i : ℕ) → stands k i ≡ is_keyed key k (row_at i m)
 
 pub record IsRegister (r : Register) (m : ByIds) : Type 0 where
-  pub sessions : AreFiled session_of_row r.sessions.pairs.keys m
-  pub names : AreFiled key_of_row r.names.pairs.keys m
+  pub sessions : AreFiled session_of_row (is_noted r.sessions.blocks.entries) m
+  pub names : AreFiled key_of_row (is_listed r.names.pairs.keys) m
 
 -- whether an id stands under the session, or the name, of the wanted rows
 abbrev pub is_found : Register → Wanted → ℕ → Bool
 is_found r (Named name) i = is_listed r.names.pairs.keys (name_key name.now) i
 is_found r (Own session name) i = is_listed r.names.pairs.keys (name_key name.now) i
-is_found r (Of session) i = is_listed r.sessions.pairs.keys session.0 i
+is_found r (Of session) i = is_noted r.sessions.blocks.entries session.0 i
 
 -- each row is that of the Sub at the place that is its id
 abbrev pub AreOfList : List Entry → ByIds → Type 0

@@ -151,7 +151,7 @@ fn take_in<I: Index>(
     if !may_take(log, index, change) {
         return Ok(StepDone::NotHere);
     }
-    log.reserve(1)?;
+    log.make_room(change)?;
     let kept = Arc::try_clone(change)?;
     change_rows(log, index, register, change)?;
     append(log, kept);

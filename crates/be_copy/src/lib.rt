@@ -5,17 +5,22 @@
 //! a look at others. It stands on be_change and be_index. Begin reading at specs/Edits and src/copies.rt.
 #![tactic(auto)]
 
+mod bitmaps;
 mod copies;
 mod edits;
 mod hits;
 mod keys;
 mod live;
+mod marks;
 mod places;
 mod reads;
 mod register;
 mod tails;
 mod wanted;
 
+pub use bitmaps::Bitmaps;
 pub use copies::Copy2;
 pub use edits::Edit;
 pub use places::Places;
+pub use register::Register;
+pub use wanted::Wanted;

@@ -7,6 +7,7 @@ ghost use Rattle.be_copy.specs.Places.{IsLeast};
 ghost use Rattle.be_copy.specs.Registers.{IsRegister, is_found};
 ghost use Rattle.be_copy.specs.Wanted.{key_of};
 
+use crate::bitmaps::Bitmaps;
 use crate::keys::name_key;
 use crate::places::Places;
 use crate::wanted::Wanted;
@@ -18,7 +19,7 @@ use std::alloc::Global;
 /// have the same number.
 #[derive(Drop)]
 pub struct Register {
-    pub sessions: Places,
+    pub sessions: Bitmaps,
     pub names: Places,
 }
 
@@ -28,7 +29,7 @@ impl Register {
         ensures { IsRegister result [] }
     {
         Register {
-            sessions: Places::make(alloc),
+            sessions: Bitmaps::make(alloc),
             names: Places::make(alloc),
         }
     }

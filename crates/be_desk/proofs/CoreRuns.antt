@@ -28,7 +28,8 @@ use Rattle.be_model.specs.declared.paths.Step.{Step}
 use Rattle.be_desk.specs.Core.{world, opening, asking, asked, accepting, all_nothing, Runs, IsAhead, StandsByRecord, IsRunOfCore}
 use Rattle.be_desk.proofs.Answering.{change_is}
 use Rattle.be_desk.proofs.Draws.{present_at}
-use Rattle.be_desk.proofs.CoreSteps.{settled, Heard, seen_again, not_strictly, run_more, looked_whole, next_is, next_asks, split_asks, named_free, found_at, same_some, accepted_by, taken_next, told_settled, told_held}
+use Rattle.be_desk.proofs.CoreSteps.{settled, Heard, seen_again, not_strictly, run_more, looked_whole, next_is, next_asks, split_asks, named_free, accepted_by, taken_next, told_settled, told_held}
+use Rattle.be_desk.proofs.Named.{found_at, same_some}
 
 -- the held change is published first, where there is one
 opened : (d : DeskState) (k seen : ℕ) → IsHeld d.published d.list → (u : State) (acts : List Deed) (xs : List CoreReply) → run (settled d.list k seen) acts ≡ (u, xs)

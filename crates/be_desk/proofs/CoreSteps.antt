@@ -9,17 +9,15 @@ use Rattle.be_model.specs.declared.changes.Row.{Row}
 use Rattle.be_model.specs.Matching.{Assignments}
 use Rattle.be_model.specs.ByIds.{Rising, row_at}
 use Rattle.be_change.specs.History.{Text, Entry, subscribed, unsubscribed, left, session_of, serial_of, entries_of, has_left, live, hits, is_of, is_live_name, MayFollow, IsWellFormed}
-use Rattle.be_change.specs.Walk.{HasNameAt}
-use Rattle.be_change.proofs.Free.{name_at_one}
 use Rattle.be_change.proofs.Grows.{rising_live}
-use Rattle.be_change.proofs.Names.{live_differ, found_live, unsub_loses_one}
+use Rattle.be_change.proofs.Names.{found_live, unsub_loses_one}
 use Rattle.be_core.specs.Acts.{Deed, asks, reads, tells}
 use Rattle.be_core.specs.World.{Seen, seen_by, having_seen, State, state, is_pending_of, is_entry_of, is_ahead, is_deaf, is_bye, is_next_of, named, after_change, split, shown, taken, parted, looked, change_next, subscribe as subscribing, unsubscribe as unsubscribing, step, after_acts, replies, run}
 use Rattle.be_core.specs.declared.acts.CoreReply.{CoreReply}
 use Rattle.be_core.specs.declared.acts.CoreReply.TheVariants as core
-use Rattle.be_core.proofs.Naming.{named_none, named_at}
+use Rattle.be_core.proofs.Naming.{named_at}
 use Rattle.be_desk.specs.Core.{asking}
-use Rattle.be_desk.proofs.Named.{row_at-middle}
+use Rattle.be_desk.proofs.Named.{row_at-middle, found_at, same_some}
 use Rattle.be_desk.proofs.Records.{get_last}
 
 -- a list of which all is published, and one session, which has seen so much
@@ -117,26 +115,6 @@ named_free h name free = by_row (named name (live h)) refl
     by_row : (o : Option (ℕ × Row)) → named name (live h) ≡ o → named name (live h) ≡ None
     by_row None is = is
     by_row (Some r) is = absurd (both_ways (is_live_name name (live h)) free (found_live (live h) r.0 name (named_at name (live h) r (rising_live h) is).1))
-
--- the row that a name finds
-pub record Found (h : List Entry) (id : ℕ) (name : Text) : Type 0 where
-  pub row : ℕ × Row
-  pub named_so : named name (live h) ≡ Some row
-  pub id_is : row.0 ≡ id
-  pub stands : row_at id (live h) ≡ Some row.1
-
-pub found_at : (h : List Entry) (id : ℕ) (name : Text) → IsWellFormed h → HasNameAt (live h) id name → Found h id name
-found_at h id name formed there = by_row (named name (live h)) refl
-  where
-    by_row : (o : Option (ℕ × Row)) → named name (live h) ≡ o → Found h id name
-    by_row None is = absurd (both_ways (is_live_name name (live h)) (named_none name (live h) is) (found_live (live h) id name there))
-    by_row (Some r) is =
-        let at = named_at name (live h) r (rising_live h) is in
-        let same : r.0 ≡ id = name_at_one (live h) r.0 id name (live_differ h formed) at.1 there in
-        record { row = r; named_so = is; id_is = same; stands = subst (λ (i : ℕ). row_at i (live h) ≡ Some r.1) same at.0 }
-
-pub same_some : (a b : Row) → Some a ≡ Some b → a ≡ b
-same_some a b e = cc
 
 -- the name of an Unsub that may follow finds a row of its session
 own_found : (h : List Entry) (k n : ℕ) (name : Text) → IsWellFormed h → MayFollow h (unsubscribed k n name) → (r : ℕ × Row) × (named name (live h) ≡ Some r) × (is_of k r ≡ true)

@@ -1,5 +1,4 @@
 mod Named
-mod Counting
 mod Filing
 mod Leaving
 mod StandSteps
@@ -9,7 +8,6 @@ mod Offered
 mod Fetched
 mod Emptied
 mod Desks
-mod Ledgers
 mod Draws
 mod Answering
 mod CoreSteps

@@ -1,18 +1,16 @@
--- How long a look for a step is put off.
+-- How long the next look for a step is put off.
 use Rattle.std.specs.Prelude.{◌≡◌, ℕ, zero, suc, ◌*◌, ◌≤◌, length, None}
-use Rattle.be_base.specs.Counts.{last_count}
 use Rattle.be_change.specs.History.{live}
 use Rattle.be_desk.specs.Desks.{DeskState}
 use Rattle.be_desk.specs.Maintained.{IsTended}
-use Rattle.be_desk.specs.declared.patience.TheConstants.{ROWS_RESHAPED, WORK_A_TEND}
+use Rattle.be_desk.specs.declared.patience.TheConstants.{LOOK_ROWS, ROWS_RESHAPED, WORK_A_TEND}
 
 -- so many tends came one after another, and nothing was due at any of them
 abbrev pub AreNotDue : ℕ → DeskState → DeskState → Type 0
 AreNotDue zero d d' = d' ≡ d
 AreNotDue (suc n) d d' = (between : DeskState) × AreNotDue n d between × IsTended between d' None
 
--- where enough rows are live for a look, there are no more of them than these rows allow. They are no more than a count can say
+-- where enough rows are live for a look, there are no more of them than it takes to earn one
 abbrev pub TendsComeDue : Type 0
 TendsComeDue =
-    (n : ℕ) (d d' : DeskState) → ROWS_RESHAPED ≤ length (live d.list) → length (live d.list) ≤ last_count → AreNotDue n d d'
-    → n * WORK_A_TEND ≤ length (live d.list)
+    (n : ℕ) (d d' : DeskState) → ROWS_RESHAPED ≤ length (live d.list) → AreNotDue n d d' → n * WORK_A_TEND ≤ LOOK_ROWS

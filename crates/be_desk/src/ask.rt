@@ -10,3 +10,10 @@ pub enum Ask {
     Unsubscribe { name: Name },
     Leave,
 }
+
+impl Ask {
+    // Whether it takes rows out.
+    pub(crate) fn takes_out(&self) -> bool {
+        !matches!(self, Ask::Subscribe { .. })
+    }
+}

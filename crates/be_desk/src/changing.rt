@@ -54,6 +54,33 @@ impl<T: Sheet<J>, J: Naming + BoxNames> Desk<T, J> {
         ensures formed { IsWellFormed seat.new.glass.known }
         ensures core { IsRunOfCore self.old self.new seat.old seat.new (request_of ask) result }
     {
+        if !ask.takes_out() {
+            return self.change_now(rt, alloc, seat, ask);
+        }
+        self.held.open();
+        let answer = self.change_now(rt, alloc, seat, ask);
+        self.held.close();
+        answer
+    }
+
+    fn change_now<R: Wait>(
+        &mut self,
+        rt: &R,
+        alloc: Global,
+        seat: &mut Seat<T, J>,
+        ask: Ask,
+    ) -> Answer
+        requires present { is_over seat.old ≡ false }
+        requires lies { ask_lies J.schema ask ≡ true }
+        ensures changed { Changed self.old self.new seat.old seat.new (request_of ask) result }
+        ensures counts { Counts seat.old seat.new result }
+        ensures seat { Continues seat.old seat.new }
+        ensures steps { LeavesSteps self.old self.new result }
+        ensures patience { Earns self.old self.new result }
+        ensures answers { Answers (word_of seat.old) (word_of seat.new) (request_of ask) result }
+        ensures formed { IsWellFormed seat.new.glass.known }
+        ensures core { IsRunOfCore self.old self.new seat.old seat.new (request_of ask) result }
+    {
         // That at most one change is held, and then that the list is well formed, comes to light at the desk's length.
         let _ = self.len();
         let answer = self.decide(rt, alloc, seat, ask);
@@ -136,7 +163,7 @@ impl<T: Sheet<J>, J: Naming + BoxNames> Desk<T, J> {
     {
         let change = match ask {
             Ask::Subscribe { name, conj } => self.draw_sub(alloc, seat, name, conj)?,
-            Ask::Unsubscribe { name } => self.draw_unsub(seat, name)?,
+            Ask::Unsubscribe { name } => self.draw_unsub(alloc, seat, name)?,
             Ask::Leave => self.draw_bye(seat),
         };
         Arc::new(alloc, change).map_err(|_| Answer::NoMemory)
@@ -164,6 +191,9 @@ impl<T: Sheet<J>, J: Naming + BoxNames> Desk<T, J> {
             Some((id, _)) => return Err(Answer::Dup { m, id }),
             None => {}
         }
+        if !self.ledger.may_grow(alloc) {
+            return Err(Answer::NoMemory);
+        }
         let row = Row {
             id: Id(m),
             session: seat.session,
@@ -180,12 +210,12 @@ impl<T: Sheet<J>, J: Naming + BoxNames> Desk<T, J> {
         }
     }
 
-    fn draw_unsub(&self, seat: &Seat<T, J>, name: Name) -> Result<Change, Answer>
+    fn draw_unsub(&self, alloc: Global, seat: &Seat<T, J>, name: Name) -> Result<Change, Answer>
         requires agrees { Agrees self.now seat.now }
         requires few { serial_in seat.now < 2 ^ 63 }
         ensures may { IfOk result (λ c. MayAppend J.schema self.now.list (entry_of c)) }
         ensures named { IfOk result (λ c. change_named seat.now.session (serial_in seat.now) (length self.now.list) (asked.unsubscribe name) ≡ entry_of c ∷ []) }
-        ensures refused { IfErr result (λ a. IsRefusal self.now.list seat.now.session (asked.unsubscribe name) a) }
+        ensures refused { IfErr result (λ a. (a ≢ Answer.NoMemory) → IsRefusal self.now.list seat.now.session (asked.unsubscribe name) a) }
     {
         let m = self.press.len();
         match self.ledger.named(&name) {
@@ -194,11 +224,10 @@ impl<T: Sheet<J>, J: Naming + BoxNames> Desk<T, J> {
                 if owner.0 != seat.session.0 {
                     return Err(Answer::Other { m, id });
                 }
-                Ok(Change::Unsub {
-                    session: seat.session,
-                    serial: seat.serial,
-                    name,
-                })
+                match Change::removal(alloc, seat.session, seat.serial, name) {
+                    Ok(change) => Ok(change),
+                    Err(NoMemory) => Err(Answer::NoMemory),
+                }
             }
         }
     }

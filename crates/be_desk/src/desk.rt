@@ -16,7 +16,7 @@ use crate::ledger::Ledger;
 use crate::patience::Patience;
 use crate::rift::Rift;
 use crate::seat::Seat;
-use be_base::{NoMemory, SessionNo};
+use be_base::{NoMemory, Reserve, SessionNo};
 use be_change::ChangeLog;
 use be_mail::BoxNames;
 use be_published::{Glass, Naming, Press, Sheet};
@@ -36,6 +36,8 @@ pub struct Desk<T: Sheet<J>, J: Naming + BoxNames> {
     pub(crate) seats: u32,
     // What was earned towards the next look for a step.
     pub(crate) patience: Patience,
+    // For removals and leaves.
+    pub(crate) held: Reserve,
 }
 
 impl<T: Sheet<J>, J: Naming + BoxNames> Model for Desk<T, J> {
@@ -118,6 +120,7 @@ impl<T: Sheet<J>, J: Naming + BoxNames> Desk<T, J> {
             ledger,
             seats: _,
             patience: _,
+            held: _,
         } = self;
         press.end(rt);
         ledger.into_log()

@@ -13,7 +13,7 @@ ghost use Rattle.be_desk.specs.Stands.{AreStands};
 
 use crate::register::Register;
 use crate::stands::Stands;
-use be_base::{Id, Name, NoMemory, SessionNo};
+use be_base::{Name, NoMemory, REMOVALS_KEPT, SessionNo};
 use be_change::ChangeLog;
 use be_copy::Edit;
 use be_model::Change;
@@ -21,6 +21,9 @@ use be_published::{Naming, Press, Sheet};
 use std::alloc::Global;
 use std::marker::Model;
 use std::sync::Arc;
+
+/// For how many places there has to be memory, for each place of a list that doubles beside two others.
+const PLACES_TO_GROW: usize = 6;
 
 /// A list of changes, with a register of its live names and a table of its sessions' stands. Contracts see the list.
 #[derive(Drop)]
@@ -89,15 +92,8 @@ impl Ledger {
     pub fn named(&self, name: &Name) -> Option<(u64, SessionNo)>
         ensures { MatchOption result (named name.now (live self.now) ≡ None) (λ r. IsNamed name.now (live self.now) r.0 r.1.0) }
     {
-        match self.register.named(name) {
-            None => None,
-            Some(id) => {
-                let Some(row) = self.list.row(Id(id)) else {
-                    unreachable!();
-                };
-                Some((id, row.session))
-            }
-        }
+        let (id, row) = self.register.named(&self.list, name)?;
+        Some((id, row.session))
     }
 
     /// How many rows are live.
@@ -106,6 +102,17 @@ impl Ledger {
         ensures { result ≡ length (live self.now) }
     {
         self.register.len()
+    }
+
+    /// Whether a subscription makes no list grow, or there is memory for this one and for those of both copies, which grow with it. A
+    /// copy that can't take in what was accepted would hold up all changes. No clause says so, since none knows how much memory there is.
+    pub fn may_grow(&self, alloc: Global) -> bool {
+        if REMOVALS_KEPT < self.list.spare() {
+            return true;
+        }
+        let mut probe: Vec<u64> = Vec::new(alloc);
+        let places = self.list.len() as usize * PLACES_TO_GROW;
+        probe.reserve_exact(places).is_ok()
     }
 
     /// Puts a change last here and in the history behind the press, or in neither.
@@ -121,7 +128,7 @@ impl Ledger {
         ensures same { press.new.list ≡ self.new }
         ensures published { (press.new.published ≡ press.old.published) × (press.new.reshaped ≡ press.old.reshaped) × (press.new.steps ≡ press.old.steps) }
     {
-        self.list.reserve(1)?;
+        self.list.make_room(&change)?;
         let kept = Arc::try_clone(&change)?;
         enter(&mut self.register, &mut self.stands, &self.list, &kept)?;
         match press.append(Edit::Change(change)) {
@@ -142,7 +149,7 @@ impl Ledger {
         requires follows { MayFollow self.old (entry_of (arc_value change)) }
         ensures list { MatchResult result (λ _. self.new ≡ self.old ++ entry_of (arc_value change) ∷ []) (λ _. self.new ≡ self.old) }
     {
-        self.list.reserve(1)?;
+        self.list.make_room(&change)?;
         enter(&mut self.register, &mut self.stands, &self.list, &change)?;
         put_last(&mut self.list, &mut self.register, change);
         Ok(())
@@ -165,11 +172,11 @@ fn enter(
 {
     // That the list is short enough comes to light at its length.
     let _ = list.len();
-    register.prepare(change)?;
+    register.prepare(list, change)?;
     match stands.put(change) {
         Ok(()) => Ok(()),
         Err(NoMemory) => {
-            register.undo(change);
+            register.undo(list, change);
             Err(NoMemory)
         }
     }
@@ -183,7 +190,7 @@ fn take_back(register: &mut Register, stands: &mut Stands, list: &ChangeLog, cha
     requires follows { MayFollow list.now.list (entry_of change.now) }
     ensures { IsLedger list.now.list register.new stands.new }
 {
-    register.undo(change);
+    register.undo(list, change);
     stands.take_back(change);
 }
 

@@ -30,7 +30,7 @@ pub use broom::Broom;
 pub use desk::{Desk, SESSIONS_END};
 pub use maintained::Maintained;
 pub use opening::{make_desk, open_desk};
-pub use patience::{ROWS_RESHAPED, WORK_A_CHANGE, WORK_A_TEND};
+pub use patience::{LOOK_ROWS, ROWS_RESHAPED, WORK_A_CHANGE, WORK_A_TEND};
 pub use rift::Rift;
 pub use seat::Seat;
 pub use stray::Stray;

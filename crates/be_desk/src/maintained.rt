@@ -3,12 +3,12 @@
 ghost use Rattle.std.specs.Prelude.{◌≡◌, ◌≤◌, ◌<◌, length, IfOk, IfSome, MatchBool};
 ghost use Rattle.be_base.specs.Counts.{raised};
 ghost use Rattle.be_change.specs.History.{live};
-ghost use Rattle.be_desk.specs.Desks.{freed};
-ghost use Rattle.be_desk.specs.Maintained.{IsByPlan, IsDue, IsMaintained, IsPutOff, IsTended, OnStep};
+ghost use Rattle.be_desk.specs.Desks.{freed, HasHeld};
+ghost use Rattle.be_desk.specs.Maintained.{IsByLook, IsByPlan, IsDue, IsLookedOn, IsMaintained, IsPutOff, IsTended, OnStep};
 
 use crate::broom::Broom;
 use crate::desk::Desk;
-use crate::patience::WORK_A_TEND;
+use crate::patience::{LOOK_ROWS, WORK_A_TEND};
 use be_base::{NoMemory, NoRead};
 use be_copy::Edit;
 use be_mail::BoxNames;
@@ -23,7 +23,7 @@ pub enum Maintained {
     Freed { n: u64 },
     /// The published copies were reshaped by this step.
     Stepped { step: Step },
-    /// There is nothing to reshape.
+    /// No step was found.
     Idle,
     /// The desk's reader was refused an entry.
     Shut,
@@ -31,23 +31,24 @@ pub enum Maintained {
 }
 
 impl<T: Sheet<J>, J: Naming + BoxNames> Desk<T, J> {
-    /// What a worker calls between two replies. Where something is pending, or a look for a step was earned by the changes and
-    /// tends since the last one, and enough rows are live for one, it maintains the desk; else it looks at nothing. It may wait for
-    /// readers.
+    /// What a worker calls between two replies. It publishes what is pending. Where no change was held, a look for a step was earned by
+    /// the changes and tends since the last one, and enough rows are live for one, it makes the step that the desk's reader
+    /// finds by looking on among some of the rows. Else it looks at nothing. It may wait for readers.
     pub fn tend<R: Wait>(&mut self, rt: &R, broom: &mut Broom) -> Option<Maintained>
         ensures broom { broom.new ≡ raised 1 broom.old }
         ensures done { IsTended self.old self.new result }
-        ensures plan { IfSome result (IsByPlan T.list T.planned T.mark_of self.old self.new) }
+        ensures look { IfSome result (IsByLook T.list T.can_step self.old self.new) }
     {
+        broom.calls = broom.calls.saturating_add(1);
         self.patience.earn(WORK_A_TEND);
         if !self.is_due() {
-            broom.calls = broom.calls.saturating_add(1);
             return None;
         }
-        if !self.press.has_changes() {
-            self.patience.spend();
+        if self.press.has_changes() {
+            return Some(self.publish_held(rt));
         }
-        Some(self.maintain(rt, broom))
+        self.patience.spend();
+        Some(self.look_on(rt))
     }
 
     fn is_due(&self) -> bool
@@ -83,6 +84,38 @@ impl<T: Sheet<J>, J: Naming + BoxNames> Desk<T, J> {
             return Maintained::Freed { n };
         }
         match self.glass.plan() {
+            Ok(Some(step)) => self.reshape(rt, step),
+            Ok(None) => Maintained::Idle,
+            Err(NoRead::Shut) => Maintained::Shut,
+            Err(NoRead::NoMemory) => Maintained::NoMemory,
+        }
+    }
+
+    // Publishes the change that is held.
+    fn publish_held<R: Wait>(&mut self, rt: &R) -> Maintained
+        requires { HasHeld self.old }
+        ensures done { IsMaintained self.old self.new result }
+        ensures look { IsByLook T.list T.can_step self.old self.new result }
+    {
+        match self.free(rt) {
+            Ok(()) => Maintained::Freed {
+                n: self.press.len(),
+            },
+            Err(NoMemory) => Maintained::NoMemory,
+        }
+    }
+
+    // Publishes the steps that are pending, and makes the one that a look of the desk's reader finds.
+    fn look_on<R: Wait>(&mut self, rt: &R) -> Maintained
+        requires { self.old.published ≡ self.old.list }
+        ensures done { IsLookedOn self.old self.new result }
+        ensures look { IsByLook T.list T.can_step self.old self.new result }
+    {
+        match self.free(rt) {
+            Err(NoMemory) => return Maintained::NoMemory,
+            Ok(()) => {}
+        }
+        match self.glass.look_on(LOOK_ROWS) {
             Ok(Some(step)) => self.reshape(rt, step),
             Ok(None) => Maintained::Idle,
             Err(NoRead::Shut) => Maintained::Shut,

@@ -16,7 +16,7 @@ use crate::desk::Desk;
 use crate::ledger::Ledger;
 use crate::patience::Patience;
 use crate::seat::Seat;
-use be_base::{NoMemory, SessionNo};
+use be_base::{NoMemory, Reserve, SessionNo};
 use be_index::Index;
 use be_mail::{BoxNames, MailPasses};
 use be_model::{Change, Row};
@@ -90,6 +90,7 @@ pub fn open_desk<I: Index, J: Naming + BoxNames, R: Wait>(
                 ledger,
                 seats,
                 patience: Patience::make(),
+                held: Reserve::make(alloc),
             };
             Ok((desk, all))
         }

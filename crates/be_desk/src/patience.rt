@@ -1,16 +1,19 @@
-//! How long a desk waits before it looks for a step.
+//! How long a desk waits before it looks on for a step.
 
 ghost use Rattle.std.specs.Prelude.{◌≡◌, ◌≤◌, ◌↔◌, IsTrue};
 ghost use Rattle.be_base.specs.Counts.{raised};
 
 use std::marker::Model;
 
-/// What an accepted change earns towards the next look for a step, which goes through all live rows and costs 1 for each: the looks
-/// that changes earn take about a tenth of the time that the changes take.
+/// A look for a step goes through about so many rows, and costs as much.
+pub const LOOK_ROWS: u64 = 4096;
+
+/// What an accepted change earns towards the next look: the looks that changes earn take about a tenth of the time that the
+/// changes take.
 pub const WORK_A_CHANGE: u64 = 8;
 
-/// What a tend earns: without any change, a look comes after a quarter as many tends as there are live rows, where
-/// these are enough for a look.
+/// What a tend earns: without any change, a look comes after a quarter as many tends as a look goes through rows, where
+/// enough rows are live for one.
 pub const WORK_A_TEND: u64 = 4;
 
 /// A tend looks for no step where fewer rows are live: a split made in a small tree stays while it grows, and makes it dear to
@@ -45,11 +48,11 @@ impl Patience {
         self.credit = self.credit.saturating_add(work);
     }
 
-    /// Whether so many rows are enough for a look, and a look through them was earned.
+    /// Whether so many rows are enough for a look, and a look was earned.
     pub fn has_earned(&self, rows: u64) -> bool
-        ensures { IsTrue result ↔ ((ROWS_RESHAPED ≤ rows) × (rows ≤ self.now)) }
+        ensures { IsTrue result ↔ ((ROWS_RESHAPED ≤ rows) × (LOOK_ROWS ≤ self.now)) }
     {
-        ROWS_RESHAPED <= rows && rows <= self.credit
+        ROWS_RESHAPED <= rows && LOOK_ROWS <= self.credit
     }
 
     pub fn spend(&mut self)

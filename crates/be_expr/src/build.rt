@@ -26,6 +26,7 @@ pub fn build(alloc: Global, schema: &Schema, text: &[u8]) -> Result<Conj, NoMemo
         conj.push(pred)?;
         left = read_end(rest).unwrap();
     }
+    conj.fit();
     Ok(conj)
 }
 

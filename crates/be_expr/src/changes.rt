@@ -50,7 +50,7 @@ fn read_kind(
     if front.kind == b"SUB".as_slice() {
         read_sub(alloc, schema, text, id, session, front.serial)
     } else if front.kind == b"UNSUB".as_slice() {
-        read_unsub(text, session, front.serial)
+        read_unsub(alloc, text, session, front.serial)
     } else if front.kind == b"BYE".as_slice() {
         read_bye(text, session, front.serial)
     } else {
@@ -104,17 +104,18 @@ fn sub(alloc: Global, stamp: Stamp, name: Name, conj: Conj) -> Result<Change, No
     }
 }
 
-fn read_unsub(text: &[u8], session: SessionNo, serial: u64) -> Result<Change, ExprFault>
+fn read_unsub(
+    alloc: Global,
+    text: &[u8],
+    session: SessionNo,
+    serial: u64,
+) -> Result<Change, ExprFault>
     ensures exact { Reads (entry_read result) (option_map_or (removal session.0 serial) (tokens text.now) (Err ExprFault.Bad)) }
     ensures lies { IfOk result (λ change. is_row_free (entry_of change) ≡ true) }
 {
     match read_word(text) {
         Some((word, rest)) if is_end(rest) => match Name::read(word) {
-            Ok(name) => Ok(Change::Unsub {
-                session,
-                serial,
-                name,
-            }),
+            Ok(name) => Ok(Change::removal(alloc, session, serial, name)?),
             Err(_) => Err(ExprFault::Bad),
         },
         _ => Err(ExprFault::Bad),

@@ -1,9 +1,12 @@
 //! A list that follows a leader's, with an index of what is live in it.
 
-ghost use Rattle.std.specs.Prelude.{◌≡◌, [], length, true, OnOk, OnErr};
+ghost use Rattle.std.specs.Prelude.{◌≡◌, ◌++◌, [], length, true, OnOk, OnErr};
 ghost use Rattle.be_model.specs.ByIds.{rows_of};
 ghost use Rattle.be_model.specs.Lies.{event_lies};
+ghost use Rattle.be_change.specs.Entries.{entries_in};
 ghost use Rattle.be_change.specs.History.{hit_rows, IsWellFormed};
+ghost use Rattle.be_change.specs.Sound.{Sound};
+ghost use Rattle.be_change.specs.Walk.{tail_from};
 
 use crate::feed_list::FeedList;
 use crate::fitting::{stand_by, stays_open};
@@ -59,6 +62,18 @@ impl<I: Index> Followed<I> {
         ensures form { IsWellFormed self.now.list }
     {
         self.copy.log().len()
+    }
+
+    /// Appends the changes from a place on, at most `max`, or none.
+    pub fn tail(&self, from: u64, max: u64, changes: &mut Vec<Arc<Change>>) -> Result<(), NoMemory>
+        ensures put { OnOk result (entries_in changes.new.items ≡ entries_in changes.old.items ++ tail_from from max self.now.list) }
+        ensures refused { OnErr result (changes.new.items ≡ changes.old.items) }
+        ensures sound { Sound (I.schema self.now.index) self.now.list }
+    {
+        // That the list is well formed and lies in the schema comes to light here.
+        let _ = self.len();
+        let _ = self.copy.log();
+        self.copy.tail(from, max, changes)
     }
 
     /// Finds the live rows that the event satisfies, by rising id.

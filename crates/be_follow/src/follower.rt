@@ -2,9 +2,13 @@
 
 ghost use Rattle.std.specs.Prelude.{◌≡◌, ℕ, ◌++◌, [], List, length, true, IfSome, OnOk, OnErr};
 ghost use Rattle.std.specs.Arc.{arc_value};
+ghost use Rattle.be_base.specs.Lists.{BeginsWith};
 ghost use Rattle.be_model.specs.ByIds.{rows_of};
 ghost use Rattle.be_model.specs.Lies.{event_lies};
+ghost use Rattle.be_change.specs.Entries.{entries_in};
 ghost use Rattle.be_change.specs.History.{hit_rows, IsWellFormed};
+ghost use Rattle.be_change.specs.Sound.{Sound};
+ghost use Rattle.be_change.specs.Walk.{tail_from};
 ghost use Rattle.be_follow.specs.Followers.{new_follower, Follows, taken_of, Tells};
 
 use crate::faults::FeedFault;
@@ -12,7 +16,7 @@ use crate::followed::Followed;
 use crate::intake::Intake;
 use be_base::NoMemory;
 use be_index::Index;
-use be_model::{Event, Found, Schema};
+use be_model::{Change, Event, Found, Schema};
 use std::alloc::Global;
 use std::marker::Model;
 use std::sync::Arc;
@@ -56,6 +60,8 @@ impl<I: Index> Follower<I> {
         ensures follows { (bytes : List ℕ) → Follows bytes self.old → Follows (bytes ++ taken_of piece.now result) self.new }
         ensures tells { Tells self.new.fed piece.now result }
         ensures schema { self.new.schema ≡ self.old.schema }
+        // The list only grows.
+        ensures grows { BeginsWith self.new.fed.list self.old.fed.list }
         // Behind a faulty line nothing changes.
         ensures stays { IfSome self.old.fed.fault (λ kind. self.new ≡ self.old) }
     {
@@ -78,6 +84,15 @@ impl<I: Index> Follower<I> {
         ensures form { IsWellFormed self.now.fed.list }
     {
         self.followed.len()
+    }
+
+    /// Appends the changes from a place on, at most `max`, or none.
+    pub fn tail(&self, from: u64, max: u64, changes: &mut Vec<Arc<Change>>) -> Result<(), NoMemory>
+        ensures put { OnOk result (entries_in changes.new.items ≡ entries_in changes.old.items ++ tail_from from max self.now.fed.list) }
+        ensures refused { OnErr result (changes.new.items ≡ changes.old.items) }
+        ensures sound { Sound self.now.schema self.now.fed.list }
+    {
+        self.followed.tail(from, max, changes)
     }
 
     /// Finds the live rows that the event satisfies, by rising id.

@@ -2,6 +2,7 @@
 
 ghost use Rattle.std.specs.Prelude.{◌≡◌, ℕ, ◌<◌, ◌≤◌, ◌++◌, [], List, length, take, true, false, None, IfSome, IfOk, IfErr, OnOk, OnErr};
 ghost use Rattle.std.specs.Arc.{arc_value};
+ghost use Rattle.be_base.specs.Lists.{BeginsWith};
 ghost use Rattle.be_io.specs.Lines.{has_lf};
 ghost use Rattle.be_change.specs.History.{Entry};
 ghost use Rattle.be_follow.specs.Feeds.{TakesLine};
@@ -71,6 +72,8 @@ impl Intake {
         ensures follows { (bytes : List ℕ) → Follows bytes (with_list (F.list list.old) self.old) → Follows (bytes ++ taken_of piece.now result) (with_list (F.list list.new) self.new) }
         ensures tells { Tells (fed_with (F.list list.new) self.new) piece.now result }
         ensures schema { (self.new.schema ≡ self.old.schema) × (F.schema list.new ≡ self.old.schema) }
+        // The list only grows.
+        ensures grows { BeginsWith (F.list list.new) (F.list list.old) }
         // Behind a faulty line nothing changes.
         ensures stays { IfSome self.old.fault (λ kind. (self.new ≡ self.old) × (F.list list.new ≡ F.list list.old)) }
     {
@@ -103,6 +106,7 @@ impl Intake {
         ensures wanting { IfErr result (λ w. (w.taken < length piece.now) × (self.new.fault ≡ None)
             × ((bytes : List ℕ) → Follows bytes (with_list (F.list list.old) self.old) → Follows (bytes ++ take w.taken piece.now) (with_list (F.list list.new) self.new))) }
         ensures schema { (self.new.schema ≡ self.old.schema) × (F.schema list.new ≡ self.old.schema) }
+        ensures grows { BeginsWith (F.list list.new) (F.list list.old) }
         ensures stays { IfSome self.old.fault (λ kind. (self.new ≡ self.old) × (F.list list.new ≡ F.list list.old)) }
     {
         if self.fault.is_some() {

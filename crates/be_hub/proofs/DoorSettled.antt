@@ -2,7 +2,7 @@
 use Rattle.std.proofs.Common.{◌≡◌, ℕ, ◌+◌, inl, inr, List, sum_by, sym, ap, ◌∙◌, subst, arith}
 use Rattle.be_base.specs.Counts.{raised, HasRisenBy}
 use Rattle.be_door.specs.Counts.{CountState, with_counts, all_kept}
-use Rattle.be_door.specs.Door.{DoorState, after_try, after_listen, after_settle}
+use Rattle.be_door.specs.Door.{DoorState, after_listen, after_settle}
 use Rattle.be_door.specs.Sums.{no_sums}
 use Rattle.be_door.specs.declared.sums.Sums.{Sums}
 use Rattle.be_hub.specs.declared.close.CloseFault.{CloseFault}

@@ -121,15 +121,15 @@ pub transcript_of : (s : Attributes) (z : ℕ) (h : List Entry) (shuts : Bool) (
     → z ≤ length seat.glass.known → (shuts ≡ false → seat'.glass.shuts ≡ 0) → IsTranscript s seat.session z h shuts file out
 transcript_of s z h shuts file out seat seat' end f read keeps within quiet = by_end end f.session read
   where
-    by_end : (x : SessionEnd) → SessionEnds ((seat' ≡ seat) × (out ≡ [])) s (file_link file) f.after (board_of s 0 seat) (board_of s f.tends seat') x → IsRead x → IsTranscript s seat.session z h shuts file out
+    by_end : (x : SessionEnd) → SessionEnds ((seat' ≡ seat) × (out ≡ [])) s (file_link file) f.after (board_of s 0 seat) (board_of s 0 seat') x → IsRead x → IsTranscript s seat.session z h shuts file out
     by_end Eof e is =
-        transcript_from s z h shuts file out e.lines None (file_link file).sink f.after.sink (board_of s 0 seat) (board_of s f.tends seat')
+        transcript_from s z h shuts file out e.lines None (file_link file).sink f.after.sink (board_of s 0 seat) (board_of s 0 seat')
         (inl (told_end file f.after.source.left e.lines e.read, has_no_quit s e.lines e.replied.exchanges e.replied.asked e.replied.ends))
         e.replied (all_plain e.replied.exchanges e.replied.ends) refl f.wrote keeps within quiet
     by_end Quit e is =
         let r = e.replied in
         let asked = subst (λ (ps : List Exchange). requests ps ≡ map (reading s) e.lines) r.ends.2 r.asked in
-        transcript_from s z h shuts file out e.lines (Some Quit) (file_link file).sink f.after.sink (board_of s 0 seat) (board_of s f.tends seat')
+        transcript_from s z h shuts file out e.lines (Some Quit) (file_link file).sink f.after.sink (board_of s 0 seat) (board_of s 0 seat')
         (inr (told_first file f.after.source.left e.lines e.read, quits_at s e.lines r.ends.0 r.ends.1 asked r.ends.3 r.ends.4))
         r (subst (λ (ps : List Exchange). list_all plain ps ≡ true) (sym r.ends.2) (all_plain_last r.ends.0 r.ends.1 r.ends.3 r.ends.4)) refl f.wrote keeps within quiet
     by_end (Split i j) e is = absurd is
@@ -175,7 +175,7 @@ some_rise n before after rise some = omega (arith, rise, some)
 pub end_of_file : (s : Attributes) (file out : List ℕ) (seat seat' : SeatState) (end : SessionEnd) → FileServed s file seat seat' out end → IsEndOf seat' end
 end_of_file s file out seat seat' end f = record { quiet = f.quiet; counted = by_end end f.session }
   where
-    by_end : (x : SessionEnd) → SessionEnds ((seat' ≡ seat) × (out ≡ [])) s (file_link file) f.after (board_of s 0 seat) (board_of s f.tends seat') x → is_split_end x ≡ true → 0 < seat'.splits
+    by_end : (x : SessionEnd) → SessionEnds ((seat' ≡ seat) × (out ≡ [])) s (file_link file) f.after (board_of s 0 seat) (board_of s 0 seat') x → is_split_end x ≡ true → 0 < seat'.splits
     by_end Eof e is = absurd cc
     by_end Quit e is = absurd cc
     by_end (Split i j) e is =

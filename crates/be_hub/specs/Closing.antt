@@ -1,10 +1,13 @@
 -- What the close gives, and why it gives none.
-use Rattle.std.specs.Prelude.{◌≡◌, ℕ, ◌<◌, List, length, All, Any}
+use Rattle.std.specs.Prelude.{◌≡◌, ℕ, ◌<◌, List, length, map, All, Any}
 use Rattle.atomic_table.specs.Seated.{TableId}
 use Rattle.be_base.specs.Lists.{BeginsWith}
 use Rattle.be_change.specs.History.{Entry, IsWellFormed}
 use Rattle.be_mail.specs.Letters.{seat_of}
+use Rattle.be_mail.specs.Mailbox.{BoxId, Mailbox}
+use Rattle.be_mail.specs.Settled.{AreKept, TakenWerePut}
 use Rattle.be_board.specs.Word.{Keeps}
+use Rattle.be_model.specs.Schemas.{Attributes}
 use Rattle.be_desk.specs.Numbers.{Numbers, numbers}
 use Rattle.be_desk.specs.Rifts.{numbers_of}
 use Rattle.be_desk.specs.Seats.{SeatState, word_of, IsKeptSeat}
@@ -16,6 +19,12 @@ use Rattle.be_hub.specs.declared.close.CloseFault.TheVariants.{Split, Stray, NoM
 -- for each session that the seat may have, the list keeps its word
 abbrev pub KeepsAll : List TableId → List Entry → SeatState → Type 0
 KeepsAll boxes h s = (k : ℕ) → 0 < k → seat_of (length boxes) k ≡ s.passes.seat → Keeps h (record (word_of s) { session = k })
+
+-- what the mail shows of the letters of all seats: of what a seat put into a mailbox, the letters that were taken out and then those
+-- that are left there are, in order, all, each once; and a seat took no letter that none put into its mailbox
+pub record AreInOrder (schema : Attributes) (count : ℕ) (found : BoxId → Mailbox → Type 0) (boxes : List TableId) (seats : List SeatState) : Type 0 where
+  pub kept : AreKept schema count found boxes (map (λ (s : SeatState). s.passes) seats)
+  pub taken : TakenWerePut (map (λ (s : SeatState). s.passes) seats)
 
 -- the seat's reader, shown what is published, knows no more than that
 pub record IsShown (boxes : List TableId) (published : List Entry) (s : SeatState) : Type 0 where

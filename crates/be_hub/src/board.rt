@@ -17,25 +17,33 @@ use be_published::{Naming, Sheet};
 use std::alloc::Global;
 use std::sync::{Arc, MutexGuard, Wait};
 
-/// A seat at the shared desk. Its reads and its letters take no lock; its changes take that of the desk.
+/// A seat at the shared desk. Its reads and its letters take no lock; its changes take that of the desk. It tends the desk only
+/// where `TENDS` isn't 0.
 #[derive(Drop)]
-pub struct DeskBoard<'a, T: Sheet<J>, J: Naming + BoxNames, S: Post, R: Wait> {
+pub struct DeskBoard<'a, T: Sheet<J>, J: Naming + BoxNames, S: Post, R: Wait, const TENDS: u8> {
     rt: &'a R,
     hub: &'a Hub<T, J, S>,
     seat: Seat<T, J>,
     broom: Broom,
-    // Whether the desk is tended when it is.
-    tends: bool,
+    // Where it tends nothing its count is 0.
+    ghost still: { TENDS ≡ 0 → broom ≡ 0 },
 }
 
-impl<'a, T: Sheet<J>, J: Naming + BoxNames, S: Post, R: Wait> DeskBoard<'a, T, J, S, R> {
+impl<'a, T: Sheet<J>, J: Naming + BoxNames, S: Post, R: Wait, const TENDS: u8> DeskBoard<
+    'a,
+    T,
+    J,
+    S,
+    R,
+    TENDS,
+> {
     pub(crate) fn make(
         rt: &'a R,
         hub: &'a Hub<T, J, S>,
         seat: Seat<T, J>,
         broom: Broom,
-        tends: bool,
-    ) -> DeskBoard<'a, T, J, S, R>
+    ) -> DeskBoard<'a, T, J, S, R, TENDS>
+        requires still { TENDS ≡ 0 → broom ≡ 0 }
         ensures seat { result.seat ≡ seat }
         ensures broom { result.broom ≡ broom }
     {
@@ -44,20 +52,19 @@ impl<'a, T: Sheet<J>, J: Naming + BoxNames, S: Post, R: Wait> DeskBoard<'a, T, J
             hub,
             seat,
             broom,
-            tends,
         }
     }
 
     pub(crate) fn take(self) -> (Seat<T, J>, Broom)
         ensures seat { result.0 ≡ self.entry.seat }
         ensures broom { result.1 ≡ self.entry.broom }
+        ensures still { TENDS ≡ 0 → result.1 ≡ 0 }
     {
         let DeskBoard {
             rt: _,
             hub: _,
             seat,
             broom,
-            tends: _,
         } = self;
         (seat, broom)
     }
@@ -78,7 +85,8 @@ impl<'a, T: Sheet<J>, J: Naming + BoxNames, S: Post, R: Wait> DeskBoard<'a, T, J
     }
 }
 
-impl<'a, T: Sheet<J>, J: Naming + BoxNames, S: Post, R: Wait> Board for DeskBoard<'a, T, J, S, R> {
+impl<'a, T: Sheet<J>, J: Naming + BoxNames, S: Post, R: Wait, const TENDS: u8> Board
+    for DeskBoard<'a, T, J, S, R, TENDS> {
     ghost use Rattle.be_desk.specs.Boards.{board_of};
 
     ghost state = { λ b. board_of J.schema b.broom b.seat };
@@ -135,7 +143,7 @@ impl<'a, T: Sheet<J>, J: Naming + BoxNames, S: Post, R: Wait> Board for DeskBoar
     }
 
     fn tend(&mut self) {
-        if self.tends {
+        if TENDS > 0 {
             // That the count isn't past its type's end comes to light here.
             let _ = self.broom.calls();
             let hub = self.hub;

@@ -7,7 +7,7 @@ ghost use Rattle.be_mail.specs.Settled.{AreAll};
 ghost use Rattle.be_desk.specs.Closing.{AreRecorded};
 ghost use Rattle.be_desk.specs.Desks.{IsOpened};
 ghost use Rattle.be_desk.specs.Rifts.{numbers_of};
-ghost use Rattle.be_hub.specs.Closing.{KeepsAll, IsShown, IsAhead, IsLate, IsFault, IsRefused};
+ghost use Rattle.be_hub.specs.Closing.{KeepsAll, AreInOrder, IsShown, IsAhead, IsLate, IsFault, IsRefused};
 
 use crate::hub::Hub;
 use be_change::ChangeLog;
@@ -47,6 +47,7 @@ impl<T: Sheet<J>, J: Naming + BoxNames, S: Post> Hub<T, J, S> {
         ensures opened { IfOk result (λ closed. IsOpened J.opening closed.log.list) }
         ensures keeps { IfOk result (λ closed. All (KeepsAll J.boxes closed.log.list) seats.items) }
         ensures recorded { IfOk result (λ closed. AreRecorded (length closed.log.list) closed.log.list seats.items) }
+        ensures letters { IfOk result (λ _. AreInOrder S.schema S.seats S.found J.boxes seats.items) }
         ensures fault { IfErr result (λ fault. IsRefused J.opening J.boxes seats.items fault) }
     {
         let Hub {
@@ -83,6 +84,7 @@ fn compare<T: Sheet<J>, J: Naming + BoxNames, S: Post, R: Wait>(
     ensures begins { BeginsWith desk.now.list desk.now.published }
     ensures keeps { IfOk result (λ _. All (KeepsAll J.boxes desk.now.list) seats.items) }
     ensures recorded { IfOk result (λ _. AreRecorded (length desk.now.list) desk.now.list seats.items) }
+    ensures letters { IfOk result (λ _. AreInOrder S.schema S.seats S.found J.boxes seats.items) }
     ensures fault { IfErr result (λ fault. IsFault J.boxes desk.now.published desk.now.list seats.items fault) }
 {
     // That the list is well formed comes to light at its length.

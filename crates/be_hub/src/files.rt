@@ -36,7 +36,7 @@ pub struct FileRun<T: Sheet<J>, J: Naming + BoxNames> {
     pub broom: Broom,
 }
 
-// Serves a file as a session.
+// Serves a file as a session. The desk is left to the maintainer.
 fn serve_file<T: Sheet<J>, J: Naming + BoxNames, S: Post, R: Wait, G: Gate>(
     rt: &R,
     alloc: Global,
@@ -49,7 +49,7 @@ fn serve_file<T: Sheet<J>, J: Naming + BoxNames, S: Post, R: Wait, G: Gate>(
     ensures { FileServed J.schema job.task.items job.seat result.seat result.transcript.items result.end }
 {
     let Job { seat, task, worker } = job;
-    let mut board = DeskBoard::make(rt, hub, seat, Broom::make(), false);
+    let mut board = DeskBoard::<T, J, S, R, 0>::make(rt, hub, seat, Broom::make());
     let mut link = Pair {
         source: FileSource::make(alloc, task),
         sink: Transcript::make(alloc),

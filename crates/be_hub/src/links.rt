@@ -183,7 +183,7 @@ fn serve_session<T: Sheet<J>, J: Naming + BoxNames, S: Post, R: Wait, L: Link, G
     ensures { SessionServed J.schema seat result.seat (link_state L.Source L.Sink link) (link_state L.Source L.Sink result.link) result.end broom result.broom }
 {
     let mut link = link;
-    let mut board = DeskBoard::make(rt, hub, seat, broom, true);
+    let mut board = DeskBoard::<T, J, S, R, 1>::make(rt, hub, seat, broom);
     let end = serve_link(alloc, &hub.schema, &mut board, &mut link, gate, worker);
     let (seat, broom) = board.take();
     Visit {

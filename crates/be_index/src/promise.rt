@@ -15,7 +15,7 @@ ghost use Rattle.be_index.specs.Promise.{IsMap};
 
 use crate::hits::Hits;
 use be_base::{NoMemory, SessionNo};
-use be_model::{Cost, Event, Found, Row, Step, StepDone};
+use be_model::{Cost, Event, Found, Path, Row, Step, StepDone};
 use std::sync::Arc;
 
 /// Rows of one schema by their ids.
@@ -128,4 +128,10 @@ pub trait Index: Drop {
     fn plan(&self) -> Result<Option<Step>, NoMemory>
         ensures plan { IfOk result (λ step. step ≡ planned self.now) }
         ensures stands { IfSome (planned self.now) (λ step. can_step self.now step ≡ true) };
+
+    /// A step that stands, where one is found among those of about so many rows. The look begins at a place among the rows, or at the
+    /// first where there is none, and leaves the place where the next one begins: none, where it came to the last.
+    fn look_on(&self, from: &mut Option<Path>, most: u64) -> Result<Option<Step>, NoMemory>
+        ensures stands { IfOk result (λ found. IfSome found (λ step. can_step self.now step ≡ true)) }
+        ensures refused { OnErr result (from.new ≡ from.old) };
 }

@@ -14,7 +14,7 @@ use crate::hits::Hits;
 use crate::promise::Index;
 use crate::wanted::Wanted;
 use be_base::{NoMemory, SessionNo};
-use be_model::{Cost, Event, Found, Row, Schema, Step, StepDone};
+use be_model::{Cost, Event, Found, Path, Row, Schema, Step, StepDone};
 use std::alloc::Global;
 use std::collections::BTreeMap;
 use std::marker::Model;
@@ -116,6 +116,10 @@ impl Index for ListIndex {
     }
 
     fn plan(&self) -> Result<Option<Step>, NoMemory> {
+        Ok(None)
+    }
+
+    fn look_on(&self, _from: &mut Option<Path>, _most: u64) -> Result<Option<Step>, NoMemory> {
         Ok(None)
     }
 }

@@ -196,13 +196,17 @@ module _ {L : Type 0} (told : L → LinkState) {E : Type 0} (glass_in : E → Gl
       (subst (λ b. AreKept told b (count_in e).kept here.links.served) here.is_of.1 here.links.kept_are)
       (all_are_kept es (All-tail Served e es w)))
 
+  -- all links that were given out came back
+  pub all_back : (ends : List E) → All Served ends → (with_counts no_sums (map count_in ends)).back ≡ (with_counts no_sums (map count_in ends)).given
+  all_back ends w = ap (λ n. 0 + n) (sums_same (λ (c : CountState L). c.back) (λ (c : CountState L). c.given) (map count_in ends)
+      (All-map (λ (c : CountState L). c.back ≡ c.given) count_in ends (All-weaker Served (λ e. (count_in e).back ≡ (count_in e).given) (λ e x. sym x.all_back) ends w)))
+
   pub links_are_read : (h : List Entry) (shuts : Bool) (links : ℕ) (ends : List E) → All Served ends → All (IsSeen h shuts) ends → (with_counts no_sums (map count_in ends)).refused ≡ 0
       → (with_counts no_sums (map count_in ends)).given + (with_counts no_sums (map count_in ends)).failed ≡ links → LinksAreRead told s h shuts links (with_counts no_sums (map count_in ends)) door.keeps (all_kept (map count_in ends))
   links_are_read h shuts links ends w seen none_refused all_links =
       let counts = map count_in ends in
       record {
-        back = ap (λ n. 0 + n) (sums_same (λ (c : CountState L). c.back) (λ (c : CountState L). c.given) counts
-            (All-map (λ (c : CountState L). c.back ≡ c.given) count_in ends (All-weaker Served (λ e. (count_in e).back ≡ (count_in e).given) (λ e x. sym x.all_back) ends w)));
+        back = all_back ends w;
         all = all_links;
         none_refused = none_refused;
         failed = λ some_failed. some_raised _

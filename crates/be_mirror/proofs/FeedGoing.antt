@@ -1,5 +1,5 @@
 -- A feed goes on by one more piece.
-use Rattle.std.proofs.Common.{◌≡◌, ℕ, ◌-◌, ◌≤◌, List, [], ◌++◌, length, take, drop, length-append, length-take, length-drop, Result, Ok, Err, Option, Some, None, refl, sym, ◌∙◌, subst, arith}
+use Rattle.std.proofs.Common.{◌≡◌, ℕ, ◌-◌, ◌<◌, ◌≤◌, List, [], ◌++◌, length, take, drop, length-append, length-take, length-drop, Result, Ok, Err, Option, Some, None, refl, sym, ◌∙◌, subst, arith}
 use Rattle.be_base.specs.Counts.{HasRisen, HasRisenBy, RisesBy}
 use Rattle.be_base.specs.declared.limits.TheConstants.{SOURCE_BYTES}
 use Rattle.be_io.specs.Source.{SourceState}
@@ -8,8 +8,9 @@ use Rattle.be_model.specs.Schemas.{Attributes}
 use Rattle.be_follow.specs.Feeds.{Fed, Means}
 use Rattle.be_follow.specs.Followers.{FollowerState, Follows}
 use Rattle.be_protocol.specs.Conversation.{TakesWithin}
+use Rattle.be_protocol.proofs.LinesGoing.{rises-along}
 use Rattle.be_mirror.specs.Feeding.{IsFed}
-use Rattle.be_mirror.specs.Serving.{Feeds, FeedEnds}
+use Rattle.be_mirror.specs.Serving.{Feeds, FeedEnds, IsFew, IsShort}
 use Rattle.be_mirror.specs.declared.feeding.FeedEnd.{FeedEnd}
 use Rattle.be_mirror.specs.declared.feeding.FeedEnd.TheVariants as feed
 
@@ -50,13 +51,28 @@ ends_on before middle after bytes taken feed.Spent f given same rise e = (e.0, s
 ends_on before middle after bytes taken feed.NoMemory f given same rise e = absurd e
 
 -- what was taken, and why no more was
-pub feeds : (s : Attributes) (before after : SourceState) (end : FeedEnd) (f : FollowerState) → IsFed s before after f → FeedEnds before after end f.fed → Feeds s before after end f.fed
-feeds s before after end f fed ends = record {
+pub feeds : (s : Attributes) (before after : SourceState) (end : FeedEnd) (f : FollowerState) → IsFed s before after f → FeedEnds before after end f.fed → IsShort before after end → Feeds s before after end f.fed
+feeds s before after end f fed ends short = record {
   bytes = fed.bytes;
   given = fed.given;
   means = subst (λ (x : Attributes). Means x fed.bytes f.fed) fed.schema fed.follows.means;
   ends = ends;
+  short = short;
 }
+
+-- less was taken than may be, where some was left of that
+pub few : (left : ℕ) (before after : SourceState) → 0 < left → left ≤ SOURCE_BYTES → RisesBy (SOURCE_BYTES - left) before.taken after.taken → IsFew before after
+few left before after some most rise = (SOURCE_BYTES - left, omega (arith, some, most), rise)
+
+-- an end of a piece leaves a feed short of that
+pub short_on : (left : ℕ) (before middle after : SourceState) (end : FeedEnd) → 0 < left → left ≤ SOURCE_BYTES → RisesBy (SOURCE_BYTES - left) before.taken middle.taken → (end ≡ feed.Ended → RisesBy 0 middle.taken after.taken)
+    → (end ≡ feed.Left → ⊥) → IsShort before after end
+short_on left before middle after feed.Ended some most rise still is_on = few left before after some most (rises-along before.taken middle.taken after.taken (SOURCE_BYTES - left) 0 (SOURCE_BYTES - left) rise (still refl) (omega arith))
+short_on left before middle after feed.Left some most rise still is_on = absurd (is_on refl)
+short_on left before middle after (feed.Bad line kind) some most rise still is_on = tt
+short_on left before middle after feed.ReadFault some most rise still is_on = tt
+short_on left before middle after feed.Spent some most rise still is_on = tt
+short_on left before middle after feed.NoMemory some most rise still is_on = tt
 
 -- so much was taken, where so much was left of what may be
 pub within_all : (left a b : ℕ) → RisesBy (SOURCE_BYTES - left) a b → TakesWithin a b

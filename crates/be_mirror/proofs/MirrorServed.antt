@@ -14,9 +14,11 @@ use Rattle.be_hub.specs.Files.{lacks_memory}
 use Rattle.be_protocol.specs.declared.ends.SessionEnd.{SessionEnd}
 use Rattle.be_published.specs.States.{GlassState}
 use Rattle.be_mirror.specs.Links.{Listened, WorkerServed}
-use Rattle.be_mirror.specs.Serving.{LinksAreRead}
-use Rattle.be_mirror.proofs.AllRead.{links_are_read, all_seen}
-use Rattle.be_mirror.proofs.DoorSettled.{kept_is, keeps_is, all_links}
+use Rattle.be_published.specs.declared.beyond.Beyond.{Beyond}
+use Rattle.be_mirror.specs.Serving.{LinksAreRead, LeavesDoor, IsSomeBeyond}
+use Rattle.be_mirror.specs.declared.serving.MirrorFault.TheVariants as fault
+use Rattle.be_mirror.proofs.AllRead.{links_are_read, all_seen, all_back}
+use Rattle.be_mirror.proofs.DoorSettled.{kept_is, keeps_is, all_links, door_served}
 
 pub no_shade : {X : Type 0} (o : Option X) → is_some o ≡ false → o ≡ None
 no_shade None is = refl
@@ -36,3 +38,17 @@ module _ {L : Type 0} (d d₁ d₂ : DoorState L) (port links workers : ℕ) (is
         subst (λ x. LinksAreRead told s h shuts links x d₂.keeps d₂.kept) (sym sums_are)
         (subst (λ b. LinksAreRead told s h shuts links (with_counts no_sums counts) b d₂.kept) (sym (keeps_is d d₁ d₂ port links workers is counts settled))
         (subst (λ k. LinksAreRead told s h shuts links (with_counts no_sums counts) d₁.keeps k) (sym (kept_is d d₁ d₂ port links workers is counts settled)) base))
+
+    -- where some reader knows more than what is published
+    pub door_left : (published : List Entry) (beyond : Beyond) → IsSomeBeyond published beyond → (ends : List E) → All (λ e. WorkerServed told s d₁ (glass_in e) (count_in e) (ends_in e)) ends
+        → (sums : Sums) → sums ≡ with_counts no_sums (map count_in ends) → sums.refused ≡ 0 → d₂ ≡ after_settle d₁ (map count_in ends) → d₂.given + d₂.failed + d₂.refused ≡ d₂.links
+        → LeavesDoor d d₂ port links workers (fault.Ahead beyond)
+    door_left published beyond some ends w sums sums_are none_refused settled all =
+        let counts = map count_in ends in
+        let refused : (with_counts no_sums counts).refused ≡ 0 = sym (ap (λ (x : Sums). x.refused) sums_are) ∙ none_refused in (
+          (published, some),
+          with_counts no_sums counts,
+          door_served d d₁ d₂ port links workers is counts settled,
+          all_back told glass_in count_in ends_in s d₁ ends w,
+          all_links d d₁ d₂ port links workers is counts settled all refused,
+        )

@@ -49,19 +49,19 @@ same_steps s r reply known known' on grows answers = record {
   };
 }
 
--- a QUIT is told the length of what is known
-pub quit_replies : (s : Attributes) (n : ℕ) (g : GlassState) → n ≡ length g.known → Replies s (quit, bye n) g g
-quit_replies s n g at = record {
+-- a QUIT is told the length of what is known then
+pub quit_replies : (s : Attributes) (n : ℕ) (g g' : GlassState) → BeginsWith g'.known g.known → n ≡ length g'.known → Counts (bye n) g g' → Replies s (quit, bye n) g g'
+quit_replies s n g g' grows at counts = record {
   steps = record {
-    grows = BeginsWith-same g.known;
+    grows = grows;
     borne = λ h w begins seen going. record {
       next = having_ended (having_seen n w);
-      answers = (record { covers = omega (arith, seen, at); within = omega (arith, at, BeginsWith-length h g.known begins) }, refl);
+      answers = (record { covers = omega (arith, seen, at, BeginsWith-length g'.known g.known grows); within = omega (arith, at, BeginsWith-length h g'.known begins) }, refl);
       seen = omega (arith, at);
       ended = refl;
     };
   };
-  counts = refl;
+  counts = counts;
 }
 
 -- a line that asks nothing

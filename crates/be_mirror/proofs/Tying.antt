@@ -2,7 +2,7 @@
 use Rattle.std.proofs.Common.{◌≡◌, inl, inr, ℕ, ◌+◌, Bool, List, [], ◌∷◌, ◌++◌, length, filter, refl, sym, ap, ◌∙◌, subst, arith, length-append}
 use Rattle.std.proofs.lemmas.List.Elements.{filter-append}
 use Rattle.be_base.specs.Counts.{HasRisenBy}
-use Rattle.be_change.specs.Requests.{hit, cost, listed, sent, dumped, tailed, no_memory, shut, Exchange}
+use Rattle.be_change.specs.Requests.{hit, cost, listed, sent, dumped, tailed, bye, no_memory, shut, Exchange}
 use Rattle.be_published.specs.States.{GlassState, one_read}
 use Rattle.be_session.specs.Tied.{is_read, is_shut}
 use Rattle.be_mirror.specs.Reading.{AreTied}
@@ -23,6 +23,8 @@ tied_one (r, sent n put dropped) g g' is = read_tied (r, sent n put dropped) g g
 tied_one (r, dumped n rows) g g' is = read_tied (r, dumped n rows) g g' refl refl is
 tied_one (r, tailed n place entries) g g' is = read_tied (r, tailed n place entries) g g' refl refl is
 tied_one (r, shut) g g' is = record { reads = omega (arith, ap (λ (x : GlassState). x.reads) is); shuts = omega (arith, ap (λ (x : GlassState). x.shuts) is) }
+tied_one (r, bye n) g g' (inl is) = record { reads = omega (arith, ap (λ (x : GlassState). x.reads) is); shuts = omega (arith, ap (λ (x : GlassState). x.shuts) is) }
+tied_one (r, bye n) g g' (inr is) = record { reads = omega (arith, ap (λ (x : GlassState). x.reads) is); shuts = omega (arith, ap (λ (x : GlassState). x.shuts) is) }
 tied_one (r, no_memory) g g' (inl is) = still_tied (r, no_memory) g g' refl refl is
 tied_one (r, no_memory) g g' (inr is) = record { reads = omega (arith, ap (λ (x : GlassState). x.reads) is); shuts = omega (arith, ap (λ (x : GlassState). x.shuts) is) }
 tied_one (r, reply) g g' is = still_tied (r, reply) g g' refl refl is

@@ -1,30 +1,31 @@
 -- What contracts see of the side of a mirror that is fed.
-use Rattle.std.specs.Prelude.{◌≡◌, ℕ, ◌≤◌, List, [], length, Option, Some, None, Result, Ok, Err}
+use Rattle.std.specs.Prelude.{◌≡◌, ℕ, ◌+◌, ◌≤◌, ◌++◌, List, [], length, Option, Some, None, IfSome, Result, Ok, Err}
+use Rattle.be_base.specs.Lists.{BeginsWith}
 use Rattle.be_model.specs.Schemas.{Attributes}
 use Rattle.be_change.specs.History.{Entry}
-use Rattle.be_copy.specs.declared.edits.Edit.{Edit}
-use Rattle.be_published.specs.Notes.{MayEdit, edited}
 use Rattle.be_follow.specs.declared.faults.FeedFault.{FeedFault}
 use Rattle.be_follow.specs.declared.faults.FeedFault.TheVariants.{Bad, NoMemory}
-use Rattle.be_follow.specs.Followers.{FollowerState, new_follower}
+use Rattle.be_follow.specs.Followers as follower
+use Rattle.be_follow.specs.Followers.{FollowerState, Follows, new_follower, taken_of}
 
--- a list, and what is published of it
-pub record FedState : Type 0 where
-  pub list : List Entry
-  pub published : List Entry
+-- a follower took a piece, and the answer says so. Its list only grew, and behind a faulty line nothing changed
+pub record Takes (before after : FollowerState) (piece : List ℕ) (r : Result (Unit {0}) FeedFault) : Type 0 where
+  pub follows : (bytes : List ℕ) → Follows bytes before → Follows (bytes ++ taken_of piece r) after
+  pub tells : follower.Tells after.fed piece r
+  pub schema : after.schema ≡ before.schema
+  pub grows : BeginsWith after.fed.list before.fed.list
+  pub stays : IfSome before.fed.fault (λ kind. after ≡ before)
 
-abbrev pub fed : List Entry → List Entry → FedState
-fed list published = record { list = list; published = published }
+-- the answer for a piece, of the answer for what stands behind its first bytes, so many
+abbrev pub behind : ℕ → Result (Unit {0}) FeedFault → Result (Unit {0}) FeedFault
+behind n (Err (NoMemory taken)) = Err (NoMemory (n + taken))
+behind n (Err (Bad line kind)) = Err (Bad line kind)
+behind n (Ok _) = Ok tt
 
--- the press may take the late change
-abbrev pub MayTake : Attributes → (pressed : List Entry) → Option Edit → Type 0
-MayTake s pressed None = Unit {0}
-MayTake s pressed (Some edit) = MayEdit s pressed edit
-
--- of all changes the press lacks the late one, or none
-abbrev pub Lacks : Attributes → (pressed all : List Entry) → Option Edit → Type 0
-Lacks s pressed all None = all ≡ pressed
-Lacks s pressed all (Some edit) = MayEdit s pressed edit × (all ≡ edited pressed edit)
+-- how much was taken where memory was wanting
+abbrev pub taken_at : FeedFault → Option ℕ
+taken_at (NoMemory taken) = Some taken
+taken_at (Bad line kind) = None
 
 pub record FeederState : Type 0 where
   -- what a follower has that took the same bytes

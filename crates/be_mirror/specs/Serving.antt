@@ -1,6 +1,6 @@
 -- What became of a mirror's feed, and what the links of a door gave and hold, over the list that the feed means.
 use Rattle.std.specs.Prelude.{◌≡◌, ℕ, ◌+◌, ◌<◌, ◌++◌, Bool, true, false, List, [], ◌∷◌, length, map, All, Some, None}
-use Rattle.be_base.specs.Counts.{HasRisen, HasRisenBy}
+use Rattle.be_base.specs.Counts.{HasRisen, HasRisenBy, RisesBy}
 use Rattle.be_base.specs.declared.limits.TheConstants.{SOURCE_BYTES}
 use Rattle.be_base.specs.declared.names.SessionNo.{SessionNo}
 use Rattle.be_io.specs.Outside.{LinkState}
@@ -18,6 +18,8 @@ use Rattle.be_protocol.specs.declared.ends.SessionEnd.TheVariants.{Split, NoMemo
 use Rattle.be_hub.specs.Links.{IsCounted}
 use Rattle.be_hub.specs.Serving.{IsTried, served_door}
 use Rattle.be_hub.specs.Transcripts.{ShutsOnly}
+use Rattle.be_published.specs.Reads.{IsBeyond}
+use Rattle.be_published.specs.declared.beyond.Beyond.{Beyond}
 use Rattle.be_mirror.specs.Asked.{asked}
 use Rattle.be_mirror.specs.Reading.{AreReads}
 use Rattle.be_mirror.specs.declared.feeding.FeedEnd.{FeedEnd}
@@ -44,6 +46,16 @@ FeedEnds before after feed.Spent f = (f.fault ≡ None) × HasRisenBy SOURCE_BYT
 -- memory was wanting to it
 FeedEnds before after feed.NoMemory f = ⊥
 
+-- the input gave less than 2^40 bytes meanwhile
+abbrev pub IsFew : SourceState → SourceState → Type 0
+IsFew before after = (taken : ℕ) × (taken < SOURCE_BYTES) × RisesBy taken before.taken after.taken
+
+-- a feed that came to its end, or was left, has less than 2^40 bytes
+abbrev pub IsShort : SourceState → SourceState → FeedEnd → Type 0
+IsShort before after feed.Ended = IsFew before after
+IsShort before after feed.Left = IsFew before after
+IsShort before after end = Unit {0}
+
 -- these bytes were taken from the input, this is what they mean, and so it ended
 pub record Feeds (s : Attributes) (before after : SourceState) (end : FeedEnd) (f : Fed) : Type 0 where
   pub bytes : List ℕ
@@ -51,6 +63,7 @@ pub record Feeds (s : Attributes) (before after : SourceState) (end : FeedEnd) (
   pub given : WhereTold before.left after.left (λ b a. b ≡ bytes ++ a)
   pub means : Means s bytes f
   pub ends : FeedEnds before after end f
+  pub short : IsShort before after end
 
 -- a conversation of reads over the list. Where no reader was refused an entry no reply says so
 abbrev pub list_terms : Attributes → List Entry → (shuts : Bool) → Terms
@@ -114,6 +127,10 @@ module _ {L : Type 0} (told : L → LinkState) where
     pub len : n ≡ length fed.list
     pub served : LinksAreRead s fed.list shuts links sums keeps kept
 
+-- some reader knows more than what is published
+abbrev pub IsSomeBeyond : List Entry → Beyond → Type 0
+IsSomeBeyond published beyond = (known : List Entry) × IsBeyond known published beyond
+
 module _ {L : Type 0} where
   -- what is known of the door where nothing is given
   abbrev pub LeavesDoor : DoorState L → DoorState L → (port links workers : ℕ) → MirrorFault → Type 0
@@ -121,16 +138,12 @@ module _ {L : Type 0} where
   LeavesDoor before after port links workers fault.Failed =
       HasRisen before.read_faults after.read_faults × (after ≡ record (after_try before port) { read_faults = after.read_faults })
   LeavesDoor before after port links workers fault.NoMemory = IsTried before after port
-  -- all links were served. A reader that is shown what is published knows more than that, and these are the two lengths
-  LeavesDoor before after port links workers (fault.Ahead known published) =
-      (published < known) × (sums : Sums) × (after ≡ served_door before port links workers sums after.kept)
+  -- all links came back. A reader that is shown what is published knows more than that
+  LeavesDoor before after port links workers (fault.Ahead beyond) =
+      ((published : List Entry) × IsSomeBeyond published beyond)
+      × (sums : Sums) × (after ≡ served_door before port links workers sums after.kept) × (sums.back ≡ sums.given) × (sums.given + sums.failed ≡ links)
 
 -- the fault where the door didn't listen
 abbrev pub fault_of_listen : ListenFault → MirrorFault
 fault_of_listen listen.Failed = fault.Failed
 fault_of_listen listen.NoMemory = fault.NoMemory
-
--- a reader knows more than what is published
-abbrev pub IsAhead : MirrorFault → Type 0
-IsAhead (fault.Ahead known published) = published < known
-IsAhead f = ⊥

@@ -3,7 +3,7 @@ use Rattle.std.specs.Prelude.{◌≡◌, ℕ, ◌≤◌, ◌⊎◌, false, List,
 use Rattle.be_base.specs.Lists.{BeginsWith}
 use Rattle.be_model.specs.Schemas.{Attributes}
 use Rattle.be_change.specs.History.{Entry}
-use Rattle.be_change.specs.Requests.{Request, Reply, hit, cost, listed, sent, dumped, tailed, no_memory, shut, Exchange}
+use Rattle.be_change.specs.Requests.{Request, Reply, hit, cost, listed, sent, dumped, tailed, bye, no_memory, shut, Exchange}
 use Rattle.be_change.specs.Walk.{Walk}
 use Rattle.be_published.specs.States.{GlassState, one_shut, one_read}
 use Rattle.be_protocol.specs.Conduct.{Conduct}
@@ -25,7 +25,7 @@ pub record Steps (s : Attributes) (p : Exchange) (known known' : List Entry) : T
   pub borne : (h : List Entry) (w : Walk) → BeginsWith h known' → w.seen ≤ length known → w.ended ≡ false → IsLedOn s h w p known'
 
 -- a reply that tells what a read found was counted as one, and SHUT as an entry that was refused. Memory may be wanting before a
--- read or after it. No other reply leaves a mark
+-- read or after it. A QUIT is told what a read found, or what was known before it was refused. No other reply leaves a mark
 abbrev pub Counts : Reply → GlassState → GlassState → Type 0
 Counts (hit n names) g g' = g' ≡ one_read g'.known g
 Counts (cost n c) g g' = g' ≡ one_read g'.known g
@@ -34,6 +34,7 @@ Counts (sent n put dropped) g g' = g' ≡ one_read g'.known g
 Counts (dumped n rows) g g' = g' ≡ one_read g'.known g
 Counts (tailed n place entries) g g' = g' ≡ one_read g'.known g
 Counts shut g g' = g' ≡ one_shut g
+Counts (bye n) g g' = (g' ≡ one_read g'.known g) ⊎ (g' ≡ one_shut g)
 Counts no_memory g g' = (g' ≡ g) ⊎ (g' ≡ one_read g'.known g)
 Counts _ g g' = g' ≡ g
 

@@ -6,12 +6,12 @@ ghost use Rattle.be_change.specs.Requests as asked;
 ghost use Rattle.be_protocol.specs.Short.{plain_reply, short_of};
 ghost use Rattle.be_mirror.specs.Sessions.{IsTold, Replies};
 
-use crate::room::Room;
 use be_base::{NoMemory, NoRead};
 use be_index::Hits;
 use be_model::{Event, Schema};
 use be_protocol::{Short, write_changes, write_hits, write_rows};
 use be_published::{Glass, Naming, Sheet};
+use be_session::Room;
 
 /// The names of the live rows that the event satisfies.
 pub fn hits<T: Sheet<J>, J: Naming>(
@@ -72,6 +72,16 @@ pub fn tail<T: Sheet<J>, J: Naming>(
     match write_changes(&mut room.reply, schema, n, place, changes) {
         Ok(()) => Ok(()),
         Err(NoMemory) => Err(NoRead::NoMemory),
+    }
+}
+
+/// The length of the published list, or of what is known where the reader is refused an entry.
+pub fn length<T: Sheet<J>, J: Naming>(glass: &mut Glass<T, J>) -> u64
+    ensures { Replies J.schema (asked.quit, asked.bye result) glass.old glass.new }
+{
+    match glass.look() {
+        Some(n) => n,
+        None => glass.front(),
     }
 }
 

@@ -13,7 +13,7 @@ ghost use Rattle.be_protocol.specs.Conversation.{TakesWithin};
 ghost use Rattle.be_published.specs.States.{new_glass};
 ghost use Rattle.be_mirror.specs.Feeders.{new_feeder};
 ghost use Rattle.be_mirror.specs.Links.{Listened, WorkerServed};
-ghost use Rattle.be_mirror.specs.Serving.{Feeds, Mirrors, LeavesDoor, IsAhead, fault_of_listen};
+ghost use Rattle.be_mirror.specs.Serving.{Feeds, Mirrors, LeavesDoor, IsSomeBeyond, fault_of_listen};
 
 use crate::feeder::Feeder;
 use crate::feeding::{FeedEnd, take_feed};
@@ -25,7 +25,7 @@ use be_base::NoMemory;
 use be_door::{Door, DoorCount, Sums};
 use be_io::{Gate, Link, ListenFault, Source};
 use be_model::Schema;
-use be_published::{Glass, Naming, Shade, Sheet};
+use be_published::{Beyond, Glass, Naming, Shade, Sheet};
 use std::alloc::Global;
 use std::sync::atomic::{AtomicBool, Ordering};
 use std::sync::{Arc, Wait};
@@ -45,12 +45,12 @@ pub struct Mirrored {
 }
 
 /// Why nothing is given.
-#[derive(Clone, Copy, Debug, PartialEq, Eq)]
+#[derive(Clone, Copy, Debug)]
 pub enum MirrorFault {
     /// The door can't listen.
     Failed,
-    /// A reader that is shown what is published knows more than that: the two lengths.
-    Ahead { known: u64, published: u64 },
+    /// A reader that is shown what is published knows more than that.
+    Ahead(Beyond),
     NoMemory,
 }
 
@@ -62,6 +62,16 @@ impl From<ListenFault> for MirrorFault {
             ListenFault::Failed => MirrorFault::Failed,
             ListenFault::NoMemory => MirrorFault::NoMemory,
         }
+    }
+}
+
+impl From<Beyond> for MirrorFault {
+    ghost use Rattle.be_mirror.specs.declared.serving.MirrorFault.TheVariants.{Ahead};
+
+    ghost from_gives = { λ beyond given. given ≡ Ahead beyond };
+
+    fn from(beyond: Beyond) -> MirrorFault {
+        MirrorFault::Ahead(beyond)
     }
 }
 
@@ -204,7 +214,7 @@ trait FeedTaker {
     ghost fed: { Self → Fed };
 
     // Takes a feed from the input, until it ends or all links are served.
-    fn take<S: Source, R: Wait>(
+    fn take<S: Source, R: Threads + Wait>(
         &mut self,
         rt: &R,
         alloc: Global,
@@ -228,7 +238,7 @@ impl<T: Sheet<J>, J: Naming> FeedTaker for Feeder<T, J> {
 
     ghost fed = { λ f. f.took.fed };
 
-    fn take<S: Source, R: Wait>(
+    fn take<S: Source, R: Threads + Wait>(
         &mut self,
         rt: &R,
         alloc: Global,
@@ -323,9 +333,9 @@ fn take_beside<R: Threads + Wait + Sync, W: FnMut() -> A + Send, A: Send, F: Fee
 fn show_all<T: Sheet<J>, J: Naming>(
     feeder: &Feeder<T, J>,
     sessions: Vec<Session<T, J>>,
-) -> Result<(), MirrorFault>
+) -> Result<(), Beyond>
     ensures shown { OnOk result (All (λ session. BeginsWith feeder.now.took.fed.list session.known) sessions.items) }
-    ensures ahead { IfErr result IsAhead }
+    ensures beyond { IfErr result (IsSomeBeyond feeder.now.published) }
 {
     for session in sessions {
         show(feeder, session)?;
@@ -333,19 +343,13 @@ fn show_all<T: Sheet<J>, J: Naming>(
     Ok(())
 }
 
-fn show<T: Sheet<J>, J: Naming>(
-    feeder: &Feeder<T, J>,
-    session: Session<T, J>,
-) -> Result<(), MirrorFault>
+fn show<T: Sheet<J>, J: Naming>(feeder: &Feeder<T, J>, session: Session<T, J>) -> Result<(), Beyond>
     ensures shown { OnOk result (BeginsWith feeder.now.took.fed.list session.known) }
-    ensures ahead { IfErr result IsAhead }
+    ensures beyond { IfErr result (IsSomeBeyond feeder.now.published) }
 {
+    // That what is published begins the list comes to light at its length.
+    let _ = feeder.published();
     let mut session = session;
     session.learn(feeder.tell());
-    let known = session.front();
-    let published = feeder.published();
-    if known > published {
-        return Err(MirrorFault::Ahead { known, published });
-    }
-    Ok(())
+    session.within(&feeder.tell())
 }

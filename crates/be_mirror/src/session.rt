@@ -3,25 +3,26 @@
 ghost use Rattle.std.specs.Prelude.{◌≡◌, ◌↔◌, true, length, max, None, OnOk, IfErr};
 ghost use Rattle.std.specs.Arc.{arc_value};
 ghost use Rattle.be_base.specs.Lists.{BeginsWith};
+ghost use Rattle.be_io.specs.Lines as line;
 ghost use Rattle.be_io.specs.Outside.{link_state, sink_state};
 ghost use Rattle.be_change.specs.Sound.{Sound};
 ghost use Rattle.be_protocol.specs.Conduct.{GivesReply};
 ghost use Rattle.be_protocol.specs.Conversation.{TakesWithin, KeepsBeside};
 ghost use Rattle.be_protocol.specs.Short.{plain_reply, short_of};
-ghost use Rattle.be_published.specs.Reads.{Learns};
+ghost use Rattle.be_published.specs.Reads.{Learns, IsBeyond};
 ghost use Rattle.be_session.specs.Saying.{Says, SaysText};
 ghost use Rattle.be_mirror.specs.Asked.{plain_ask, ask_lies};
 ghost use Rattle.be_mirror.specs.Reading.{MirrorSessionEnds};
 ghost use Rattle.be_mirror.specs.Sessions.{mirror_conduct};
 
 use crate::asking::{Ask, read_ask};
-use crate::reads::{cost, dumped, hits, tail};
-use crate::room::Room;
+use crate::reads::{cost, dumped, hits, length, tail};
 use be_base::{NoMemory, NoRead};
 use be_io::{Gate, Link, Sink, write_all};
 use be_model::Schema;
 use be_protocol::{Refusal, Replier, SessionEnd, Short, Turn, converse, say};
-use be_published::{Glass, Naming, Shade, Sheet, Told};
+use be_published::{Beyond, Glass, Naming, Shade, Sheet, Told};
+use be_session::Room;
 use std::alloc::Global;
 use std::marker::Model;
 use std::sync::Arc;
@@ -78,6 +79,14 @@ impl<T: Sheet<J>, J: Naming> Session<T, J> {
         self.glass.learn(told);
     }
 
+    /// Whether it knows no more than what was published when it was told; else the two lengths.
+    pub fn within(&self, told: &Told<J>) -> Result<(), Beyond>
+        ensures within { OnOk result (BeginsWith told.now self.now.known) }
+        ensures beyond { IfErr result (IsBeyond self.now.known told.now) }
+    {
+        self.glass.within(told)
+    }
+
     /// What shows that an entry was refused, where one was.
     pub fn shade(&self) -> Option<Shade>
         ensures { (result ≡ None) ↔ (self.now.shuts ≡ 0) }
@@ -98,6 +107,19 @@ impl<T: Sheet<J>, J: Naming> Session<T, J> {
         ensures beside { KeepsBeside (L.kept_by_read link.old) (L.kept_by_read link.new) }
     {
         converse(self.alloc, self, link, gate, worker)
+    }
+
+    // Answers a line of text.
+    fn answer_text<K: Sink>(&mut self, text: &[u8], out: &mut K) -> Turn
+        ensures gives { let m = mirror_conduct J.schema in
+            GivesReply m (m.asks (line.text text.now)) self.old self.new
+            (sink_state K.Sink out.old) (sink_state K.Sink out.new) result.by result.written }
+        ensures beside { K.kept_by_write out.new ≡ K.kept_by_write out.old }
+    {
+        match read_ask(self.alloc, &self.schema, text) {
+            Ok(ask) => self.reply(ask, out),
+            Err(NoMemory) => tell(out, Short::NoMemory, None),
+        }
     }
 
     // Answers what was asked.
@@ -121,13 +143,10 @@ impl<T: Sheet<J>, J: Naming> Session<T, J> {
                 let built = tail(&self.schema, &mut self.glass, &mut self.room, place, max);
                 tell_built(out, &self.room, built)
             }
-            Ask::Quit => tell(
-                out,
-                Short::Bye {
-                    n: self.glass.front(),
-                },
-                Some(SessionEnd::Quit),
-            ),
+            Ask::Quit => {
+                let n = length(&mut self.glass);
+                tell(out, Short::Bye { n }, Some(SessionEnd::Quit))
+            }
             Ask::Refused(refusal) => tell(out, Short::Refused(refusal), None),
         }
     }
@@ -149,10 +168,9 @@ impl<T: Sheet<J>, J: Naming> Replier for Session<T, J> {
     ghost IsReady = { λ g. Unit {0} };
 
     fn answer<K: Sink>(&mut self, text: &[u8], out: &mut K) -> Turn {
-        match read_ask(self.alloc, &self.schema, text) {
-            Ok(ask) => self.reply(ask, out),
-            Err(NoMemory) => tell(out, Short::NoMemory, None),
-        }
+        let turn = self.answer_text(text, out);
+        self.room.let_go(self.alloc);
+        turn
     }
 
     fn refuse_long<K: Sink>(&mut self, out: &mut K) -> Turn {

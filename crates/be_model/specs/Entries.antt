@@ -15,5 +15,5 @@ pub data Entry : Type 0 where
 
 abbrev pub entry_of : Change → Entry
 entry_of (Sub k n row) = subscribed k.0 n (arc_value row)
-entry_of (Unsub k n name) = unsubscribed k.0 n name
+entry_of (Unsub k n name) = unsubscribed k.0 n name.value
 entry_of (Bye k n) = left k.0 n

@@ -56,6 +56,13 @@ impl Conj {
         Ok(())
     }
 
+    /// Gives back the room behind the last predicate.
+    pub fn fit(&mut self)
+        ensures { self.new ≡ self.old }
+    {
+        self.preds.shrink_to_fit();
+    }
+
     /// Whether no further predicate may be put.
     pub fn is_full(&self) -> bool
         ensures { IsTrue result ↔ (PREDICATES ≤ length self.now) }

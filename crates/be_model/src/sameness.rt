@@ -111,7 +111,7 @@ impl Change {
                     serial: serial_2,
                     name: name_2,
                 },
-            ) => *session == *session_2 && *serial == *serial_2 && *name == *name_2,
+            ) => *session == *session_2 && *serial == *serial_2 && **name == **name_2,
             (
                 Change::Bye { session, serial },
                 Change::Bye {

@@ -31,12 +31,13 @@ use Rattle.be_plan.specs.Law.{NothingStands}
 use Rattle.be_plan.proofs.Firsts.{In}
 use Rattle.be_plan.proofs.Places.{walk_on}
 
-pub found_stands : (p : Step → Bool) (xs : List Step) (step : Step) → find p xs ≡ Some step → p step ≡ true
-found_stands p [] step e = absurd (cc)
-found_stands p (x ∷ xs) step e = by_test (p x) refl e (found_stands p xs step)
+-- what is found passes
+pub found_passes : {X : Type 0} (p : X → Bool) (xs : List X) (y : X) → find p xs ≡ Some y → p y ≡ true
+found_passes p [] y e = absurd (cc)
+found_passes p (x ∷ xs) y e = by_test (p x) refl e (found_passes p xs y)
   where
-    by_test : (b : Bool) → p x ≡ b → cond b (Some x) (find p xs) ≡ Some step → (find p xs ≡ Some step → p step ≡ true) → p step ≡ true
-    by_test true t f on = let same : x ≡ step = cc in ap p (sym same) ∙ t
+    by_test : (b : Bool) → p x ≡ b → cond b (Some x) (find p xs) ≡ Some y → (find p xs ≡ Some y → p y ≡ true) → p y ≡ true
+    by_test true t f on = let same : x ≡ y = cc in ap p (sym same) ∙ t
     by_test false t f on = on f
 
 none_stands : (p : Step → Bool) (xs : List Step) → find p xs ≡ None → list_any p xs ≡ false
@@ -67,7 +68,7 @@ in_front xs ys x h q t = list_any-append q xs ys ∙ or_left (list_any q xs) (li
 in_back : {X : Type 0} (xs ys : List X) (x : X) → In ys x → In (xs ++ ys) x
 in_back xs ys x h q t = list_any-append q xs ys ∙ or_right (list_any q xs) (list_any q ys) (h q t)
 
-any_flat : {X Y : Type 0} (q : Y → Bool) (f : X → List Y) (xs : List X) → list_any q (flat_map f xs) ≡ list_any (λ x. list_any q (f x)) xs
+pub any_flat : {X Y : Type 0} (q : Y → Bool) (f : X → List Y) (xs : List X) → list_any q (flat_map f xs) ≡ list_any (λ x. list_any q (f x)) xs
 any_flat q f [] = refl
 any_flat q f (x ∷ xs) = list_any-append q (f x) (flat_map f xs) ∙ ap (λ b. list_any q (f x) || b) (any_flat q f xs)
 
@@ -210,4 +211,4 @@ module _ (s : Attributes) (alpha : ℕ) (root : Plain) where
       }
 
   pub plan_stands : (step : Step) → plan s alpha root ≡ Some step → stands s step root ≡ true
-  plan_stands step e = found_stands (λ x. stands s x root) (steps s alpha root) step e
+  plan_stands step e = found_passes (λ x. stands s x root) (steps s alpha root) step e

@@ -16,3 +16,4 @@ pub mod Apart
 pub mod FullNodes
 pub mod Seeking
 pub mod Law
+pub mod Looking

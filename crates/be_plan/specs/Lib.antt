@@ -4,3 +4,4 @@ pub mod Merges
 pub mod Shifts
 pub mod Splits
 pub mod Law
+pub mod Looks

@@ -74,7 +74,7 @@ fn look_at_shift(t: &Tree, n: &Node, k: &Spot, path: &Path, best: &mut Best) -> 
     Ok(())
 }
 
-fn look_at_part_split(
+pub(crate) fn look_at_part_split(
     t: &Tree,
     n: &Node,
     k: &Spot,
@@ -95,7 +95,7 @@ fn look_at_part_split(
     Ok(())
 }
 
-fn look_at_half_split(
+pub(crate) fn look_at_half_split(
     t: &Tree,
     n: &Node,
     k: &Spot,
@@ -126,8 +126,8 @@ fn look(t: &Tree, n: &Node, k: &Spot, path: &Path, best: &mut Best) -> Result<()
     look_at_half_split(t, n, k, path, best)
 }
 
-// Looks at a child as one to be merged, and goes down to it.
-fn go_down(
+/// Looks at a child as one to be merged, and goes down to it.
+pub(crate) fn go_down(
     t: &Tree,
     n: &Node,
     full: bool,
@@ -150,8 +150,8 @@ fn go_down(
     Ok(())
 }
 
-// Goes back up the step, to a node of this range.
-fn go_up(hop: Hop, range: NodeRange, k: &mut Spot, path: &mut Path)
+/// Goes back up the step, to a node of this range.
+pub(crate) fn go_up(hop: Hop, range: NodeRange, k: &mut Spot, path: &mut Path)
     requires bounded { is_bounded range ≡ true }
     requires rising { is_rising range ≡ true }
     requires used { CanLeave hop (known_of k.old).used }

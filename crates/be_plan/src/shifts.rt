@@ -20,13 +20,13 @@ use be_model::{Row, Schema};
 use be_score::weight;
 use be_shape::{Leaf, Node, NodeRange, Part, has_attr, lower_range, upper_range, whole_range};
 
-// The part that rows may leave, and the parts of the node, with whether all their domains are small.
+/// The part that rows may leave, and the parts of the node, with whether all their domains are small.
 #[derive(Drop)]
-struct From<'a> {
-    attr: AttrNo,
-    parts: &'a [Part],
-    s: &'a Schema,
-    small: bool,
+pub(crate) struct From<'a> {
+    pub(crate) attr: AttrNo,
+    pub(crate) parts: &'a [Part],
+    pub(crate) s: &'a Schema,
+    pub(crate) small: bool,
     ghost is: { small ≡ are_small s.now (attrs_of (parts_as parts.now)) },
 }
 
@@ -178,9 +178,9 @@ fn least_in_half(
     }
 }
 
-// The rows of a leaf of more than 16 have no attributes but those used on the way, so where none of the other parts' was met
-// none of them gains.
-fn least_in_leaf(
+/// The gain of the lowest id among the rows of a leaf and the best so far. The rows of a leaf of more than 16 have no attributes but those used on the way, so where none of the other parts' was met
+/// none of them gains.
+pub(crate) fn least_in_leaf(
     leaf: &Leaf,
     met: bool,
     from: &From,

@@ -1,10 +1,10 @@
 -- Copies, as contracts see them.
-use Rattle.std.specs.Prelude.{◌≡◌, ℕ, ◌⊎◌, List, Option, Some, None}
+use Rattle.std.specs.Prelude.{◌≡◌, ℕ, ◌⊎◌, Bool, true, List, Option, Some, None, IfSome}
 use Rattle.be_base.specs.Lists.{BeginsWith}
 use Rattle.be_change.specs.History.{Entry}
 use Rattle.be_model.specs.declared.paths.Step.{Step}
 use Rattle.be_published.specs.States.{GlassState}
-use Rattle.be_published.specs.Reads.{after_plan}
+use Rattle.be_published.specs.Reads.{after_plan, after_look}
 
 -- the list, the index that holds what is live in it, and the mark
 pub record Paged (X : Type 0) : Type 0 where
@@ -26,3 +26,10 @@ pub record Plans {X : Type 0} (list : X → List Entry) (planned : X → Option 
   pub known : BeginsWith (list copy) g.known
   pub found_is : IsPlanIn planned mark g.bare copy found
   pub counts : g' ≡ after_plan (mark copy) g found
+
+-- there is a copy whose list goes on where all known ends. The step that a look found stands in it, and was counted
+pub record Looks {X : Type 0} (list : X → List Entry) (can : X → Step → Bool) (g g' : GlassState) (found : Option Step) : Type 0 where
+  pub copy : X
+  pub known : BeginsWith (list copy) g.known
+  pub stands : IfSome found (λ step. can copy step ≡ true)
+  pub counts : g' ≡ after_look g found

@@ -5,6 +5,7 @@ use Rattle.be_base.specs.declared.names.NoRead.{NoRead}
 use Rattle.be_base.specs.declared.names.NoRead.TheVariants.{Shut, NoMemory}
 use Rattle.be_model.specs.declared.paths.Step.{Step}
 use Rattle.be_change.specs.History.{Entry}
+use Rattle.be_published.specs.declared.beyond.Beyond.{Beyond}
 use Rattle.be_published.specs.States.{GlassState, knowing, one_shut, one_read, one_none, one_plan}
 
 -- the list that was entered goes on where what was known ends, and nothing was counted
@@ -29,7 +30,18 @@ abbrev pub after_plan : ℕ → GlassState → Option Step → GlassState
 after_plan mark g None = one_none mark g
 after_plan mark g (Some step) = one_plan step g
 
+-- a look found no step, or this one
+abbrev pub after_look : GlassState → Option Step → GlassState
+after_look g None = g
+after_look g (Some step) = one_plan step g
+
 -- what was known before, or what was told where that is longer. Both are beginnings of it
 pub record Learns (known what known' : List Entry) : Type 0 where
   pub before : BeginsWith known' known
   pub told : BeginsWith known' what
+
+-- a reader knows more than what is published, which begins it, and these are the two lengths
+pub record IsBeyond (known published : List Entry) (b : Beyond) : Type 0 where
+  pub begins : BeginsWith known published
+  pub known_is : b.known ≡ length known
+  pub published_is : b.published ≡ length published

@@ -29,7 +29,7 @@ pub record GlassState : Type 0 where
   pub reads : ℕ
   -- plans that found no step
   pub nones : ℕ
-  -- the steps that plans found, in order
+  -- the steps that plans and looks found, in order
   pub plans : List Step
   -- the mark of the copy in which a plan last found none
   pub bare : Option ℕ

@@ -13,11 +13,13 @@ ghost use Rattle.be_change.specs.Walk.{live_rows, tail_from};
 ghost use Rattle.be_index.specs.Ids.{ids_of};
 ghost use Rattle.be_index.specs.Names.{spaced};
 ghost use Rattle.be_published.specs.Copies.{OfCopy, IsPlanIn, Plans};
-ghost use Rattle.be_published.specs.Reads.{Meets, IsReadAt, Refuses, after_plan, Learns};
+ghost use Rattle.be_published.specs.Reads.{Meets, IsReadAt, Refuses, after_plan, Learns, IsBeyond};
 ghost use Rattle.be_published.specs.States.{knowing, one_shut, one_read, new_glass};
 
+use crate::beyond::Beyond;
 use crate::front::Front;
 use crate::history::Naming;
+use crate::round::Round;
 use crate::shade::Shade;
 use crate::sheet::Sheet;
 use crate::told::Told;
@@ -31,24 +33,26 @@ use std::marker::Model;
 use std::sync::{Arc, Wait};
 
 /// The copy that was entered.
-type Entered<T> = Reading<T, (), Unruled>;
+pub(crate) type Entered<T> = Reading<T, (), Unruled>;
 
 /// What enters copies. It is away while a copy is entered.
-type Door<T> = Option<Reader<T, (), Unruled>>;
+pub(crate) type Door<T> = Option<Reader<T, (), Unruled>>;
 
 /// A reader of the published copy. No call of it but `meet` takes a lock or may wait. Contracts see the longest list that it
 /// has seen or learnt, and what it counted. Each call leaves the copy that it entered: between calls the door is there.
 #[derive(Drop)]
 pub struct Glass<T: Sheet<J>, J: Naming> {
-    door: Door<T>,
-    front: Front<J>,
+    pub(crate) door: Door<T>,
+    pub(crate) front: Front<J>,
     shuts: u64,
     reads: u64,
     nones: u64,
-    // The steps that were planned.
-    plans: Trail<Step>,
+    // The steps that plans and looks found.
+    pub(crate) plans: Trail<Step>,
     // The mark of the copy in which a plan last found no step. While the published copy has this mark, a plan finds none.
-    bare: Option<u64>,
+    pub(crate) bare: Option<u64>,
+    // How far its looks have come. No contract speaks of it.
+    pub(crate) round: Round,
 }
 
 impl<T: Sheet<J>, J: Naming> Model for Glass<T, J> {
@@ -74,6 +78,7 @@ impl<T: Sheet<J>, J: Naming> Glass<T, J> {
             nones: 0,
             plans: Trail::new(),
             bare: None,
+            round: Round::new(),
         }
     }
 
@@ -112,6 +117,22 @@ impl<T: Sheet<J>, J: Naming> Glass<T, J> {
         } else {
             front.begins(&self.front);
         }
+    }
+
+    /// Whether the reader knows no more than what was published when it was told; else the two lengths. No contract of the two
+    /// copies says that it can't know more.
+    pub fn within(&self, told: &Told<J>) -> Result<(), Beyond>
+        ensures within { OnOk result (BeginsWith told.now self.now.known) }
+        ensures beyond { IfErr result (IsBeyond self.now.known told.now) }
+    {
+        let known = self.front.len();
+        let published = told.front.len();
+        if published < known {
+            told.front.begins(&self.front);
+            return Err(Beyond::make(known, published));
+        }
+        self.front.begins(&told.front);
+        Ok(())
     }
 
     /// Finds the live rows that the event satisfies, by rising id, by one search, and says in which first changes.
@@ -220,6 +241,19 @@ impl<T: Sheet<J>, J: Naming> Glass<T, J> {
         Ok(self.answer(front, done)?.0)
     }
 
+    /// Enters the published copy, and gives its length, or none where the entry is refused. It takes no memory.
+    pub fn look(&mut self) -> Option<u64>
+        ensures read { IfSome result (IsReadAt self.old self.new) }
+        ensures refused { IfNone result (self.new ≡ one_shut self.old) }
+    {
+        let Some(entered) = enter(&mut self.door, &self.front) else {
+            let _shut = self.refuse();
+            return None;
+        };
+        let front = leave(&mut self.door, entered);
+        Some(self.read(front))
+    }
+
     /// The step that reshapes the published copy next, where there is one. It searches the copy unless a plan of this reader found
     /// none in it and its mark is the same.
     pub fn plan(&mut self) -> Result<Option<Step>, NoRead>
@@ -289,7 +323,7 @@ impl<T: Sheet<J>, J: Naming> Glass<T, J> {
         }
     }
 
-    fn refuse(&mut self) -> NoRead
+    pub(crate) fn refuse(&mut self) -> NoRead
         ensures counted { self.new ≡ one_shut self.old }
         ensures shut { result ≡ NoRead.Shut }
     {
@@ -311,8 +345,11 @@ impl<T: Sheet<J>, J: Naming> Glass<T, J> {
     }
 }
 
-// Enters the published copy. A copy that is older than what is known is left again.
-fn enter<T: Sheet<J>, J: Naming>(door: &mut Door<T>, known: &Front<J>) -> Option<Entered<T>>
+/// Enters the published copy. A copy that is older than what is known is left again.
+pub(crate) fn enter<T: Sheet<J>, J: Naming>(
+    door: &mut Door<T>,
+    known: &Front<J>,
+) -> Option<Entered<T>>
     requires there { IsSome door.old }
     ensures begins { IfSome result (λ entered. BeginsWith (T.list entered.part.value) known.now) }
     ensures back { IfNone result (IsSome door.new) }
@@ -334,8 +371,8 @@ fn enter<T: Sheet<J>, J: Naming>(door: &mut Door<T>, known: &Front<J>) -> Option
     }
 }
 
-// Leaves the copy, and says which list it has.
-fn leave<T: Sheet<J>, J: Naming>(door: &mut Door<T>, entered: Entered<T>) -> Front<J>
+/// Leaves the copy, and says which list it has.
+pub(crate) fn leave<T: Sheet<J>, J: Naming>(door: &mut Door<T>, entered: Entered<T>) -> Front<J>
     ensures list { result ≡ T.list entered.part.value }
     ensures back { IsSome door.new }
 {

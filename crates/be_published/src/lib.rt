@@ -7,20 +7,24 @@
 //! Begin reading at specs/States, specs/Reads and src/glass.rt.
 #![tactic(auto)]
 
+mod beyond;
 mod front;
 mod glass;
 mod history;
 pub mod laws;
+mod looking;
 mod notes;
 mod page;
 mod pair;
 mod press;
+mod round;
 mod shade;
 mod sheet;
 mod told;
 mod trail;
 mod writing;
 
+pub use beyond::Beyond;
 pub use front::Front;
 pub use glass::Glass;
 pub use history::{Book, Naming, Opened};

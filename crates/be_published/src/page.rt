@@ -10,7 +10,7 @@ use crate::sheet::Sheet;
 use be_base::{NoMemory, SessionNo};
 use be_copy::{Copy2, Edit};
 use be_index::{Ids, Index};
-use be_model::{Change, Cost, Event, Found, Step};
+use be_model::{Change, Cost, Event, Found, Path, Step};
 use left_right::Absorb;
 use std::alloc::{AllocError, Global};
 use std::marker::Model;
@@ -106,6 +106,8 @@ impl<I: Index, J: Naming> Sheet<J> for Page<I, J> {
 
     ghost planned = { λ p. I.planned p.index };
 
+    ghost can_step = { λ p step. I.can_step p.index step };
+
     ghost mark_of = { λ p. p.mark };
 
     ghost follows = { λ x y notes e. e };
@@ -140,6 +142,10 @@ impl<I: Index, J: Naming> Sheet<J> for Page<I, J> {
 
     fn plan(&self) -> Result<Option<Step>, NoMemory> {
         self.copy.index().plan()
+    }
+
+    fn look_on(&self, from: &mut Option<Path>, most: u64) -> Result<Option<Step>, NoMemory> {
+        self.copy.index().look_on(from, most)
     }
 
     fn mark(&self) -> u64 {

@@ -1,6 +1,6 @@
 //! A copy, as the writer and the readers see it.
 
-ghost use Rattle.std.specs.Prelude.{◌≡◌, ◌++◌, [], true, List, fold, OnOk, OnErr, IfOk};
+ghost use Rattle.std.specs.Prelude.{◌≡◌, ◌++◌, [], true, List, fold, OnOk, OnErr, IfOk, IfSome};
 ghost use Rattle.be_model.specs.Bounds.{IsWithinBound};
 ghost use Rattle.be_model.specs.ByIds.{rows_of, session_rows};
 ghost use Rattle.be_model.specs.Lies.{event_lies};
@@ -16,14 +16,14 @@ use crate::history::Naming;
 use crate::notes::Note;
 use be_base::{NoMemory, SessionNo};
 use be_index::Ids;
-use be_model::{Change, Cost, Event, Found, Step};
+use be_model::{Change, Cost, Event, Found, Path, Step};
 use left_right::Absorb;
 use std::sync::Arc;
 
-/// A copy that the writer shows to readers. Contracts see of it its list, what a search costs in it, and what a plan finds. The
+/// A copy that the writer shows to readers. Contracts see of it its list, what a search costs in it, which steps stand, and what a plan finds. The
 /// writer and the readers take it as a parameter: a field of theirs can't name a `Page` of any index.
 pub trait Sheet<J: Naming>: Absorb<Note<J>> + Drop {
-    ghost use Rattle.std.specs.Prelude.{ℕ, Option};
+    ghost use Rattle.std.specs.Prelude.{ℕ, Bool, Option};
     ghost use Rattle.be_model.specs.declared.costs.Cost.{Cost};
     ghost use Rattle.be_model.specs.declared.paths.Step.{Step};
     ghost use Rattle.be_model.specs.Matching.{Assignments};
@@ -35,6 +35,9 @@ pub trait Sheet<J: Naming>: Absorb<Note<J>> + Drop {
 
     /// The step that is to be made next in this copy.
     ghost planned: { Self → Option Step };
+
+    /// Whether the step stands in this copy.
+    ghost can_step: { Self → Step → Bool };
 
     /// The copy's mark.
     ghost mark_of: { Self → ℕ };
@@ -81,6 +84,10 @@ pub trait Sheet<J: Naming>: Absorb<Note<J>> + Drop {
     /// The step that is to be made next, where there is one.
     fn plan(&self) -> Result<Option<Step>, NoMemory>
         ensures { IfOk result (λ step. step ≡ planned self.now) };
+
+    /// A step that stands, where one is found among those of about so many rows. The look begins and ends as one of an index does.
+    fn look_on(&self, from: &mut Option<Path>, most: u64) -> Result<Option<Step>, NoMemory>
+        ensures { IfOk result (λ found. IfSome found (λ step. can_step self.now step ≡ true)) };
 
     /// Names the copy and its present state among the two copies of a press: the same number is the same copy, which took
     /// in no note between.

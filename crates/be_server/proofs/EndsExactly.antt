@@ -138,7 +138,7 @@ exact_run p files LongFile r = exact_long files p r.2
 exact_run p files WriteFault r = exact_served files p WriteFault r.1.schema r.1.rows r.1.is_schema r.1.are_rows (λ quiet. absurd (quiet.sink r.1.ends.0))
 exact_run p files Spent r = exact_served files p Spent r.1.schema r.1.rows r.1.is_schema r.1.are_rows (λ quiet. absurd (quiet.bytes r.1.ends.0))
 exact_run p files (Split rift) r = absurd r
-exact_run p files (Ahead known published) r = absurd r
+exact_run p files (Ahead beyond) r = absurd r
 exact_run p files (Stray stray) r = absurd r
 exact_run p files (Shut shade) r = absurd r
 
@@ -218,7 +218,7 @@ module _ {L : Type 0} (p : Passage L) (Prints : Printing) (files : ToldFiles)
   exact_files WriteFault r = exact_ran WriteFault r.1 (λ quiet. absurd (quiet.sink (failed r.1.schema r.1.rows r.1.scripts r.1.runs.0 r.1.runs.1)))
   exact_files Spent r = absurd r.1.runs
   exact_files (Split rift) r = exact_ran (Split rift) r.1 (λ quiet. tt)
-  exact_files (Ahead known published) r = absurd r.1.runs
+  exact_files (Ahead beyond) r = absurd r.1.runs
   exact_files (Stray stray) r = exact_ran (Stray stray) r.1 (λ quiet. tt)
   exact_files (Shut shade) r = exact_ran (Shut shade) r.1 (λ quiet. tt)
 
@@ -244,7 +244,7 @@ module _ {L : Type 0} (p : Passage L) (port seats links : ℕ) (files : RunFiles
   exact_serve WriteFault r = exact_ran_serve WriteFault r.1
   exact_serve Spent r = exact_ran_serve Spent r.1
   exact_serve (Split rift) r = exact_ran_serve (Split rift) r.1
-  exact_serve (Ahead known published) r = exact_ran_serve (Ahead known published) r.1
+  exact_serve (Ahead beyond) r = exact_ran_serve (Ahead beyond) r.1
   exact_serve (Stray stray) r = exact_ran_serve (Stray stray) r.1
   exact_serve (Shut shade) r = exact_ran_serve (Shut shade) r.1
 
@@ -276,7 +276,7 @@ module _ {L : Type 0} (p : Passage L) (port seats links : ℕ) (name : Text) whe
   exact_mirror WriteFault r = exact_ran_mirror WriteFault r.1
   exact_mirror Spent r = exact_ran_mirror Spent r.1
   exact_mirror (Split rift) r = exact_ran_mirror (Split rift) r.1
-  exact_mirror (Ahead known published) r = exact_ran_mirror (Ahead known published) r.1
+  exact_mirror (Ahead beyond) r = exact_ran_mirror (Ahead beyond) r.1
   exact_mirror (Stray stray) r = exact_ran_mirror (Stray stray) r.1
   exact_mirror (Shut shade) r = exact_ran_mirror (Shut shade) r.1
 

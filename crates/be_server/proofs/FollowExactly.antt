@@ -136,6 +136,6 @@ module _ {L : Type 0} (p : Passage L) (files : FollowFiles) where
   exact_follow WriteFault r = followed WriteFault r.1.schema r.1.list r.1.is_schema r.1.is_list (λ quiet. absurd (quiet.sink r.1.ends.0))
   exact_follow Spent r = followed Spent r.1.schema r.1.list r.1.is_schema r.1.is_list (λ quiet. absurd (quiet.bytes r.1.ends.0))
   exact_follow (Split rift) r = absurd r
-  exact_follow (Ahead known published) r = absurd r
+  exact_follow (Ahead beyond) r = absurd r
   exact_follow (Stray stray) r = absurd r
   exact_follow (Shut shade) r = absurd r

@@ -75,7 +75,7 @@ module _ {L : Type 0} (told : L → LinkState) where
         go (FeedBad line kind) r = made (FeedBad line kind) r (λ no. absurd cc)
         go NoMemory r = inr (made NoMemory r (λ no. absurd cc))
         go (Split rift) r = absurd r
-        go (Ahead known published) r = absurd r
+        go (Ahead beyond) r = absurd r
         go (Stray stray) r = absurd r
         go Words r = absurd r
         go (SchemaBad line kind) r = absurd r
@@ -85,7 +85,7 @@ module _ {L : Type 0} (told : L → LinkState) where
     -- nothing is printed
     pub mirror_failed : (x : MirrorFault) → OutKept → Fails InputKept door door' port links seats x → RunsMirror told InputKept OutKept s port seats links before after door door' (status_of_mirror x)
     mirror_failed fault.Failed kept f = inl (kept, f)
-    mirror_failed (fault.Ahead known published) kept f = (kept, f)
+    mirror_failed (fault.Ahead beyond) kept f = (kept, f)
     mirror_failed fault.NoMemory kept f = inl (kept, f)
 
     -- where no fault was counted, the run ended so
@@ -127,7 +127,7 @@ module _ {L : Type 0} (told : L → LinkState) where
         go Done r = tt
         go NoMemory r = tt
         go (FeedBad line kind) r = tt
-        go (Ahead known published) r = tt
+        go (Ahead beyond) r = tt
         go (Shut shade) r = tt
         go Spent r = absurd (spent r)
         go WriteFault r = absurd (wrote r)
@@ -159,7 +159,7 @@ module _ {L : Type 0} (p : Passage L) (port seats links : ℕ) (file : ToldFile)
       go NoMemory r = (quiet, inr (s, is, r))
       go Done r = (quiet, (s, is, r))
       go (FeedBad line kind) r = (quiet, (s, is, r))
-      go (Ahead known published) r = (quiet, (s, is, r))
+      go (Ahead beyond) r = (quiet, (s, is, r))
       go (Shut shade) r = (quiet, (s, is, r))
       go Spent r = (quiet, (s, is, r))
       go WriteFault r = (quiet, (s, is, r))

@@ -41,7 +41,7 @@ module _ {L : Type 0} (told : L → LinkState) (Kept : Type 0) (port seats links
       go NoMemory l = inr (made NoMemory l (λ no. absurd cc))
       go (Split rift) l = absurd l
       go (Stray stray) l = absurd l
-      go (Ahead known published) l = absurd l
+      go (Ahead beyond) l = absurd l
       go Words l = absurd l
       go (SchemaBad line kind) l = absurd l
       go (LoadBad line kind) l = absurd l
@@ -110,7 +110,7 @@ serve_quiet {L} told K s rows port seats links door door' before after status ru
     go Spent r = absurd (omega (arith, quiet.bytes, r.logs.2, ap (λ (d : DoorState L). d.most) r.door_is))
     go WriteFault r = absurd (wrote r r.logs.1)
     go ReadFault r = absurd (read r)
-    go (Ahead known published) r = absurd r
+    go (Ahead beyond) r = absurd r
     go Words r = absurd r
     go (SchemaBad line kind) r = absurd r
     go (LoadBad line kind) r = absurd r

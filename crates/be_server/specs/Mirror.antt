@@ -68,11 +68,11 @@ module _ (end : FeedEnd) (sums : Sums) (shuts : Bool) (text : Text) (before afte
   Reflects _ = ⊥
 
 -- what is known where nothing is printed: the door can't listen, and nothing was read; or memory was wanting, be it before the door
--- was tried, when nothing was read; or a reader knows more than what is published, which all links were served over
+-- was tried, when nothing was read; or a reader knows more than what is published, once all links were served
 abbrev pub Fails : {L : Type 0} → (InputKept : Type 0) → DoorState L → DoorState L → (port links seats : ℕ) → MirrorFault → Type 0
 Fails InputKept door door' port links seats fault.Failed = InputKept × LeavesDoor door door' port links seats fault.Failed
 Fails InputKept door door' port links seats fault.NoMemory = (InputKept × (door' ≡ door)) ⊎ LeavesDoor door door' port links seats fault.NoMemory
-Fails InputKept door door' port links seats (fault.Ahead known published) = LeavesDoor door door' port links seats (fault.Ahead known published)
+Fails InputKept door door' port links seats (fault.Ahead beyond) = LeavesDoor door door' port links seats (fault.Ahead beyond)
 
 -- all links were given out and came back, and each was read to its end or to a QUIT
 pub record WereRead (links : ℕ) (sums : Sums) (served : List ReadLink) : Type 0 where
@@ -101,8 +101,8 @@ module _ {L : Type 0} (told : L → LinkState) where
   -- before anything was written, or in the output
   RunsMirror InputKept OutKept s port seats links before after door door' NoMemory =
       (OutKept × Fails InputKept door door' port links seats fault.NoMemory) ⊎ Mirrored s port seats links before after door door' NoMemory
-  RunsMirror InputKept OutKept s port seats links before after door door' (Ahead known published) =
-      OutKept × Fails InputKept door door' port links seats (fault.Ahead known published)
+  RunsMirror InputKept OutKept s port seats links before after door door' (Ahead beyond) =
+      OutKept × Fails InputKept door door' port links seats (fault.Ahead beyond)
   RunsMirror InputKept OutKept s port seats links before after door door' status = Mirrored s port seats links before after door door' status
 
 module _ {L : Type 0} (p : Passage L) (port seats links : ℕ) (file : ToldFile) where
@@ -128,6 +128,6 @@ abbrev pub EndsMirror : Status → Type 0
 EndsMirror Done = Unit {0}
 EndsMirror (FeedBad line kind) = Unit {0}
 EndsMirror NoMemory = Unit {0}
-EndsMirror (Ahead known published) = Unit {0}
+EndsMirror (Ahead beyond) = Unit {0}
 EndsMirror (Shut shade) = Unit {0}
 EndsMirror _ = ⊥

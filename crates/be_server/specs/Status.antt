@@ -34,7 +34,7 @@ code_of LongFile = 4
 code_of WriteFault = 5
 code_of NoMemory = 6
 code_of (Split rift) = 7
-code_of (Ahead known published) = 7
+code_of (Ahead beyond) = 7
 code_of Spent = 8
 code_of (Stray stray) = 9
 code_of (Shut shade) = 10
@@ -52,7 +52,7 @@ status_text LongFile = codes "file over 67108864 bytes"
 status_text WriteFault = codes "write fault"
 status_text Spent = codes "input over 1099511627776 bytes"
 status_text (Split rift) = codes "split " ++ decimal (numbers_of rift).seen ++ 32 ∷ decimal (numbers_of rift).written
-status_text (Ahead known published) = codes "ahead " ++ decimal known ++ 32 ∷ decimal published
+status_text (Ahead beyond) = codes "ahead " ++ decimal beyond.known ++ 32 ∷ decimal beyond.published
 status_text (Stray stray) = codes "stray " ++ decimal stray.at
 status_text (Shut shade) = codes "reader refused"
 
@@ -96,7 +96,7 @@ status_of_serve serving.NoMemory = NoMemory
 -- the same where a feed was to be mirrored
 abbrev pub status_of_mirror : MirrorFault → Status
 status_of_mirror mirroring.Failed = ReadFault
-status_of_mirror (mirroring.Ahead known published) = Ahead known published
+status_of_mirror (mirroring.Ahead beyond) = Ahead beyond
 status_of_mirror mirroring.NoMemory = NoMemory
 
 -- the status where a feed has a fault, or memory was wanting to it

@@ -11,7 +11,7 @@ use be_hub::{CloseFault, ServeFault};
 use be_io::ShelfFault;
 use be_load_files::{TableFault, TableKind};
 use be_mirror::MirrorFault;
-use be_published::Shade;
+use be_published::{Beyond, Shade};
 use std::fmt;
 
 /// How the program ended.
@@ -36,8 +36,8 @@ pub enum Status {
     Spent,
     /// Two numbers of a seat and the desk differ which should agree.
     Split(Rift),
-    /// A mirror's reader knows more than what is published: the two lengths.
-    Ahead { known: u64, published: u64 },
+    /// A mirror's reader knows more than what is published.
+    Ahead(Beyond),
     /// The sessions' records and the closing list differ.
     Stray(Stray),
     /// A reader was refused an entry.
@@ -130,7 +130,7 @@ impl From<MirrorFault> for Status {
     fn from(fault: MirrorFault) -> Status {
         match fault {
             MirrorFault::Failed => Status::ReadFault,
-            MirrorFault::Ahead { known, published } => Status::Ahead { known, published },
+            MirrorFault::Ahead(beyond) => Status::Ahead(beyond),
             MirrorFault::NoMemory => Status::NoMemory,
         }
     }
@@ -148,7 +148,7 @@ impl Status {
             Status::ReadFault | Status::LongFile => 4,
             Status::WriteFault => 5,
             Status::NoMemory => 6,
-            Status::Split(_) | Status::Ahead { .. } => 7,
+            Status::Split(_) | Status::Ahead(_) => 7,
             Status::Spent => 8,
             Status::Stray(_) => 9,
             Status::Shut(_) => 10,
@@ -172,7 +172,7 @@ impl fmt::Display for Status {
             Status::WriteFault => write!(f, "write fault"),
             Status::Spent => write!(f, "input over 1099511627776 bytes"),
             Status::Split(rift) => write!(f, "split {} {}", rift.read(), rift.written()),
-            Status::Ahead { known, published } => write!(f, "ahead {known} {published}"),
+            Status::Ahead(beyond) => write!(f, "ahead {} {}", beyond.known(), beyond.published()),
             Status::Stray(stray) => write!(f, "stray {}", stray.at()),
             Status::Shut(_) => write!(f, "reader refused"),
         }

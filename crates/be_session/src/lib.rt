@@ -12,4 +12,5 @@ mod room;
 mod serve;
 
 pub use be_protocol::SessionEnd;
+pub use room::Room;
 pub use serve::serve_link;

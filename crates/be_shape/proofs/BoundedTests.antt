@@ -10,7 +10,7 @@ use Rattle.be_shape.specs.declared.glances.Bounds.{Bounds}
 use Rattle.be_shape.specs.declared.glances.Extent.{Extent}
 use Rattle.be_shape.specs.declared.glances.Extent.TheVariants.{Whole, Few, Part}
 use Rattle.be_shape.specs.declared.glances.Glance.{Glance}
-use Rattle.be_shape.specs.Glances.{least, greatest, small, bounds, bounds_of, Test, test_on, is_whole, is_part, glance, with_test, with_bounds, with_pred, with_preds, glance_of}
+use Rattle.be_shape.specs.Glances.{least, greatest, small, bounds, bounds_of, Test, test_on, is_whole, is_part, glance, with_test, with_bounds, with_further, with_pred, with_preds, are_few, glance_of}
 use Rattle.be_shape.specs.Sights.{is_bounded, are_bounded}
 use Rattle.be_shape.proofs.ToldTests.{by_small, lt_test, less_one, one_more, more_of_parts}
 
@@ -44,8 +44,8 @@ exact_bound (NoneOf xs) = λ e. absurd cc
 abbrev HasBounds : Glance → Type 0
 HasBounds g = is_whole g.extent ≡ true → are_bounded g.tests ≡ true
 
-bounded_test : (p : Pred) (b : Bounds) (g : Glance) → HasBounds g → IsBound (Some b) → HasBounds (with_test p.attr b g)
-bounded_test p b g t k = by_room (leb 256 p.attr.0 || leb 3 (length g.tests))
+bounded_test : (x : Extent) → is_whole x ≡ false → (p : Pred) (b : Bounds) (g : Glance) → HasBounds g → IsBound (Some b) → HasBounds (with_test x p.attr b g)
+bounded_test full n p b g t k = by_room (leb 256 p.attr.0 || leb 3 (length g.tests))
   where
     new : Test
     new = (p.attr, b.ends)
@@ -54,26 +54,30 @@ bounded_test p b g t k = by_room (leb 256 p.attr.0 || leb 3 (length g.tests))
     wholly true x h = (refl, h)
     wholly false x h = absurd cc
 
-    by_room : (c : Bool) → HasBounds (cond c (glance g.tests Part) (glance (g.tests ++ new ∷ []) (cond b.exact g.extent Few)))
+    by_room : (c : Bool) → HasBounds (cond c (glance g.tests full) (glance (g.tests ++ new ∷ []) (cond b.exact g.extent Few)))
     by_room true = λ w. absurd cc
     by_room false = λ w. let y = wholly b.exact g.extent w in more_of_parts (λ (s : Test). is_bounded s.1) g.tests new (t y.1) (k y.0)
 
-bounded_bounds : (p : Pred) (o : Option Bounds) (g : Glance) → HasBounds g → IsBound o → HasBounds (with_bounds p.attr o g)
-bounded_bounds p None g t k = λ w. absurd cc
-bounded_bounds p (Some b) g t k = bounded_test p b g t k
+bounded_bounds : (x : Extent) → is_whole x ≡ false → (p : Pred) (o : Option Bounds) (g : Glance) → HasBounds g → IsBound o → HasBounds (with_bounds x p.attr o g)
+bounded_bounds x n p None g t k = λ w. absurd cc
+bounded_bounds x n p (Some b) g t k = bounded_test x n p b g t k
 
-bounded_pred : (p : Pred) (g : Glance) → HasBounds g → HasBounds (with_pred p g)
-bounded_pred p g t = by_tests (is_part g.extent) (is_some (test_on p.attr g.tests))
+bounded_further : (few : Bool) (p : Pred) (o : Option Bounds) (g : Glance) → HasBounds g → IsBound o → HasBounds (with_further few p.attr o g)
+bounded_further true p o g t k = bounded_bounds Few refl p o g t k
+bounded_further false p o g t k = λ w. absurd cc
+
+bounded_pred : (few : Bool) (p : Pred) (g : Glance) → HasBounds g → HasBounds (with_pred few p g)
+bounded_pred few p g t = by_tests (is_part g.extent) (is_some (test_on p.attr g.tests))
   where
-    by_tests : (b c : Bool) → HasBounds (cond b g (cond c (glance g.tests Few) (with_bounds p.attr (bounds_of p.op) g)))
+    by_tests : (b c : Bool) → HasBounds (cond b g (cond c (with_further few p.attr (bounds_of p.op) g) (with_bounds Part p.attr (bounds_of p.op) g)))
     by_tests true c = t
-    by_tests false true = λ w. absurd cc
-    by_tests false false = bounded_bounds p (bounds_of p.op) g t (exact_bound p.op)
+    by_tests false true = bounded_further few p (bounds_of p.op) g t (exact_bound p.op)
+    by_tests false false = bounded_bounds Part refl p (bounds_of p.op) g t (exact_bound p.op)
 
-bounded_preds : (ps : List Pred) (g : Glance) → HasBounds g → HasBounds (with_preds ps g)
-bounded_preds [] g t = t
-bounded_preds (p ∷ ps) g t = bounded_preds ps (with_pred p g) (bounded_pred p g t)
+bounded_preds : (few : Bool) (ps : List Pred) (g : Glance) → HasBounds g → HasBounds (with_preds few ps g)
+bounded_preds few [] g t = t
+bounded_preds few (p ∷ ps) g t = bounded_preds few ps (with_pred few p g) (bounded_pred few p g t)
 
 -- where the tests are all of the condition, each has a bound
 pub whole_bounded : (conj : List Pred) (tests : List Test) (extent : Extent) → glance tests extent ≡ glance_of conj → is_whole extent ≡ true → are_bounded tests ≡ true
-whole_bounded conj tests extent same = subst HasBounds (sym same) (bounded_preds conj (glance [] Whole) (λ w. refl))
+whole_bounded conj tests extent same = subst HasBounds (sym same) (bounded_preds (are_few conj) conj (glance [] Whole) (λ w. refl))

@@ -13,7 +13,7 @@ use Rattle.be_shape.specs.declared.glances.Extent.{Extent}
 use Rattle.be_shape.specs.declared.glances.Extent.TheVariants.{Whole, Few, Part}
 use Rattle.be_shape.specs.declared.glances.Glance.{Glance}
 use Rattle.be_shape.specs.declared.listings.RowAttrs.TheVariants.{Many}
-use Rattle.be_shape.specs.Glances.{Test, test_on, is_part, bounds_of, glance, with_test, with_bounds, with_pred, with_preds, glance_of}
+use Rattle.be_shape.specs.Glances.{Test, test_on, is_part, bounds_of, glance, with_test, with_bounds, with_further, with_pred, with_preds, are_few, glance_of}
 use Rattle.be_shape.specs.Listed.{is_many, any_listed, listed, attrs_told, attrs_of}
 
 -- a test of attributes, of predicates and of tests of values
@@ -66,36 +66,40 @@ lists_again : (xs : List Pred) (p : Pred) (g : Glance) (x : Extent) → is_part 
 lists_again xs p g x n s l = λ m test.
     more test xs p ∙ ap (λ b. b || test p.attr) (l n test) ∙ absorb (list_any (of_test test) g.tests) (test p.attr) (on_told p.attr g.tests test s)
 
-lists_test : (xs : List Pred) (p : Pred) (b : Bounds) (g : Glance) → is_part g.extent ≡ false → Lists xs g → Lists (xs ++ p ∷ []) (with_test p.attr b g)
-lists_test xs p b g n l = by_room (leb 256 p.attr.0 || leb 3 (length g.tests))
+lists_test : (x : Extent) (xs : List Pred) (p : Pred) (b : Bounds) (g : Glance) → is_part g.extent ≡ false → Lists (xs ++ p ∷ []) (glance g.tests x) → Lists xs g → Lists (xs ++ p ∷ []) (with_test x p.attr b g)
+lists_test full xs p b g n r l = by_room (leb 256 p.attr.0 || leb 3 (length g.tests))
   where
     t : Test
     t = (p.attr, b.ends)
 
-    by_room : (c : Bool) → Lists (xs ++ p ∷ []) (cond c (glance g.tests Part) (glance (g.tests ++ t ∷ []) (cond b.exact g.extent Few)))
-    by_room true = lists_part (xs ++ p ∷ []) g.tests
+    by_room : (c : Bool) → Lists (xs ++ p ∷ []) (cond c (glance g.tests full) (glance (g.tests ++ t ∷ []) (cond b.exact g.extent Few)))
+    by_room true = r
     by_room false = λ m test. more test xs p ∙ ap (λ c. c || test p.attr) (l n test) ∙ sym (more_told test g.tests t)
 
-lists_bounds : (xs : List Pred) (p : Pred) (o : Option Bounds) (g : Glance) → is_part g.extent ≡ false → Lists xs g → Lists (xs ++ p ∷ []) (with_bounds p.attr o g)
-lists_bounds xs p None g n l = lists_part (xs ++ p ∷ []) g.tests
-lists_bounds xs p (Some b) g n l = lists_test xs p b g n l
+lists_bounds : (x : Extent) (xs : List Pred) (p : Pred) (o : Option Bounds) (g : Glance) → is_part g.extent ≡ false → Lists (xs ++ p ∷ []) (glance g.tests x) → Lists xs g → Lists (xs ++ p ∷ []) (with_bounds x p.attr o g)
+lists_bounds x xs p None g n r l = r
+lists_bounds x xs p (Some b) g n r l = lists_test x xs p b g n r l
 
-pub lists_pred : (xs : List Pred) (p : Pred) (g : Glance) → Lists xs g → Lists (xs ++ p ∷ []) (with_pred p g)
-lists_pred xs p g l = by_tests (is_part g.extent) (is_some (test_on p.attr g.tests)) refl refl
+lists_further : (few : Bool) (xs : List Pred) (p : Pred) (o : Option Bounds) (g : Glance) → is_part g.extent ≡ false → Lists (xs ++ p ∷ []) (glance g.tests Few) → Lists xs g → Lists (xs ++ p ∷ []) (with_further few p.attr o g)
+lists_further true xs p o g n r l = lists_bounds Few xs p o g n r l
+lists_further false xs p o g n r l = r
+
+pub lists_pred : (few : Bool) (xs : List Pred) (p : Pred) (g : Glance) → Lists xs g → Lists (xs ++ p ∷ []) (with_pred few p g)
+lists_pred few xs p g l = by_tests (is_part g.extent) (is_some (test_on p.attr g.tests)) refl refl
   where
     by_tests : (b c : Bool) → is_part g.extent ≡ b → is_some (test_on p.attr g.tests) ≡ c
-        → Lists (xs ++ p ∷ []) (cond b g (cond c (glance g.tests Few) (with_bounds p.attr (bounds_of p.op) g)))
+        → Lists (xs ++ p ∷ []) (cond b g (cond c (with_further few p.attr (bounds_of p.op) g) (with_bounds Part p.attr (bounds_of p.op) g)))
     by_tests true c e d = λ m test. absurd (cc)
-    by_tests false true e d = lists_again xs p g Few e d l
-    by_tests false false e d = lists_bounds xs p (bounds_of p.op) g e l
+    by_tests false true e d = lists_further few xs p (bounds_of p.op) g e (lists_again xs p g Few e d l) l
+    by_tests false false e d = lists_bounds Part xs p (bounds_of p.op) g e (lists_part (xs ++ p ∷ []) g.tests) l
 
-lists_preds : (xs ps : List Pred) (g : Glance) → Lists xs g → Lists (xs ++ ps) (with_preds ps g)
-lists_preds xs [] g l = subst (λ c. Lists c g) (sym (append-nil xs)) l
-lists_preds xs (p ∷ ps) g l =
-    subst (λ c. Lists c (with_preds ps (with_pred p g))) (append_assoc xs (p ∷ []) ps) (lists_preds (xs ++ p ∷ []) ps (with_pred p g) (lists_pred xs p g l))
+lists_preds : (few : Bool) (xs ps : List Pred) (g : Glance) → Lists xs g → Lists (xs ++ ps) (with_preds few ps g)
+lists_preds few xs [] g l = subst (λ c. Lists c g) (sym (append-nil xs)) l
+lists_preds few xs (p ∷ ps) g l =
+    subst (λ c. Lists c (with_preds few ps (with_pred few p g))) (append_assoc xs (p ∷ []) ps) (lists_preds few (xs ++ p ∷ []) ps (with_pred few p g) (lists_pred few xs p g l))
 
 pub lists : (conj : List Pred) → Lists conj (glance_of conj)
-lists conj = lists_preds [] conj (glance [] Whole) (λ _ _. refl)
+lists conj = lists_preds (are_few conj) [] conj (glance [] Whole) (λ _ _. refl)
 
 -- as many tests as can be listed are
 listed_is : (ts : List Test) (test : AttrNo → Bool) → is_many (listed ts) ≡ false → list_any (of_test test) ts ≡ any_listed test (listed ts)

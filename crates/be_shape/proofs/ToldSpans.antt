@@ -26,7 +26,7 @@ use Rattle.be_shape.specs.declared.glances.Bounds.{Bounds}
 use Rattle.be_shape.specs.declared.glances.Extent.{Extent}
 use Rattle.be_shape.specs.declared.glances.Extent.TheVariants.{Whole, Few, Part}
 use Rattle.be_shape.specs.declared.glances.Glance.{Glance}
-use Rattle.be_shape.specs.Glances.{least, greatest, small, bounds, bounds_of, Test, test_on, is_part, glance, with_bounds, with_pred, with_preds, glance_of, hull_low, hull_high, hull_in}
+use Rattle.be_shape.specs.Glances.{least, greatest, small, bounds, bounds_of, Test, test_on, is_part, glance, with_bounds, with_further, with_pred, with_preds, are_few, glance_of, hull_low, hull_high, hull_in}
 use Rattle.be_shape.proofs.FewAttrs.{Lists, lists_pred, on_is, has_is_told}
 use Rattle.be_shape.proofs.ToldTests.{by_small}
 
@@ -97,31 +97,49 @@ joined xs p x ts f n = λ a ends h. by_old a ends (test_on a ts) refl (sym (on_m
     by_old a ends (Some y) e h = first_more xs (p ∷ []) a ends (f a ends (e ∙ h))
     by_old a ends None e h = by_attr a ends (p.attr.0 == a.0) refl h
 
-first_bounds : (xs : List Pred) (p : Pred) (o : Option Bounds) (g : Glance) → bounds_of p.op ≡ o → list_any (is_on p.attr) xs ≡ false → AreFirst xs g.tests → AreFirst (xs ++ p ∷ []) (with_bounds p.attr o g).tests
-first_bounds xs p None g e h f = kept xs p g.tests f
-first_bounds xs p (Some b) g e h f = by_room (leb 256 p.attr.0 || leb 3 (length g.tests))
+-- with a test more on an attribute that has one
+joined_again : (xs : List Pred) (p : Pred) (x : ℤ × ℤ) (ts : List Test) → AreFirst xs ts → is_some (test_on p.attr ts) ≡ true → AreFirst (xs ++ p ∷ []) (ts ++ (p.attr, x) ∷ [])
+joined_again xs p x ts f s = λ a ends h. by_old a ends (test_on a ts) refl (sym (on_more a ts (p.attr, x)) ∙ h)
   where
-    by_room : (c : Bool) → AreFirst (xs ++ p ∷ []) (cond c (glance g.tests Part) (glance (g.tests ++ (p.attr, b.ends) ∷ []) (cond b.exact g.extent Few))).tests
-    by_room true = kept xs p g.tests f
-    by_room false = joined xs p b.ends g.tests f (first_new xs p b h e)
+    by_attr : (a : AttrNo) (ends : ℤ × ℤ) (c : Bool) → (p.attr.0 == a.0) ≡ c → test_on a ts ≡ None → cond c (Some x) None ≡ Some ends → IsFirst (xs ++ p ∷ []) a ends
+    by_attr a ends true e n h = absurd (let k : is_some (test_on a ts) ≡ true = subst (λ b. is_some (test_on b ts) ≡ true) (same_attribute p.attr a e) s in cc)
+    by_attr a ends false e n h = absurd (cc)
 
-first_pred : (xs : List Pred) (p : Pred) (g : Glance) → Firsts xs g → AreFirst (xs ++ p ∷ []) (with_pred p g).tests
-first_pred xs p g f = by_tests (is_part g.extent) (is_some (test_on p.attr g.tests)) refl refl
+    by_old : (a : AttrNo) (ends : ℤ × ℤ) (o : Option (ℤ × ℤ)) → test_on a ts ≡ o → option_or o (test_on a ((p.attr, x) ∷ [])) ≡ Some ends → IsFirst (xs ++ p ∷ []) a ends
+    by_old a ends (Some y) e h = first_more xs (p ∷ []) a ends (f a ends (e ∙ h))
+    by_old a ends None e h = by_attr a ends (p.attr.0 == a.0) refl e h
+
+first_bounds : (x : Extent) (xs : List Pred) (p : Pred) (o : Option Bounds) (g : Glance) → AreFirst xs g.tests → ((b : Bounds) → o ≡ Some b → AreFirst (xs ++ p ∷ []) (g.tests ++ (p.attr, b.ends) ∷ []))
+    → AreFirst (xs ++ p ∷ []) (with_bounds x p.attr o g).tests
+first_bounds full xs p None g f j = kept xs p g.tests f
+first_bounds full xs p (Some b) g f j = by_room (leb 256 p.attr.0 || leb 3 (length g.tests))
+  where
+    by_room : (c : Bool) → AreFirst (xs ++ p ∷ []) (cond c (glance g.tests full) (glance (g.tests ++ (p.attr, b.ends) ∷ []) (cond b.exact g.extent Few))).tests
+    by_room true = kept xs p g.tests f
+    by_room false = j b refl
+
+first_further : (few : Bool) (xs : List Pred) (p : Pred) (o : Option Bounds) (g : Glance) → is_some (test_on p.attr g.tests) ≡ true → AreFirst xs g.tests → AreFirst (xs ++ p ∷ []) (with_further few p.attr o g).tests
+first_further true xs p o g s f = first_bounds Few xs p o g f (λ b e. joined_again xs p b.ends g.tests f s)
+first_further false xs p o g s f = kept xs p g.tests f
+
+first_pred : (few : Bool) (xs : List Pred) (p : Pred) (g : Glance) → Firsts xs g → AreFirst (xs ++ p ∷ []) (with_pred few p g).tests
+first_pred few xs p g f = by_tests (is_part g.extent) (is_some (test_on p.attr g.tests)) refl refl
   where
     by_tests : (b c : Bool) → is_part g.extent ≡ b → is_some (test_on p.attr g.tests) ≡ c
-        → AreFirst (xs ++ p ∷ []) (cond b g (cond c (glance g.tests Few) (with_bounds p.attr (bounds_of p.op) g))).tests
+        → AreFirst (xs ++ p ∷ []) (cond b g (cond c (with_further few p.attr (bounds_of p.op) g) (with_bounds Part p.attr (bounds_of p.op) g))).tests
     by_tests true c e d = kept xs p g.tests f.first
-    by_tests false true e d = kept xs p g.tests f.first
-    by_tests false false e d = first_bounds xs p (bounds_of p.op) g refl (f.listed e (λ b. b.0 == p.attr.0) ∙ on_is p.attr g.tests ∙ d) f.first
+    by_tests false true e d = first_further few xs p (bounds_of p.op) g d f.first
+    by_tests false false e d =
+        first_bounds Part xs p (bounds_of p.op) g f.first (λ b k. joined xs p b.ends g.tests f.first (first_new xs p b (f.listed e (λ c. c.0 == p.attr.0) ∙ on_is p.attr g.tests ∙ d) k))
 
-firsts_preds : (xs ps : List Pred) (g : Glance) → Firsts xs g → Firsts (xs ++ ps) (with_preds ps g)
-firsts_preds xs [] g f = subst (λ c. Firsts c g) (sym (append-nil xs)) f
-firsts_preds xs (p ∷ ps) g f =
-    subst (λ c. Firsts c (with_preds ps (with_pred p g))) (append_assoc xs (p ∷ []) ps)
-    (firsts_preds (xs ++ p ∷ []) ps (with_pred p g) (record { listed = lists_pred xs p g f.listed; first = first_pred xs p g f }))
+firsts_preds : (few : Bool) (xs ps : List Pred) (g : Glance) → Firsts xs g → Firsts (xs ++ ps) (with_preds few ps g)
+firsts_preds few xs [] g f = subst (λ c. Firsts c g) (sym (append-nil xs)) f
+firsts_preds few xs (p ∷ ps) g f =
+    subst (λ c. Firsts c (with_preds few ps (with_pred few p g))) (append_assoc xs (p ∷ []) ps)
+    (firsts_preds few (xs ++ p ∷ []) ps (with_pred few p g) (record { listed = lists_pred few xs p g f.listed; first = first_pred few xs p g f }))
 
 firsts : (conj : List Pred) → Firsts conj (glance_of conj)
-firsts conj = firsts_preds [] conj (glance [] Whole) (record { listed = λ _ _. refl; first = λ a ends h. absurd (cc) })
+firsts conj = firsts_preds (are_few conj) [] conj (glance [] Whole) (record { listed = λ _ _. refl; first = λ a ends h. absurd (cc) })
 
 not_equal : (x y : ℤ) → x <ℤ y → int_eq x y ≡ false
 not_equal x y h = by_test (int_eq x y) refl

@@ -81,29 +81,37 @@ is_part Part = true
 abbrev pub glance : List Test → Extent → Glance
 glance tests extent = record { tests = tests; extent = extent }
 
--- with a test more, if there is room for it
-abbrev pub with_test : AttrNo → Bounds → Glance → Glance
-with_test a b g =
-    if nat_le 256 a.0 || nat_le 3 (length g.tests) then glance g.tests Part
+-- with a test more, or where there is no room for it, of this extent
+abbrev pub with_test : Extent → AttrNo → Bounds → Glance → Glance
+with_test x a b g =
+    if nat_le 256 a.0 || nat_le 3 (length g.tests) then glance g.tests x
     else glance (g.tests ++ (a, b.ends) ∷ []) (if b.exact then g.extent else Few)
 
-abbrev pub with_bounds : AttrNo → Option Bounds → Glance → Glance
-with_bounds a None g = glance g.tests Part
-with_bounds a (Some b) g = with_test a b g
+abbrev pub with_bounds : Extent → AttrNo → Option Bounds → Glance → Glance
+with_bounds x a None g = glance g.tests x
+with_bounds x a (Some b) g = with_test x a b g
+
+-- with a further predicate on an attribute that has a test. It gives one only where the predicates are few
+abbrev pub with_further : Bool → AttrNo → Option Bounds → Glance → Glance
+with_further few a o g = if few then with_bounds Few a o g else glance g.tests Few
 
 -- with a predicate more. The first on an attribute gives a test, and behind one that gave none no other does
-abbrev pub with_pred : Pred → Glance → Glance
-with_pred p g =
+abbrev pub with_pred : Bool → Pred → Glance → Glance
+with_pred few p g =
     if is_part g.extent then g
-    else (if is_some (test_on p.attr g.tests) then glance g.tests Few else with_bounds p.attr (bounds_of p.op) g)
+    else (if is_some (test_on p.attr g.tests) then with_further few p.attr (bounds_of p.op) g else with_bounds Part p.attr (bounds_of p.op) g)
 
-abbrev pub with_preds : List Pred → Glance → Glance
-with_preds [] g = g
-with_preds (p ∷ ps) g = with_preds ps (with_pred p g)
+abbrev pub with_preds : Bool → List Pred → Glance → Glance
+with_preds few [] g = g
+with_preds few (p ∷ ps) g = with_preds few ps (with_pred few p g)
+
+-- there are no more predicates than tests
+abbrev pub are_few : List Pred → Bool
+are_few conj = nat_le (length conj) 3
 
 -- what is told of a condition
 abbrev pub glance_of : List Pred → Glance
-glance_of conj = with_preds conj (glance [] Whole)
+glance_of conj = with_preds (are_few conj) conj (glance [] Whole)
 
 -- the hull that a test stands for, over a domain
 abbrev pub hull_low : Range → ℤ → ℤ

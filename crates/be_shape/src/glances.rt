@@ -5,7 +5,7 @@ ghost use Rattle.std.specs.List.{list_any};
 ghost use Rattle.be_model.specs.declared.ops.Op.{Op};
 ghost use Rattle.be_model.specs.Forms.{IsConj};
 ghost use Rattle.be_model.specs.Matching.{values_of};
-ghost use Rattle.be_shape.specs.Glances.{is_in, has_in, small, bounds_of, is_whole, is_part, glance, with_test, with_pred, glance_of, hull_low, hull_high, hull_in};
+ghost use Rattle.be_shape.specs.Glances.{is_in, has_in, small, bounds_of, is_whole, is_part, glance, with_test, with_bounds, with_further, with_pred, are_few, glance_of, hull_low, hull_high, hull_in};
 ghost use Rattle.be_shape.specs.SmallSets.{extent_of, LosesNone};
 
 use crate::few_tests::FewTests;
@@ -35,7 +35,7 @@ pub(crate) enum Extent {
     Part,
 }
 
-/// At most three tests of a row, each of the first predicate on its attribute.
+/// At most three tests of a row, the first on an attribute of its first predicate there.
 #[derive(Drop)]
 pub(crate) struct Glance {
     pub(crate) tests: FewTests,
@@ -162,6 +162,13 @@ pub(crate) fn has_in(ends: Ends, a: AttrNo, e: &Event) -> bool
     }
 }
 
+// Whether each predicate may have a test.
+fn are_few(conj: &Conj) -> bool
+    ensures { result ≡ are_few conj.now }
+{
+    conj.preds().len() <= 3
+}
+
 impl Extent {
     pub(crate) fn is_whole(self) -> bool
         ensures { result ≡ is_whole self }
@@ -199,11 +206,12 @@ impl Glance {
         }
     }
 
-    fn with_test(self, a: AttrNo, b: Bounds) -> Glance
-        ensures { result ≡ with_test a b self }
+    // With a test more, or of this extent where there is no room.
+    fn with_test(self, full: Extent, a: AttrNo, b: Bounds) -> Glance
+        ensures { result ≡ with_test full a b self }
     {
         if 256 <= a.0 || self.tests.is_full() {
-            return self.with_extent(Extent::Part);
+            return self.with_extent(full);
         }
         Glance {
             tests: self.tests.with(a.0 as u8, b.ends),
@@ -211,18 +219,38 @@ impl Glance {
         }
     }
 
-    fn with_pred(self, pred: &Pred) -> Glance
-        ensures { result ≡ with_pred pred.now self }
+    fn with_bounds(self, full: Extent, a: AttrNo, bounds: Option<Bounds>) -> Glance
+        ensures { result ≡ with_bounds full a bounds self }
+    {
+        match bounds {
+            Some(b) => self.with_test(full, a, b),
+            None => self.with_extent(full),
+        }
+    }
+
+    // With a further predicate on an attribute that has a test. Where there are more predicates than tests, it leaves the room
+    // to other attributes.
+    fn with_further(self, few: bool, a: AttrNo, bounds: Option<Bounds>) -> Glance
+        ensures { result ≡ with_further few a bounds self }
+    {
+        if few {
+            self.with_bounds(Extent::Few, a, bounds)
+        } else {
+            self.with_extent(Extent::Few)
+        }
+    }
+
+    fn with_pred(self, few: bool, pred: &Pred) -> Glance
+        ensures { result ≡ with_pred few pred.now self }
     {
         if self.extent.is_part() {
             return self;
         }
+        let bounds = bounds_of(&pred.op);
         if self.tests.on(pred.attr).is_some() {
-            return self.with_extent(Extent::Few);
-        }
-        match bounds_of(&pred.op) {
-            Some(b) => self.with_test(pred.attr, b),
-            None => self.with_extent(Extent::Part),
+            self.with_further(few, pred.attr, bounds)
+        } else {
+            self.with_bounds(Extent::Part, pred.attr, bounds)
         }
     }
 
@@ -231,9 +259,10 @@ impl Glance {
         ensures told { result ≡ glance_of conj.now }
         ensures form { IsConj conj.now }
     {
+        let few = are_few(conj);
         let mut glance = Glance::of_none();
         for pred in conj.preds() {
-            glance = glance.with_pred(pred);
+            glance = glance.with_pred(few, pred);
         }
         glance
     }

@@ -3,7 +3,8 @@
 ghost use Rattle.std.specs.Prelude.{◌≡◌};
 ghost use Rattle.be_shape.specs.Listed.{is_many};
 
-/// The attributes of a row, each once, or of many rows of a leaf, where they are told: at most three and below 256.
+/// The attributes of a row, or of many rows of a leaf, where they are told: at most three and below 256. Where a row has two
+/// tests on an attribute, it stands twice.
 #[derive(Clone, Copy)]
 pub enum RowAttrs {
     Zero,

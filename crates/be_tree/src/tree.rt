@@ -11,8 +11,8 @@ use be_base::{NoMemory, SessionNo};
 use be_index::{Hits, Index};
 use be_insert::place;
 use be_match::{cost_of, find_in};
-use be_model::{Cost, Event, Found, Row, Schema, Step, StepDone};
-use be_plan::{plan, plan_is_whole};
+use be_model::{Cost, Event, Found, Path, Row, Schema, Step, StepDone};
+use be_plan::{look_on, plan, plan_is_whole};
 use be_remove::take;
 use be_shape::Tree;
 use std::alloc::Global;
@@ -103,5 +103,11 @@ impl Index for BeTree {
         // What is planned stands.
         plan_is_whole(&self.tree);
         plan(&self.tree)
+    }
+
+    fn look_on(&self, from: &mut Option<Path>, most: u64) -> Result<Option<Step>, NoMemory> {
+        let look = look_on(&self.tree, from.as_ref(), most)?;
+        *from = look.next;
+        Ok(look.step)
     }
 }

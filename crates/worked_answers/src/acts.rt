@@ -69,11 +69,7 @@ fn sub(alloc: Global, session: u64, serial: u64) -> Option<Act> {
 
 fn unsub(alloc: Global, session: u64, serial: u64, name: &[u8]) -> Option<Act> {
     let name = Name::read(name).ok()?;
-    let change = Change::Unsub {
-        session: SessionNo(session),
-        serial,
-        name,
-    };
+    let change = Change::removal(alloc, SessionNo(session), serial, name).ok()?;
     ask(alloc, session, change)
 }
 

@@ -19,11 +19,8 @@ fn sub(alloc: Global, row: Arc<Row>) -> Result<Edit, Fail> {
 }
 
 fn unsub(alloc: Global, session: u64, name: &str) -> Result<Edit, Fail> {
-    let change = Change::Unsub {
-        session: SessionNo(session),
-        serial: 0,
-        name: Name::read(name.as_bytes())?,
-    };
+    let name = Name::read(name.as_bytes())?;
+    let change = Change::removal(alloc, SessionNo(session), 0, name)?;
     Ok(Edit::Change(Arc::new(alloc, change)?))
 }
 

@@ -57,6 +57,7 @@ pub fn answers<R: Wait>(
     let commands = String::from_str(alloc, commands).ok()?;
     let from = match kind {
         "many" | "many_balky" => MANY,
+        "far" => 3 * MANY,
         _ => 0,
     };
     let script = Script {
@@ -72,24 +73,40 @@ pub fn answers<R: Wait>(
             let rows = read_table(alloc, schema, TABLE).ok()?;
             over_list(rt, alloc, schema, rows, &script)
         }
-        "many" => over_tree(rt, alloc, schema, many(alloc, schema)?, &script),
+        "many" => over_tree(rt, alloc, schema, many(alloc, schema, &[7])?, &script),
+        "far" => over_tree(
+            rt,
+            alloc,
+            schema,
+            many(alloc, schema, &[7, 250, 990])?,
+            &script,
+        ),
         "many_balky" => {
             let refuse = [BEHIND_MANY, BEHIND_MANY + 1];
-            over_balky(rt, alloc, schema, many(alloc, schema)?, refuse, &script)
+            over_balky(
+                rt,
+                alloc,
+                schema,
+                many(alloc, schema, &[7])?,
+                refuse,
+                &script,
+            )
         }
         _ => None,
     }
 }
 
-// Rows that all stand in one leaf of a tree.
-fn many(alloc: Global, schema: &Schema) -> Option<Vec<Row>>
+// Rows that stand in one leaf of a tree for each price.
+fn many(alloc: Global, schema: &Schema, prices: &[u16]) -> Option<Vec<Row>>
     ensures table { IfSome result (λ rows. IsTable rows.items) }
     ensures lie { IfSome result (λ rows. list_all (row_lies schema.now) rows.items ≡ true) }
 {
     let mut text = String::new(alloc);
-    for number in 0..MANY {
-        let line = format!(in alloc; "ROW m{number} price = 7\n").ok()?;
-        text.push_str(line.as_str()).ok()?;
+    for price in prices {
+        for number in 0..MANY {
+            let line = format!(in alloc; "ROW m{price}_{number} price = {price}\n").ok()?;
+            text.push_str(line.as_str()).ok()?;
+        }
     }
     read_table(alloc, schema, text.as_bytes()).ok()
 }

@@ -4,7 +4,7 @@ ghost use Rattle.std.specs.Prelude.{◌≡◌};
 
 use be_base::{NoMemory, SessionNo};
 use be_index::{Hits, Index};
-use be_model::{Cost, Event, Found, Row, Step, StepDone};
+use be_model::{Cost, Event, Found, Path, Row, Step, StepDone};
 use std::sync::Arc;
 use std::sync::atomic::{AtomicU64, Ordering};
 
@@ -96,5 +96,9 @@ impl<I: Index> Index for Watched<I> {
 
     fn plan(&self) -> Result<Option<Step>, NoMemory> {
         self.index.plan()
+    }
+
+    fn look_on(&self, from: &mut Option<Path>, most: u64) -> Result<Option<Step>, NoMemory> {
+        self.index.look_on(from, most)
     }
 }

@@ -214,7 +214,7 @@ fn has(alloc: Global, status: &Status, code: u8, text: &str) -> Option<bool> {
 #[test]
 fn codes_and_texts(rt: HostRuntime) {
     let alloc = rt.alloc();
-    let rows: [(Status, u8, &str); 14] = [
+    let rows: [(Status, u8, &str); 13] = [
         (Status::Done, 0, ""),
         (Status::Words, 2, "words refused"),
         (
@@ -269,14 +269,6 @@ fn codes_and_texts(rt: HostRuntime) {
         (Status::LongFile, 4, "file over 67108864 bytes"),
         (Status::WriteFault, 5, "write fault"),
         (Status::NoMemory, 6, "out of memory"),
-        (
-            Status::Ahead {
-                known: 3,
-                published: 2,
-            },
-            7,
-            "ahead 3 2",
-        ),
         (Status::Spent, 8, "input over 1099511627776 bytes"),
     ];
     for (status, code, text) in &rows {

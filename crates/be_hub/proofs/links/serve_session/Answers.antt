@@ -1,5 +1,4 @@
-use Rattle.std.proofs.Common.{sym, ap, ◌∙◌, ◌≡◌}
-use Rattle.be_board.specs.State.{BoardState}
+use Rattle.std.proofs.Common.{sym, ap, ◌∙◌}
 use Rattle.be_desk.specs.Boards.{board_of}
 use Rattle.be_hub.proofs.FilesServed.{board_same}
 use Rattle.be_hub.proofs.SessionsServed.{session_served}

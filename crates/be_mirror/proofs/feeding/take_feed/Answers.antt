@@ -1,9 +1,10 @@
-use Rattle.std.proofs.Common.{◌+◌, ◌-◌, ◌≤◌, length, refl, sym, ap, ◌∙◌, arith}
+use Rattle.std.proofs.Common.{◌+◌, ◌-◌, ◌≤◌, length, Err, refl, sym, ap, subst, ◌∙◌, arith}
 use Rattle.be_base.specs.declared.limits.TheConstants.{SOURCE_BYTES}
 use Rattle.be_io.specs.Outside.{source_state}
 use Rattle.be_protocol.proofs.LinesGoing.{rises-along, spent}
-use Rattle.be_mirror.specs.Feeders.{FeederState}
-use Rattle.be_mirror.proofs.FeedGoing.{fed_none, rises_none, ends_on, feeds, within_all, err_one, ok_no_err, front_length, front_short, still_long}
+use Rattle.be_mirror.specs.Feeders.{FeederState, IsShown}
+use Rattle.be_mirror.proofs.FeedGoing.{fed_none, rises_none, ends_on, feeds, few, short_on, within_all, err_one, ok_no_err, front_length, front_short, still_long}
+use Rattle.be_mirror.specs.declared.feeding.FeedEnd.{FeedEnd}
 use Rattle.be_mirror.specs.declared.feeding.FeedEnd.TheVariants as feed
 use Rattle.be_mirror.proofs.feeding.take_feed.Goals as goal
 
@@ -18,12 +19,17 @@ loop-left-init g c =
       taken = rises_none (g.S.Source.taken c.args.source.now) (g.S.Source.taken c.args.source.now) refl;
       beside = refl;
       room = omega (arith, c.in-Ok.ensures.len, c.in-Ok.buffer.ok.0);
+      shown = subst IsShown (sym new.0) refl;
     }
 
 pub returns-then-load-clause-feeds : goal.returns-then-load-clause-feeds
 returns-then-load-clause-feeds g c =
     let i = c.loop-left.invariant in
     λ _. feeds g.J.Naming.schema (source_state g.S.Source c.args.source.now) (source_state g.S.Source c.loop-left.source) _ c.loop-left.feeder.took i.fed (i.sound, i.faults)
+    (few c.loop-left.left (source_state g.S.Source c.args.source.now) (source_state g.S.Source c.loop-left.source) (omega (arith, c.loop-left-test.true)) i.bound i.taken)
+
+pub returns-then-load-clause-shown : goal.returns-then-load-clause-shown
+returns-then-load-clause-shown g c = λ _. c.loop-left.invariant.shown
 
 pub returns-then-load-clause-within : goal.returns-then-load-clause-within
 returns-then-load-clause-within g c = let i = c.loop-left.invariant in within_all c.loop-left.left (g.S.Source.taken c.args.source.now) (g.S.Source.taken c.loop-left.source) i.taken
@@ -34,7 +40,10 @@ returns-then-load-clause-beside g c = c.loop-left.invariant.beside
 pub returns-clause-feeds : goal.returns-clause-feeds
 returns-clause-feeds g c =
     let i = c.loop-left.invariant in
-    λ _. feeds g.J.Naming.schema (source_state g.S.Source c.args.source.now) (source_state g.S.Source c.loop-left.source) _ c.loop-left.feeder.took i.fed (i.sound, spent (g.S.Source.taken c.args.source.now) (g.S.Source.taken c.loop-left.source) (SOURCE_BYTES - c.loop-left.left) i.taken (omega (arith, c.loop-left-test.false)), i.faults)
+    λ _. feeds g.J.Naming.schema (source_state g.S.Source c.args.source.now) (source_state g.S.Source c.loop-left.source) _ c.loop-left.feeder.took i.fed (i.sound, spent (g.S.Source.taken c.args.source.now) (g.S.Source.taken c.loop-left.source) (SOURCE_BYTES - c.loop-left.left) i.taken (omega (arith, c.loop-left-test.false)), i.faults) tt
+
+pub returns-clause-shown : goal.returns-clause-shown
+returns-clause-shown g c = λ _. c.loop-left.invariant.shown
 
 pub returns-clause-within : goal.returns-clause-within
 returns-clause-within g c = let i = c.loop-left.invariant in within_all c.loop-left.left (g.S.Source.taken c.args.source.now) (g.S.Source.taken c.loop-left.source) i.taken
@@ -53,6 +62,9 @@ take_piece-requires-clause-some g c =
 pub take_piece-requires-clause-sound : goal.take_piece-requires-clause-sound
 take_piece-requires-clause-sound g c = c.loop-left.invariant.sound
 
+pub take_piece-requires-clause-shown : goal.take_piece-requires-clause-shown
+take_piece-requires-clause-shown g c = c.loop-left.invariant.shown
+
 pub loop-left-preserved : goal.loop-left-preserved
 loop-left-preserved g c =
     let i = c.loop-left.invariant in
@@ -68,6 +80,7 @@ loop-left-preserved g c =
       taken = rises-along (g.S.Source.taken c.args.source.now) (g.S.Source.taken c.loop-left.source) (g.S.Source.taken c.take_piece.new.source) (SOURCE_BYTES - c.loop-left.left) count (SOURCE_BYTES - (c.loop-left.left - count)) i.taken e.taken.2 (omega (arith, few, i.bound));
       beside = c.take_piece.ensures.beside ∙ i.beside;
       room = still_long _ c.loop-left.buffer.items c.loop-left.buffer.len (sym c.loop-left.buffer.ok.0) ∙ (c.loop-left.buffer.ok.0 ∙ i.room);
+      shown = c.take_piece.ensures.shown (λ wanting. ok_no_err (sym c.in-Ok-take_piece.is ∙ wanting));
     }
 
 pub returns-in-Err-clause-feeds : goal.returns-in-Err-clause-feeds
@@ -79,6 +92,11 @@ returns-in-Err-clause-feeds g c = λ not_wanting.
     let fed = c.take_piece.ensures.fed (λ wanting. not_wanting (err_one c.take_piece.result c.in-Err.end feed.NoMemory c.in-Err.is wanting)) before i.fed in
     feeds g.J.Naming.schema before after c.in-Err.end c.take_piece.new.feeder.took fed
     (ends_on before middle after i.fed.bytes (SOURCE_BYTES - c.loop-left.left) c.in-Err.end c.take_piece.new.feeder.took.fed i.fed.given i.faults i.taken (c.in-Err.ensures.ends not_wanting))
+    (short_on c.loop-left.left before middle after c.in-Err.end (omega (arith, c.loop-left-test.true)) i.bound i.taken
+    (λ is. c.take_piece.ensures.still (c.in-Err.is ∙ ap (λ (x : FeedEnd). Err x) is)) (λ is. c.take_piece.ensures.stays (c.in-Err.is ∙ ap (λ (x : FeedEnd). Err x) is)))
+
+pub returns-in-Err-clause-shown : goal.returns-in-Err-clause-shown
+returns-in-Err-clause-shown g c = λ not_wanting. c.take_piece.ensures.shown (λ wanting. not_wanting (err_one c.take_piece.result c.in-Err.end feed.NoMemory c.in-Err.is wanting))
 
 pub returns-in-Err-clause-within : goal.returns-in-Err-clause-within
 returns-in-Err-clause-within g c =

@@ -1,10 +1,12 @@
-use Rattle.std.proofs.Common.{◌≢◌, length, rules, arith}
+use Rattle.std.proofs.Common.{◌≡◌, ◌≢◌, length, Err, IfErr, rules, arith, sym, subst}
 use Rattle.std.specs.Option.{is_some}
 use Rattle.be_hub.proofs.Pairs.{ok_said}
 use Rattle.be_io.specs.Outside.{link_state}
 use Rattle.be_mirror.specs.declared.feeding.FeedEnd.TheVariants as feed
+use Rattle.be_mirror.specs.Serving.{LeavesDoor}
+use Rattle.be_mirror.specs.declared.serving.MirrorFault.TheVariants as fault
 use Rattle.be_mirror.proofs.AllRead.{counts_are}
-use Rattle.be_mirror.proofs.MirrorServed.{links_read, no_shade}
+use Rattle.be_mirror.proofs.MirrorServed.{links_read, no_shade, door_left}
 use Rattle.be_mirror.proofs.serving.mirror.Goals as goal
 
 pub settle_links-requires-clause-all : goal.settle_links-requires-clause-all
@@ -31,3 +33,16 @@ returns-clause-mirrored g c before port links is =
           (link_state g.L.Source g.L.Sink) (λ end. end.session) (λ end. end.count) (λ end. end.ends.items) g.J.Naming.schema h (is_some left.shade) ends.items served
           left.sessions.items said.sessions c.in_ok-show_all.ensures.shown (λ none. said.shade (no_shade left.shade none)) said.none_lacked left.sums said.sums said.none_refused said.settled said.links;
     }
+
+pub returns-in_err-show_all-clause-fault : goal.returns-in_err-show_all-clause-fault
+returns-in_err-show_all-clause-fault g c before port links is =
+    let beyond = c.in_err-show_all.field-0.0 in
+    let ends = c.in_ok-ends.field-0 in
+    let left = c.in_ok-sessions.field-0 in
+    let said = c.in_ok-sessions.ensures in
+    let served = ok_said _ c.run_beside-ends.result.0 ends c.in_ok-ends.was c.run_beside-ends.ensures.ends in
+    let after = g.D.Door.state c.settle_links.new.door in
+    let gives : c.from_residual-in_err-show_all.result ≡ Err (fault.Ahead beyond) = search rules in
+    subst (λ r. IfErr r (λ x. LeavesDoor before after port links (length c.args.glasses.items) x)) (sym gives)
+    (door_left before (g.D.Door.state c.args.door.now) after port links (length c.args.glasses.items) is (link_state g.L.Source g.L.Sink) (λ end. end.session) (λ end. end.count) (λ end. end.ends.items)
+    g.J.Naming.schema c.run_beside-ends.new.feeder.published beyond c.in_err-show_all.ensures.beyond ends.items served left.sums said.sums said.none_refused said.settled said.links)

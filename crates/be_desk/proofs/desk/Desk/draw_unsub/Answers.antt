@@ -24,18 +24,19 @@ pub returns-then-owner-seat-clause-refused : goal.returns-then-owner-seat-clause
 returns-then-owner-seat-clause-refused g c =
     let listed : c.self.inside.ledger ≡ c.args.self.now.list = c.self.invariant.0 ∙ ap (λ x. x.list) c.self.view_is in
     let there = subst (λ h. IsNamed c.args.name (live h) c.in-Some.id c.in-Some.owner.0) listed c.in-Some.ensures in
-    ((c.len-m.ensures.len ∙ ap (λ x. length x.published) c.self.view_is ∙ ap (λ h. length h) c.requires.agrees.published), named_elsewhere c.args.self.now.list c.args.seat.now.session c.args.name c.in-Some.id c.in-Some.owner.0 there (λ e. c.if-owner-seat.true (e ∙ sym (ap (λ x. x.session) c.seat.view_is))))
+    λ _. ((c.len-m.ensures.len ∙ ap (λ x. length x.published) c.self.view_is ∙ ap (λ h. length h) c.requires.agrees.published), named_elsewhere c.args.self.now.list c.args.seat.now.session c.args.name c.in-Some.id c.in-Some.owner.0 there (λ e. c.if-owner-seat.true (e ∙ sym (ap (λ x. x.session) c.seat.view_is))))
 
 pub returns-in-None-clause-refused : goal.returns-in-None-clause-refused
 returns-in-None-clause-refused g c =
     let listed : c.self.inside.ledger ≡ c.args.self.now.list = c.self.invariant.0 ∙ ap (λ x. x.list) c.self.view_is in
-    ((c.len-m.ensures.len ∙ ap (λ x. length x.published) c.self.view_is ∙ ap (λ h. length h) c.requires.agrees.published), named_none c.args.name (live c.args.self.now.list) (subst (λ h. named c.args.name (live h) ≡ None) listed c.in-None.ensures))
+    λ _. ((c.len-m.ensures.len ∙ ap (λ x. length x.published) c.self.view_is ∙ ap (λ h. length h) c.requires.agrees.published), named_none c.args.name (live c.args.self.now.list) (subst (λ h. named c.args.name (live h) ≡ None) listed c.in-None.ensures))
 
-pub returns-else-owner-seat-clause-may : goal.returns-else-owner-seat-clause-may
-returns-else-owner-seat-clause-may g c =
+pub returns-in-Ok-clause-may : goal.returns-in-Ok-clause-may
+returns-in-Ok-clause-may g c =
     let listed : c.self.inside.ledger ≡ c.args.self.now.list = c.self.invariant.0 ∙ ap (λ x. x.list) c.self.view_is in
     let somebody = c.seat.invariant.1.kept.somebody in
     let stood = ap (λ x. stand x.session c.args.self.now.list) c.seat.view_is ∙ (c.requires.agrees.stands ∙ sym (ap (λ x. serial_in x) c.seat.view_is)) in
     let serial = c.seat.invariant.1.serial_is in
     let there = subst (λ h. IsNamed c.args.name (live h) c.in-Some.id c.in-Some.owner.0) listed c.in-Some.ensures in
-    may_unsub g.J.Naming.schema c.args.self.now.list c.seat.inside.session.0 c.seat.inside.serial c.args.name c.in-Some.id c.in-Some.owner.0 somebody (stood ∙ sym serial) (few_serial _ _ c.requires.few (serial ∙ ap (λ x. serial_in x) c.seat.view_is)) there c.if-owner-seat.false
+    subst (MayAppend g.J.Naming.schema c.args.self.now.list) (sym c.in-Ok.ensures)
+    (may_unsub g.J.Naming.schema c.args.self.now.list c.seat.inside.session.0 c.seat.inside.serial c.args.name c.in-Some.id c.in-Some.owner.0 somebody (stood ∙ sym serial) (few_serial _ _ c.requires.few (serial ∙ ap (λ x. serial_in x) c.seat.view_is)) there c.if-owner-seat.false)

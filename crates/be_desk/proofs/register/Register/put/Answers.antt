@@ -1,24 +1,24 @@
--- The row is filed, or taken out again.
-use Rattle.std.proofs.Common.{ap, ◌∙◌, Some}
-use Rattle.std.specs.Map.{lookup}
-use Rattle.std.specs.BTreeMap.{get, is_at}
-use Rattle.std.specs.Ordering.{nat_cmp}
-use Rattle.std.specs.Cmp.Lexicographic.{slice_cmp}
-use Rattle.be_desk.proofs.Filing.{renamed, names_put, pairs_put, pairs_back}
+-- The row is filed and counted, or nothing is.
+use Rattle.std.proofs.Common.{subst, arith, rules}
+use Rattle.be_copy.specs.Registers.{IsRegister as IsFiled}
+use Rattle.be_change.specs.History.{live}
+use Rattle.be_desk.specs.Registers.{IsRegister}
+use Rattle.be_desk.proofs.Filing.{is_new, put_last, one_more, live_few}
 use Rattle.be_desk.proofs.register.Register.put.Goals as goal
 
-pub returns-in-Ok-clause-put : goal.returns-in-Ok-clause-put
-returns-in-Ok-clause-put c = λ h may filed.
-    let r = c.args.self.now in
+pub overflow_add-self : goal.overflow_add-self
+overflow_add-self c = omega (arith, c.requires.filed.count, live_few c.args.list.now.list, c.len.ensures.len, c.len.ensures.most)
+
+pub returns-clause-put : goal.returns-clause-put
+returns-clause-put c =
+    let h = c.args.list.now.list in
     let row = c.args.row.now in record {
-      names = names_put h row (get (slice_cmp nat_cmp) r.names) (get (slice_cmp nat_cmp) c.insert.new.self) may (renamed row.name (Some row.id.0) r.names c.insert.new.self c.in-Ok.ensures.updates.0) filed.names;
-      sessions = pairs_put h row r.sessions.pairs.keys c.put.new.self.pairs.keys may c.in_ok-put.ensures.put filed.sessions;
+      filed = subst (IsFiled c.put.new.self) (put_last h row c.requires.next) (c.in_ok-put.ensures.put (live h) (is_new h row c.requires.next) c.requires.filed.filed);
+      count = omega (arith, c.requires.filed.count, one_more h row);
     }
 
-pub returns-in-Err-clause-refused : goal.returns-in-Err-clause-refused
-returns-in-Err-clause-refused c = λ h may filed.
-    let r = c.args.self.now in
-    let row = c.args.row.now in record {
-      names = λ name. ap (lookup (is_at (slice_cmp nat_cmp name))) c.in-Err.ensures.err ∙ filed.names name;
-      sessions = pairs_back h row r.sessions.pairs.keys c.put.new.self.pairs.keys c.drop_pair.new.self.pairs.keys may c.in_ok-put.ensures.put c.drop_pair.ensures filed.sessions;
-    }
+pub returns-in_err-put-clause-refused : goal.returns-in_err-put-clause-refused
+returns-in_err-put-clause-refused c =
+    let h = c.args.list.now.list in
+    let same : IsRegister (record { filed = c.put.new.self; count = c.args.self.now.count }) (live h) = record { filed = c.in_err-put.ensures.refused (live h) (is_new h c.args.row.now c.requires.next) c.requires.filed.filed; count = c.requires.filed.count } in
+    search (rules, same)

@@ -1,34 +1,42 @@
 -- The one row of the name is taken out.
-use Rattle.std.proofs.Common.{◌≡◌, Some, sym, ◌∙◌, subst}
-use Rattle.std.specs.BTreeMap.{get}
-use Rattle.std.specs.Ordering.{nat_cmp}
-use Rattle.std.specs.Cmp.Lexicographic.{slice_cmp}
+use Rattle.std.proofs.Common.{◌≡◌, ℕ, Option, Some, None, sym, ◌∙◌, arith}
+use Rattle.be_model.specs.declared.changes.Row.{Row}
 use Rattle.be_model.specs.Rows.{id_of}
 use Rattle.be_change.specs.History.{live}
-use Rattle.be_change.proofs.Grows.{rising_live}
-use Rattle.be_change.proofs.Names.{live_differ}
-use Rattle.be_copy.specs.Registers.{AreFiled, session_of_row}
-use Rattle.be_desk.specs.Registers.{AreNamed}
-use Rattle.be_desk.proofs.Named.{no_id}
-use Rattle.be_desk.proofs.Filing.{renamed, names_without, pairs_without, is_unsubbed}
+use Rattle.be_desk.proofs.Named.{named_is}
+use Rattle.be_desk.proofs.Filing.{is_unsubbed, unsubbed, unsubbed_less}
 use Rattle.be_desk.proofs.register.Register.remove.Goals as goal
 
-pub returns-in-Some : goal.returns-in-Some
-returns-in-Some c = λ h n w there filed.
-    let r = c.args.self.now in
-    let is = is_unsubbed h c.args.session.0 c.args.name.now w there in
-    let found : Some c.in-Some.id ≡ Some (id_of is.row) = sym c.in-Some.is ∙ (c.remove.ensures.value ∙ (filed.names c.args.name.now ∙ is.named)) in
-    let id : c.in-Some.id ≡ id_of is.row = cc in
-    let up = rising_live h in
-    let differ = live_differ h w in record {
-      names = subst (AreNamed (get (slice_cmp nat_cmp) c.remove.new.self)) is.left
-          (names_without (live h) is.row c.args.name.now (get (slice_cmp nat_cmp) r.names) (get (slice_cmp nat_cmp) c.remove.new.self) is.name_is up differ is.there (renamed c.args.name.now no_id r.names c.remove.new.self c.remove.ensures.updates.0) filed.names);
-      sessions = subst (AreFiled session_of_row c.drop_pair.new.self.pairs.keys) is.left
-          (pairs_without (live h) is.row c.args.session.0 c.in-Some.id r.sessions.pairs.keys c.drop_pair.new.self.pairs.keys is.owner id is.there c.drop_pair.ensures filed.sessions);
-    }
+-- what is found of one name is one row
+one_found : (o : Option (ℕ × Row)) (id : ℕ) (row : Row) (r : ℕ × Row) → o ≡ Some (id, row) → o ≡ Some r → id ≡ r.0
+one_found o id row r is also = let both : Some (id, row) ≡ Some r = sym is ∙ also in same (id, row) r both
+  where
+    same : (x y : ℕ × Row) → Some x ≡ Some y → x.0 ≡ y.0
+    same x y e = cc
 
-pub returns-in_default : goal.returns-in_default
-returns-in_default c = λ h n w there filed.
-    let is = is_unsubbed h c.args.session.0 c.args.name.now w there in
-    let none : no_id ≡ Some (id_of is.row) = sym c.in_default.is ∙ (c.remove.ensures.value ∙ (filed.names c.args.name.now ∙ is.named)) in
-    absurd cc
+none_found : (o : Option (ℕ × Row)) (r : ℕ × Row) → o ≡ None → o ≡ Some r → ⊥
+none_found None r none some = absurd cc
+none_found (Some x) r none some = absurd cc
+
+pub unreachable-requires : goal.unreachable-requires
+unreachable-requires c =
+    let h = c.args.list.now.list in
+    let is = is_unsubbed h c.args.session.0 c.args.name.now c.requires.formed c.requires.there in
+    none_found _ is.found c.in_default.ensures (sym (named_is c.args.name.now (live h)) ∙ is.named_so)
+
+pub overflow_sub-self : goal.overflow_sub-self
+overflow_sub-self c =
+    let h = c.args.list.now.list in
+    omega (arith, c.requires.filed.count, unsubbed_less h c.args.session.0 c.args.name.now (is_unsubbed h c.args.session.0 c.args.name.now c.requires.formed c.requires.there))
+
+pub returns : goal.returns
+returns c = λ n.
+    let h = c.args.list.now.list in
+    let k = c.args.session.0 in
+    let name = c.args.name.now in
+    let is = is_unsubbed h k name c.requires.formed c.requires.there in
+    let id : c.in-Some.id ≡ id_of is.row = one_found _ c.in-Some.id _ is.found c.in-Some.ensures (sym (named_is name (live h)) ∙ is.named_so) ∙ is.id_is in record {
+      filed = unsubbed c.args.self.now.filed (record { sessions = c.drop_pair.new.self; names = c.drop_pair-2.new.self }) h k c.in-Some.id c.key-key.result name is id c.key-key.ensures
+          c.drop_pair.ensures c.drop_pair-2.ensures c.requires.filed.filed;
+      count = omega (arith, c.requires.filed.count, unsubbed_less h k name is);
+    }

@@ -1,5 +1,6 @@
 -- One more part of the piece was taken.
 use Rattle.std.proofs.Common.{ℕ, List, subst, arith, ◌∙◌, length-drop, length-take}
+use Rattle.be_base.proofs.Beginnings.{BeginsWith-along}
 use Rattle.be_follow.specs.Followers.{with_list, Follows}
 use Rattle.be_follow.proofs.Taken.{taken_then, stays_on}
 use Rattle.be_follow.proofs.intake.Intake.feed.Goals as goal
@@ -12,6 +13,7 @@ loop-taken-preserved g c = record {
       (c.in-Ok.ensures.taken.2 _ (c.loop-taken.invariant.follows bytes f));
   schema = c.take_line.ensures.schema.0 ∙ c.loop-taken.invariant.schema;
   listed = c.take_line.ensures.schema.1 ∙ c.loop-taken.invariant.schema;
+  grows = BeginsWith-along (g.F.FeedList.list c.take_line.new.list) (g.F.FeedList.list c.loop-taken.list) (g.F.FeedList.list c.args.list.now) c.take_line.ensures.grows c.loop-taken.invariant.grows;
   stays = stays_on c.args.self.now c.loop-taken.self c.take_line.new.self _ _ _ c.loop-taken.invariant.stays c.take_line.ensures.stays;
 }
 

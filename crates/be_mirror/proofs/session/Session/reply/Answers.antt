@@ -12,7 +12,7 @@ use Rattle.be_mirror.specs.Asked.{plain_ask}
 use Rattle.be_mirror.specs.Sessions.{mirror_conduct}
 use Rattle.be_mirror.specs.declared.asking.Ask.{Ask}
 use Rattle.be_mirror.proofs.Said.{says_text, says_short, says_built}
-use Rattle.be_mirror.proofs.Stepping.{quit_replies, refused_replies}
+use Rattle.be_mirror.proofs.Stepping.{refused_replies}
 use Rattle.be_mirror.proofs.session.Session.reply.Goals as goal
 
 pub returns-in-Publish-clause-gives : goal.returns-in-Publish-clause-gives
@@ -66,14 +66,14 @@ returns-in-Tailing-clause-gives g c =
 pub returns-in-Quit-clause-gives : goal.returns-in-Quit-clause-gives
 returns-in-Quit-clause-gives g c =
     let s = g.J.Naming.schema in
-    let glass = c.self.inside.glass in
+    let glass' = c.length-n.new.glass in
     let before = sink_state g.K.Sink c.args.out.now in
     let after = sink_state g.K.Sink c.tell-in-Quit.new.out in
     let turn = c.tell-in-Quit.result in
-    let reply = asked.bye c.front.result in
-    subst (λ (ask : Ask). GivesReply (mirror_conduct s) (plain_ask ask) c.args.self.now c.args.self.now before after turn.by turn.written) (sym c.in-Quit.is)
-    (subst (λ (v : GlassState). GivesReply (mirror_conduct s) asked.quit v v before after turn.by turn.written) c.self.view_is
-    (says_text s asked.quit reply glass glass before after (Some ends.Quit) (reply_text s reply) turn refl (quit_replies s c.front.result glass c.front.ensures.front) refl (c.tell-in-Quit.ensures.says s)))
+    let reply = asked.bye c.length-n.result in
+    subst (λ (ask : Ask). GivesReply (mirror_conduct s) (plain_ask ask) c.args.self.now glass' before after turn.by turn.written) (sym c.in-Quit.is)
+    (subst (λ (v : GlassState). GivesReply (mirror_conduct s) asked.quit v glass' before after turn.by turn.written) c.self.view_is
+    (says_text s asked.quit reply c.self.inside.glass glass' before after (Some ends.Quit) (reply_text s reply) turn refl c.length-n.ensures refl (c.tell-in-Quit.ensures.says s)))
 
 pub returns-in-Refused-clause-gives : goal.returns-in-Refused-clause-gives
 returns-in-Refused-clause-gives g c =

@@ -1,21 +1,16 @@
--- Memory was wanting to a line that asks for a read.
-use Rattle.std.proofs.Common.{rules, ◌≡◌, subst}
+-- Room is let go behind an answer.
+use Rattle.std.proofs.Common.{sym, subst}
 use Rattle.be_base.specs.Tokens.{tokens}
-use Rattle.be_model.specs.Schemas.{Attributes}
-use Rattle.be_change.specs.Requests as request
-use Rattle.be_protocol.specs.Requests.{TakesMemory}
+use Rattle.be_io.specs.Outside.{sink_state}
+use Rattle.be_published.specs.States.{GlassState}
+use Rattle.be_protocol.specs.Conduct.{GivesReply}
 use Rattle.be_mirror.specs.Asked.{asked_of}
-use Rattle.be_mirror.proofs.Commanding.{only_reads}
-use Rattle.be_mirror.proofs.Said.{says_short}
-use Rattle.be_mirror.proofs.Stepping.{reading_is_no_quit, wanting_replies}
+use Rattle.be_mirror.specs.Sessions.{mirror_conduct}
 use Rattle.be_mirror.proofs.session.SessionReplier.answer.Goals as goal
 
-pub returns-in-Err-clause-gives : goal.returns-in-Err-clause-gives
-returns-in-Err-clause-gives g c =
+pub returns-clause-gives : goal.returns-clause-gives
+returns-clause-gives g c =
     let s = g.J.Naming.schema in
-    let ts = tokens c.args.text.now in
-    let glass = c.args.self.now in
-    let is : c.deref.result.now ≡ s = search rules in
-    let takes : TakesMemory (asked_of s ts) = subst (λ (a : Attributes). TakesMemory (asked_of a ts)) is c.in-Err.ensures.read in
-    let reads = only_reads s ts takes in
-    says_short s (asked_of s ts) request.no_memory glass glass _ _ c.tell.result (reading_is_no_quit (asked_of s ts) reads) (wanting_replies s (asked_of s ts) glass reads) c.tell.ensures.says
+    let turn = c.answer_text-turn.result in
+    subst (λ (v : GlassState). GivesReply (mirror_conduct s) (asked_of s (tokens c.args.text.now)) c.args.self.now v (sink_state g.K.Sink c.args.out.now) (sink_state g.K.Sink c.answer_text-turn.new.out) turn.by turn.written)
+    (sym c.self.view_is) c.answer_text-turn.ensures.gives

@@ -1,0 +1,49 @@
+-- What a press is handed of a list.
+use Rattle.std.proofs.Common.{◌≡◌, ◌++◌, ◌∷◌, [], List, sym, ap, ◌∙◌, subst, append_assoc}
+use Rattle.std.proofs.lemmas.List.{map-append}
+use Rattle.std.proofs.lemmas.List.Folds.{list_all-append}
+use Rattle.std.proofs.lemmas.Bool.{and_parts}
+use Rattle.std.specs.Arc.{arc_value}
+use Rattle.std.specs.declared.sync.Arc.{Arc}
+use Rattle.be_base.specs.Lists.{BeginsWith}
+use Rattle.be_model.specs.Schemas.{Attributes}
+use Rattle.be_model.specs.declared.changes.Change.{Change}
+use Rattle.be_change.specs.Entries.{entry_of, entries_in}
+use Rattle.be_change.specs.History.{Entry}
+use Rattle.be_change.specs.Sound.{Sound, MayAppend, all_lie, entry_lies}
+use Rattle.be_change.proofs.Forms.{formed_front, sound_last}
+
+-- the next of the changes that are to be handed may follow
+next_may : (s : Attributes) (h more : List Entry) (e : Entry) → Sound s (h ++ e ∷ more) → MayAppend s h e
+next_may s h more e sound =
+    let all : h ++ e ∷ more ≡ (h ++ e ∷ []) ++ more = sym (append_assoc h (e ∷ []) more) in
+    let whole : Sound s ((h ++ e ∷ []) ++ more) = subst (λ (x : List Entry). Sound s x) all sound in
+    sound_last s h e (record {
+      formed = formed_front (h ++ e ∷ []) more whole.formed;
+      lies = (and_parts (all_lie s (h ++ e ∷ [])) (all_lie s more) (sym (list_all-append (entry_lies s) (h ++ e ∷ []) more) ∙ whole.lies)).0;
+    })
+
+entries-append : {Z : Type 0} (xs ys : List (Arc Change Z)) → entries_in (xs ++ ys) ≡ entries_in xs ++ entries_in ys
+entries-append xs ys = map-append (λ y. entry_of (arc_value y)) xs ys
+
+-- of the changes some were handed, and then these are left
+module _ {Z : Type 0} (h g : List Entry) (items handed more : List (Arc Change Z)) (split : items ≡ handed ++ more) (has : g ≡ h ++ entries_in handed) where
+  handed_all : h ++ entries_in items ≡ g ++ entries_in more
+  handed_all =
+      ap (λ (l : List (Arc Change Z)). h ++ entries_in l) split
+      ∙ (ap (λ (l : List Entry). h ++ l) (entries-append handed more) ∙ (sym (append_assoc h (entries_in handed) (entries_in more)) ∙ ap (λ (l : List Entry). l ++ entries_in more) (sym has)))
+
+  pub handed_begins : BeginsWith (h ++ entries_in items) g
+  handed_begins = (entries_in more, handed_all)
+
+pub handed_may : {Z : Type 0} (s : Attributes) (h g : List Entry) (items handed more : List (Arc Change Z)) (x : Arc Change Z) → items ≡ handed ++ x ∷ more → g ≡ h ++ entries_in handed → Sound s (h ++ entries_in items)
+    → MayAppend s g (entry_of (arc_value x))
+handed_may s h g items handed more x split has sound =
+    next_may s g (entries_in more) (entry_of (arc_value x)) (subst (λ (l : List Entry). Sound s l) (handed_all h g items handed (x ∷ more) split has) sound)
+
+-- one more was handed
+pub handed_on : {Z : Type 0} (h g next : List Entry) (handed : List (Arc Change Z)) (x : Arc Change Z) → g ≡ h ++ entries_in handed → next ≡ g ++ entry_of (arc_value x) ∷ [] → next ≡ h ++ entries_in (handed ++ x ∷ [])
+handed_on h g next handed x has put =
+    put
+    ∙ (ap (λ (l : List Entry). l ++ entry_of (arc_value x) ∷ []) has
+    ∙ (append_assoc h (entries_in handed) (entry_of (arc_value x) ∷ []) ∙ ap (λ (l : List Entry). h ++ l) (sym (entries-append handed (x ∷ [])))))
