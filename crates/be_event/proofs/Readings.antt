@@ -1,4 +1,5 @@
 -- What a scan of a text says of the event that it is.
+use Rattle.std.specs.Prelude.{MatchBool}
 use Rattle.std.proofs.Common.{◌≡◌, ℕ, ℤ, zero, suc, ◌≤◌, ◌==◌, Bool, true, false, cond, List, [], ◌∷◌, length, get_or, Option, Some, None, option_map, option_and_then, Result, Ok, Err, codes, refl, sym, ap, ◌∙◌, arith, if◌then◌else◌}
 use Rattle.std.specs.List.{cons_option}
 use Rattle.std.specs.Option.{option_or}
@@ -52,6 +53,15 @@ reads_empty s (Some (word w ∷ [])) h = dash s (same_text w (codes "-"))
 reads_empty s (Some (t ∷ [])) h = ap (meaning s) h
 reads_empty s (Some (word w ∷ u ∷ ts)) h = ap (meaning s) h
 reads_empty s (Some (t ∷ u ∷ ts)) h = ap (meaning s) h
+
+-- a scan that says that there is a reading
+pub scanned_so : (s : Attributes) (text : Text) (found : Found) (b : Bool) → MatchBool b (Scanned s text (Some found)) (Scanned s text None) → b ≡ true → Scanned s text (Some found)
+scanned_so s text found true k e = k
+scanned_so s text found false k e = absurd (cc)
+
+pub scanned_none : (s : Attributes) (text : Text) (found : Found) (b : Bool) → MatchBool b (Scanned s text (Some found)) (Scanned s text None) → b ≡ false → items_in (tokens text) ≡ None
+scanned_none s text found true k e = absurd (cc)
+scanned_none s text found false k e = k
 
 -- a set of an item lies in the schema
 lies_step : (s : Attributes) (o : Option (AttrNo × List ℤ)) (items : Assignments) (a : AttrNo) (vs : List ℤ) → ((i : AttrNo × List ℤ) → o ≡ Some i → item_lies s i ≡ true)

@@ -1,12 +1,12 @@
 //! The texts of events.
 
-ghost use Rattle.std.specs.Prelude.{◌≡◌, ◌≤◌, None, true, length, get_or, IfOk, IfErr};
+ghost use Rattle.std.specs.Prelude.{◌≡◌, ◌≤◌, [], Some, None, true, length, get_or, IfOk, IfErr, MatchBool};
 ghost use Rattle.be_base.specs.declared.limits.TheConstants.{ATTRIBUTES};
 ghost use Rattle.be_base.specs.Tokens.{tokens};
 ghost use Rattle.be_model.specs.Lies.{event_lies};
 ghost use Rattle.be_model.specs.Schemas.{numbered};
 ghost use Rattle.be_event.specs.Events.{event, empty_event, by_place, Reads, IsKnown};
-ghost use Rattle.be_event.specs.Scan.{meant, AreFine, Scanned};
+ghost use Rattle.be_event.specs.Scan.{meant, AreFine, Finds, Scanned};
 
 use crate::found::Found;
 use crate::items::{NextItem, Source, next_item, read_source, scan_given};
@@ -53,9 +53,10 @@ pub fn read_event(alloc: Global, schema: &Schema, text: &[u8]) -> Result<Event, 
     ensures lies { IfOk result (λ e. event_lies schema.now e ≡ true) }
     ensures known { IfErr result (IsKnown schema.now) }
 {
-    let Some(found) = scan(schema, text) else {
+    let mut found = Found::nothing();
+    if !scan(schema, text, &mut found) {
         return empty_event(alloc, text);
-    };
+    }
     if !found.faults.some {
         return Err(EventFault::Bad);
     }
@@ -73,22 +74,24 @@ fn empty_event(alloc: Global, text: &[u8]) -> Result<Event, EventFault>
     }
 }
 
-// The items of a whole text.
-fn scan<'a>(schema: &Schema, text: &'a [u8]) -> Option<Found<'a>>
-    ensures { Scanned schema.now text.now result }
+// Notes the items of a whole text, and says whether it has a reading. What is found is lent, since it is large.
+fn scan<'a>(schema: &Schema, text: &'a [u8], found: &mut Found<'a>) -> bool
+    requires { Finds schema.now [] found.old }
+    ensures { MatchBool result (Scanned schema.now text.now (Some found.new)) (Scanned schema.now text.now None) }
 {
-    let mut found = Found::nothing();
     let mut left = text;
     'items: loop {
         match next_item(left) {
             NextItem::Item { name, rest } => {
                 let attr = schema.find(&name);
-                let (given, after) = scan_given(schema, attr, rest)?;
+                let Some((given, after)) = scan_given(schema, attr, rest) else {
+                    return false;
+                };
                 found.note(&name, attr, given);
                 left = after;
             }
-            NextItem::End => return Some(found),
-            NextItem::Bad => return None,
+            NextItem::End => return true,
+            NextItem::Bad => return false,
         }
     }
 }
