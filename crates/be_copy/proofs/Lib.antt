@@ -2,6 +2,7 @@ pub mod Pairs
 mod MarkedBits
 mod Blocks
 pub mod Filed
+mod KeyBytes
 pub mod Firsts
 pub mod SoFar
 pub mod Kept

@@ -1,4 +1,4 @@
-use Rattle.std.proofs.Common.{◌≡◌, ℕ, ◌+◌, ◌*◌, ◌/◌, Some, None, refl, subst, sym}
+use Rattle.std.proofs.Common.{ℕ, ◌+◌, ◌*◌, ◌/◌, Some, None, refl, subst, sym}
 use Rattle.be_copy.specs.Places.{IsLeast}
 use Rattle.be_copy.specs.Bitmaps.{is_noted}
 use Rattle.be_copy.proofs.Blocks.{next_here, none_here}

@@ -1,4 +1,4 @@
-use Rattle.std.proofs.Common.{◌+◌, ◌*◌, ◌/◌, Some, arith}
+use Rattle.std.proofs.Common.{◌+◌, ◌*◌, ◌/◌, arith}
 use Rattle.be_copy.specs.Bitmaps.{is_noted}
 use Rattle.be_copy.proofs.Blocks.{next_later}
 use Rattle.be_copy.proofs.bitmaps.Bitmaps.next.Goals as goal

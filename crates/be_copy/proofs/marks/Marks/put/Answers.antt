@@ -1,4 +1,4 @@
-use Rattle.std.proofs.Common.{◌||◌, ◌==◌, ℕ, ap, ◌∙◌, sym}
+use Rattle.std.proofs.Common.{◌||◌, ◌==◌, ℕ, ap, ◌∙◌}
 use Rattle.be_copy.specs.Bitmaps.{is_marked}
 use Rattle.be_copy.proofs.MarkedBits.{marked_more, more_are_some}
 use Rattle.be_copy.proofs.marks.Marks.put.Goals as goal

@@ -1,4 +1,4 @@
-use Rattle.std.proofs.Common.{◌==◌, cond, false, ℕ, ap, ◌∙◌, sym, arith}
+use Rattle.std.proofs.Common.{◌==◌, cond, false, ℕ, ap, ◌∙◌, sym}
 use Rattle.be_copy.specs.Bitmaps.{is_marked}
 use Rattle.be_copy.proofs.MarkedBits.{marked_less, none_less}
 use Rattle.be_copy.proofs.marks.Marks.take.Goals as goal
