@@ -63,6 +63,7 @@ asked_local s s' b b' r answer same a formed rest = record {
     counts = record { reads = omega arith; shuts = omega arith; splits = omega arith; fulls = omega arith; empties = omega arith; puts = omega arith; tends = omega arith };
   };
   letters = record { notes = refl; box = ap (λ (l : List PlainLetter). Some (map note_of l)) rest.letters; puts = refl; fulls = rest.fulls };
+  reads = record { reads = rest.reads; shuts = refl };
   formed = formed;
   answers = a.answers;
   split = never_split (local_word b.list) (local_word b'.list) r answer _ a.alone;
@@ -97,6 +98,8 @@ fetches_local s s' v b' l same t d = record {
   own = ap (placed_of 1) t.list;
   puts = refl;
   fulls = t.fulls;
+  reads = record { reads = t.reads; shuts = refl };
+  splits = refl;
   from = (refl, map note_of b'.letters, refl, (ap (map note_of) t.letters, d));
 }
 

@@ -151,7 +151,7 @@ posts_local {X} s s' v b' n room put full dropped e p left =
     let long : length (map note_of b'.letters) ≡ length (map note_of v.letters) + put =
     omega (arith, length-map b'.letters note_of, length-map v.letters note_of, ap (λ (l : List PlainLetter). length l) p.letters, length-append v.letters (take room (letters_for n e rows)), p.many) in
     record {
-      read = record { length = p.at ∙ ap (λ (l : List Entry). length l) (sym p.list); counted = omega (arith, p.reads) };
+      read = record { length = p.at ∙ ap (λ (l : List Entry). length l) (sym p.list); counted = p.reads; shuts = refl };
       all = omega (arith, counts.put_few, many, named, left, ap (λ (l : List Entry). length (hits l e)) p.list);
       drops = subst (λ (l : List Entry). Drops (local_state s v) (local_state s' b') (hit_rows l e) dropped) (sym p.list)
           (full, omega (arith, counts.dropped, nobodys, left), rises_by full v.fulls b'.fulls p.fulls);

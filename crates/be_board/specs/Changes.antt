@@ -1,12 +1,12 @@
 -- What a board answers to a change that is asked for.
 use Rattle.std.specs.Prelude.{◌≡◌, ◌≢◌, ℕ, ◌-◌, ◌<◌, ◌≤◌, ◌⊎◌, true, false, [], ◌∷◌, ◌++◌, length, Some, slice_get}
-use Rattle.be_base.specs.Counts.{HasRisen}
+use Rattle.be_base.specs.Counts.{raised}
 use Rattle.be_change.specs.History.{Entry, live, is_live_name, is_live_name_of, IsWellFormed}
 use Rattle.be_change.specs.Made.{change_named}
 use Rattle.be_change.specs.Requests.{Request, subscribe, unsubscribe}
 use Rattle.be_change.specs.Walk.{IsChangeOf, HasNameAt, HasNameOfAnotherAt}
 use Rattle.be_board.specs.Word.{Word, own_in, top}
-use Rattle.be_board.specs.State.{BoardState, GoesOn, LeavesLetters}
+use Rattle.be_board.specs.State.{BoardState, GoesOn, LeavesLetters, LeavesReads}
 use Rattle.be_board.specs.declared.answers.Answer.{Answer}
 use Rattle.be_board.specs.declared.answers.Answer.TheVariants.{Done, Held, Dup, NoName, Other, Split, NoMemory}
 
@@ -53,15 +53,16 @@ AnswersAlone w w' r (Split seen written) = ⊥
 AnswersAlone w w' (unsubscribe name) NoMemory = (w'.known ≡ w.known) × (is_live_name_of w.session name (live w.known) ≡ true)
 AnswersAlone w w' r answer = w'.known ≡ w.known
 
--- that two numbers differ is counted where it is told, and with no other answer to a change
+-- that two numbers differ is counted once where it is told, and with no other answer to a change
 abbrev pub CountsSplit : Answer → ℕ → ℕ → Type 0
-CountsSplit (Split seen written) c c' = HasRisen c c'
+CountsSplit (Split seen written) c c' = c' ≡ raised 1 c
 CountsSplit answer c c' = c' ≡ c
 
 -- a change was asked for, and answered so. What is known then is well formed
 pub record Asked (b b' : BoardState) (r : Request) (answer : Answer) : Type 0 where
   pub goes : GoesOn b b'
   pub letters : LeavesLetters b b'
+  pub reads : LeavesReads b b'
   pub formed : IsWellFormed b'.word.known
   pub answers : Answers b.word b'.word r answer
   pub split : CountsSplit answer b.counts.splits b'.counts.splits

@@ -12,7 +12,7 @@ use Rattle.be_change.specs.History.{Entry, ByIds, is_of, hit_rows, hits}
 use Rattle.be_change.specs.Requests.{Note, note}
 use Rattle.be_board.specs.declared.answers.Sent.{Sent}
 use Rattle.be_board.specs.Word.{Word, IsDelivered}
-use Rattle.be_board.specs.State.{BoardState, GoesOn, CountsPuts, WhereBox}
+use Rattle.be_board.specs.State.{BoardState, GoesOn, LeavesReads, CountsPuts, WhereBox}
 use Rattle.be_board.specs.Reads.{IsReadAt, Refuses}
 
 -- what a letter says to whom it is for
@@ -26,17 +26,19 @@ pub record IsLetterFor (s : Attributes) (k : ℕ) (l : PlainLetter) : Type 0 whe
   pub satisfied : satisfies l.event l.row.conj ≡ true
   pub lies : event_lies s l.event ≡ true
 
--- SEND leaves what was accepted and what was taken
+-- SEND leaves what was accepted and what was taken, and tells no two numbers that differ
 pub record Sends (b b' : BoardState) : Type 0 where
   pub goes : GoesOn b b'
   pub own : b'.word.own ≡ b.word.own
   pub notes : b'.word.notes ≡ b.word.notes
+  pub splits : b'.counts.splits ≡ b.counts.splits
   pub alone : b.alone ≡ true → b'.word.known ≡ b.word.known
 
--- why SEND was refused: an entry was refused, as to any read; or memory was wanting, before the read or after it
+-- why SEND was refused: an entry was refused, as to any read; or memory was wanting, before the read or after it, and no
+-- entry was refused
 abbrev pub RefusesSend : BoardState → BoardState → NoRead → Type 0
 RefusesSend b b' Shut = Refuses b b' Shut
-RefusesSend b b' NoMemory = Unit {0}
+RefusesSend b b' NoMemory = b'.counts.shuts ≡ b.counts.shuts
 
 -- of these letters those for rows of session 0 are dropped, and each other dropped one found its mailbox full, which was counted
 abbrev pub Drops : BoardState → BoardState → ByIds → ℕ → Type 0
@@ -72,11 +74,13 @@ ComesFrom b b' None l = (b'.box ≡ None) × TakesOut b.word b'.word (given l)
 ComesFrom b b' (Some box) l =
     (b'.word.notes ≡ b.word.notes) × (box' : List Note) × (b'.box ≡ Some box') × GivesFirst b.word.known box box' l
 
--- FETCH leaves what is known, what was accepted, and what was counted of letters that were put
+-- FETCH leaves what is known, what was accepted, and what was counted but of empty mailboxes
 pub record Fetches (b b' : BoardState) (l : Option PlainLetter) : Type 0 where
   pub goes : GoesOn b b'
   pub known : b'.word.known ≡ b.word.known
   pub own : b'.word.own ≡ b.word.own
   pub puts : b'.counts.puts ≡ b.counts.puts
   pub fulls : b'.counts.fulls ≡ b.counts.fulls
+  pub reads : LeavesReads b b'
+  pub splits : b'.counts.splits ≡ b.counts.splits
   pub from : ComesFrom b b' b.box l

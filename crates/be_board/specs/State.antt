@@ -21,7 +21,7 @@ pub record BoardCounts : Type 0 where
   pub empties : ℕ
   -- letters that were put into shared mailboxes. A board that tells its box puts none there
   pub puts : ℕ
-  -- how often the rows were maintained through the board
+  -- how often the rows' keeper was tended through the board
   pub tends : ℕ
 
 pub record BoardState : Type 0 where
@@ -63,6 +63,11 @@ pub record LeavesLetters (b b' : BoardState) : Type 0 where
   pub box : b'.box ≡ b.box
   pub puts : b'.counts.puts ≡ b.counts.puts
   pub fulls : b'.counts.fulls ≡ b.counts.fulls
+
+-- no read was answered, and no entry was refused
+pub record LeavesReads (b b' : BoardState) : Type 0 where
+  pub reads : b'.counts.reads ≡ b.counts.reads
+  pub shuts : b'.counts.shuts ≡ b.counts.shuts
 
 -- all stays, but that the rows may have been maintained
 abbrev pub Tends : BoardState → BoardState → Type 0

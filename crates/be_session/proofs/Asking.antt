@@ -1,5 +1,5 @@
 -- A change that a board was asked for, and its reply.
-use Rattle.std.proofs.Common.{◌≡◌, inl, inr, ℕ, ◌+◌, ◌-◌, ◌≤◌, true, false, not, List, [], ◌∷◌, ◌++◌, length, take, Some, is_some, refl, sym, ap, ◌∙◌, subst, arith}
+use Rattle.std.proofs.Common.{◌≡◌, inl, inr, ℕ, ◌+◌, ◌-◌, ◌≤◌, Bool, true, false, not, List, [], ◌∷◌, ◌++◌, length, take, Some, is_some, refl, sym, ap, ◌∙◌, subst, arith}
 use Rattle.be_base.specs.Text.{Text}
 use Rattle.be_base.specs.Lists.{BeginsWith}
 use Rattle.be_base.proofs.Beginnings.{BeginsWith-same, BeginsWith-take, BeginsWith-length}
@@ -20,11 +20,10 @@ use Rattle.be_board.specs.State.{BoardState, GoesOn, LeavesLetters}
 use Rattle.be_board.specs.Word.{own_in, top}
 use Rattle.be_session.specs.Bearing.{Bears, Stands}
 use Rattle.be_protocol.specs.Ends.{goes_on}
-use Rattle.be_base.specs.Counts.{HasRisen}
 use Rattle.be_session.specs.Given.{letters_of}
 use Rattle.be_session.specs.Steps.{places_in, IsBorne, StepsAlone, Steps, Replies}
 use Rattle.be_session.specs.Tied.{full_letters, is_read, is_shut, is_split, is_short}
-use Rattle.be_session.proofs.Looking.{tied_one}
+use Rattle.be_session.proofs.Looking.{CountsIf, tied_one}
 use Rattle.be_session.specs.Changes.{reply_of, quit_reply}
 use Rattle.be_session.proofs.Accepting.{adds_accepted, asks_to_leave, places_accepted, count_accepted, present_accepted, top_accepted, accepted_at, keeps_accepted}
 use Rattle.be_session.proofs.Quiet.{quiet, quiet_alone, stands_on, full_by, led_same, told_same, letters_by}
@@ -273,10 +272,10 @@ quit_steps s b b' NoMemory q =
 
 -- a change that was asked for moves no letters, and only two numbers that differ are counted
 changed : (s : Attributes) (r : Request) (t : Reply) (answer : Answer) (b b' : BoardState) → Asked b b' r answer → Steps s (r, t) b b' → is_read (r, t) ≡ false → is_shut (r, t) ≡ false → is_short (r, t) ≡ false
-    → (is_split (r, t) ≡ true → HasRisen b.counts.splits b'.counts.splits) → letters_of t ≡ [] → ((h : List Entry) (box : List Note) → KeepsBox h ((r, t) ∷ []) box box) → Replies s (r, t) b b'
+    → CountsIf (is_split (r, t)) b.counts.splits b'.counts.splits → letters_of t ≡ [] → ((h : List Entry) (box : List Note) → KeepsBox h ((r, t) ∷ []) box box) → Replies s (r, t) b b'
 changed s r t answer b b' q st read shut short splits without boxed = record {
   steps = st;
-  tied = tied_one (r, t) b.counts b'.counts q.goes.counts (λ e. let x = sym read ∙ e in absurd cc) (λ e. let x = sym shut ∙ e in absurd cc) splits (λ e. let x = sym short ∙ e in absurd cc);
+  tied = tied_one (r, t) b.counts b'.counts q.goes.counts (λ e. let x = sym read ∙ e in absurd cc) (subst (λ (x : Bool). CountsIf x b.counts.shuts b'.counts.shuts) (sym shut) q.reads.shuts) splits (λ e. let x = sym short ∙ e in absurd cc);
   puts = puts_unread b.box (r, t) b.counts b'.counts read q.letters.puts;
   letters = letters_by b.box (r, t) b b' refl without q.letters boxed;
 }
@@ -285,34 +284,34 @@ pub subscribe_replies : (s : Attributes) (b b' : BoardState) (name : Text) (conj
 subscribe_replies s b b' name conj answer q = by answer q
   where
     by : (x : Answer) → Asked b b' (subscribe name conj) x → Replies s (subscribe name conj, reply_of x) b b'
-    by (Done n) p = changed s (subscribe name conj) (ok n) (Done n) b b' p (subscribe_steps s b b' name conj (Done n) p) refl refl refl (λ e. absurd cc) refl (λ h box. (tt, refl))
-    by (Held n) p = changed s (subscribe name conj) (held n) (Held n) b b' p (subscribe_steps s b b' name conj (Held n) p) refl refl refl (λ e. absurd cc) refl (λ h box. (tt, refl))
-    by (Dup m id) p = changed s (subscribe name conj) (dup m id) (Dup m id) b b' p (subscribe_steps s b b' name conj (Dup m id) p) refl refl refl (λ e. absurd cc) refl (λ h box. (tt, refl))
+    by (Done n) p = changed s (subscribe name conj) (ok n) (Done n) b b' p (subscribe_steps s b b' name conj (Done n) p) refl refl refl p.split refl (λ h box. (tt, refl))
+    by (Held n) p = changed s (subscribe name conj) (held n) (Held n) b b' p (subscribe_steps s b b' name conj (Held n) p) refl refl refl p.split refl (λ h box. (tt, refl))
+    by (Dup m id) p = changed s (subscribe name conj) (dup m id) (Dup m id) b b' p (subscribe_steps s b b' name conj (Dup m id) p) refl refl refl p.split refl (λ h box. (tt, refl))
     by (NoName m) p = absurd p.answers
     by (Other m id) p = absurd p.answers
-    by (Split i j) p = changed s (subscribe name conj) (split i j) (Split i j) b b' p (subscribe_steps s b b' name conj (Split i j) p) refl refl refl (λ e. p.split) refl (λ h box. (tt, refl))
-    by NoMemory p = changed s (subscribe name conj) no_memory NoMemory b b' p (subscribe_steps s b b' name conj NoMemory p) refl refl refl (λ e. absurd cc) refl (λ h box. (tt, refl))
+    by (Split i j) p = changed s (subscribe name conj) (split i j) (Split i j) b b' p (subscribe_steps s b b' name conj (Split i j) p) refl refl refl p.split refl (λ h box. (tt, refl))
+    by NoMemory p = changed s (subscribe name conj) no_memory NoMemory b b' p (subscribe_steps s b b' name conj NoMemory p) refl refl refl p.split refl (λ h box. (tt, refl))
 
 pub unsubscribe_replies : (s : Attributes) (b b' : BoardState) (name : Text) (answer : Answer) → Asked b b' (unsubscribe name) answer → Replies s (unsubscribe name, reply_of answer) b b'
 unsubscribe_replies s b b' name answer q = by answer q
   where
     by : (x : Answer) → Asked b b' (unsubscribe name) x → Replies s (unsubscribe name, reply_of x) b b'
-    by (Done n) p = changed s (unsubscribe name) (ok n) (Done n) b b' p (unsubscribe_steps s b b' name (Done n) p) refl refl refl (λ e. absurd cc) refl (λ h box. (tt, refl))
-    by (Held n) p = changed s (unsubscribe name) (held n) (Held n) b b' p (unsubscribe_steps s b b' name (Held n) p) refl refl refl (λ e. absurd cc) refl (λ h box. (tt, refl))
+    by (Done n) p = changed s (unsubscribe name) (ok n) (Done n) b b' p (unsubscribe_steps s b b' name (Done n) p) refl refl refl p.split refl (λ h box. (tt, refl))
+    by (Held n) p = changed s (unsubscribe name) (held n) (Held n) b b' p (unsubscribe_steps s b b' name (Held n) p) refl refl refl p.split refl (λ h box. (tt, refl))
     by (Dup m id) p = absurd p.answers
-    by (NoName m) p = changed s (unsubscribe name) (none m) (NoName m) b b' p (unsubscribe_steps s b b' name (NoName m) p) refl refl refl (λ e. absurd cc) refl (λ h box. (tt, refl))
-    by (Other m id) p = changed s (unsubscribe name) (other m id) (Other m id) b b' p (unsubscribe_steps s b b' name (Other m id) p) refl refl refl (λ e. absurd cc) refl (λ h box. (tt, refl))
-    by (Split i j) p = changed s (unsubscribe name) (split i j) (Split i j) b b' p (unsubscribe_steps s b b' name (Split i j) p) refl refl refl (λ e. p.split) refl (λ h box. (tt, refl))
-    by NoMemory p = changed s (unsubscribe name) no_memory NoMemory b b' p (unsubscribe_steps s b b' name NoMemory p) refl refl refl (λ e. absurd cc) refl (λ h box. (tt, refl))
+    by (NoName m) p = changed s (unsubscribe name) (none m) (NoName m) b b' p (unsubscribe_steps s b b' name (NoName m) p) refl refl refl p.split refl (λ h box. (tt, refl))
+    by (Other m id) p = changed s (unsubscribe name) (other m id) (Other m id) b b' p (unsubscribe_steps s b b' name (Other m id) p) refl refl refl p.split refl (λ h box. (tt, refl))
+    by (Split i j) p = changed s (unsubscribe name) (split i j) (Split i j) b b' p (unsubscribe_steps s b b' name (Split i j) p) refl refl refl p.split refl (λ h box. (tt, refl))
+    by NoMemory p = changed s (unsubscribe name) no_memory NoMemory b b' p (unsubscribe_steps s b b' name NoMemory p) refl refl refl p.split refl (λ h box. (tt, refl))
 
 pub quit_replies : (s : Attributes) (b b' : BoardState) (answer : Answer) → Asked b b' quit answer → Replies s (quit, quit_reply answer) b b'
 quit_replies s b b' answer q = by answer q
   where
     by : (x : Answer) → Asked b b' quit x → Replies s (quit, quit_reply x) b b'
-    by (Done n) p = changed s quit (bye n) (Done n) b b' p (quit_steps s b b' (Done n) p) refl refl refl (λ e. absurd cc) refl (λ h box. (tt, refl))
-    by (Held n) p = changed s quit (held n) (Held n) b b' p (quit_steps s b b' (Held n) p) refl refl refl (λ e. absurd cc) refl (λ h box. (tt, refl))
+    by (Done n) p = changed s quit (bye n) (Done n) b b' p (quit_steps s b b' (Done n) p) refl refl refl p.split refl (λ h box. (tt, refl))
+    by (Held n) p = changed s quit (held n) (Held n) b b' p (quit_steps s b b' (Held n) p) refl refl refl p.split refl (λ h box. (tt, refl))
     by (Dup m id) p = absurd p.answers
     by (NoName m) p = absurd p.answers
     by (Other m id) p = absurd p.answers
-    by (Split i j) p = changed s quit (split i j) (Split i j) b b' p (quit_steps s b b' (Split i j) p) refl refl refl (λ e. p.split) refl (λ h box. (tt, refl))
-    by NoMemory p = changed s quit no_memory NoMemory b b' p (quit_steps s b b' NoMemory p) refl refl refl (λ e. absurd cc) refl (λ h box. (tt, refl))
+    by (Split i j) p = changed s quit (split i j) (Split i j) b b' p (quit_steps s b b' (Split i j) p) refl refl refl p.split refl (λ h box. (tt, refl))
+    by NoMemory p = changed s quit no_memory NoMemory b b' p (quit_steps s b b' NoMemory p) refl refl refl p.split refl (λ h box. (tt, refl))

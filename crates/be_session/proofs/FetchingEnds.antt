@@ -1,5 +1,5 @@
 -- How the reply to a FETCH ends.
-use Rattle.std.proofs.Common.{◌≡◌, inl, inr, ◌⊎◌, ℕ, ◌+◌, ◌-◌, ◌<◌, ◌≤◌, true, List, [], ◌∷◌, ◌++◌, length, take, drop, map, codes, Option, Some, None, is_some, Result, Ok, Err, IfSome, refl, sym, ap, ◌∙◌, subst, arith, length-append, append_assoc}
+use Rattle.std.proofs.Common.{◌≡◌, inl, inr, ◌⊎◌, ℕ, ◌+◌, ◌-◌, ◌<◌, ◌≤◌, true, false, List, [], ◌∷◌, ◌++◌, length, take, drop, map, codes, Option, Some, None, is_some, Result, Ok, Err, IfSome, refl, sym, ap, ◌∙◌, subst, arith, length-append, append_assoc}
 use Rattle.std.specs.Prelude.{All}
 use Rattle.std.specs.List.{flat_map}
 use Rattle.std.proofs.lemmas.Bool.{ltb-true}
@@ -36,7 +36,7 @@ use Rattle.be_session.specs.Tied.{Tied}
 use Rattle.be_session.proofs.FetchingOn.{nothing_left, bears_fetched, lines_snoc, noted_on, draws_on}
 use Rattle.be_session.proofs.Looking.{tied_one}
 use Rattle.be_session.proofs.Quiet.{quiet, quiet_alone, led_same}
-use Rattle.be_session.proofs.Tying.{risen_none, puts_one}
+use Rattle.be_session.proofs.Tying.{risen_none, rises_none, puts_one}
 
 abbrev pub end_line : ℕ → List ℕ
 end_line n = with_lf (codes "END" ++ number n)
@@ -96,20 +96,20 @@ fetch_steps s max drawn letters b now goes known own d few noted =
     let same = notes_told b.box drawn b now d told in
     quiet_alone (fetching max, notes letters) b now same.0 refl tt tt refl goes.session known own same.1)
 
-fetch_tied : (max : ℕ) (letters : List Note) (b now : BoardState) → GoesOn b now → (length letters ≡ max) ⊎ HasRisen b.counts.empties now.counts.empties → Tied ((fetching max, notes letters) ∷ []) ((fetching max, notes letters) ∷ []) b.counts now.counts
-fetch_tied max letters b now goes all =
-    tied_one (fetching max, notes letters) b.counts now.counts goes.counts (λ e. absurd cc) (λ e. absurd cc) (λ e. absurd cc) (λ e. short all (ltb-true (length letters) max e))
+fetch_tied : (max : ℕ) (letters : List Note) (b now : BoardState) → GoesOn b now → now.counts.shuts ≡ b.counts.shuts → now.counts.splits ≡ b.counts.splits → (length letters ≡ max) ⊎ HasRisen b.counts.empties now.counts.empties → Tied false ((fetching max, notes letters) ∷ []) ((fetching max, notes letters) ∷ []) b.counts now.counts
+fetch_tied max letters b now goes shuts splits all =
+    tied_one (fetching max, notes letters) b.counts now.counts goes.counts (λ e. absurd cc) shuts splits (λ e. short all (ltb-true (length letters) max e))
   where
     short : (length letters ≡ max) ⊎ HasRisen b.counts.empties now.counts.empties → length letters < max → HasRisen b.counts.empties now.counts.empties
     short (inl whole) less = absurd (omega (arith, whole, less))
     short (inr risen) less = risen
 
 -- of a reply that is written in part no count of short ones is owed
-part_tied : (max : ℕ) (letters : List Note) (b now : BoardState) → GoesOn b now → Tied ((fetching max, notes letters) ∷ []) [] b.counts now.counts
-part_tied max letters b now goes = record {
+part_tied : (max : ℕ) (letters : List Note) (b now : BoardState) → GoesOn b now → now.counts.shuts ≡ b.counts.shuts → now.counts.splits ≡ b.counts.splits → Tied false ((fetching max, notes letters) ∷ []) [] b.counts now.counts
+part_tied max letters b now goes shuts splits = record {
   reads = risen_none b.counts.reads now.counts.reads goes.counts.reads;
-  shuts = risen_none b.counts.shuts now.counts.shuts goes.counts.shuts;
-  splits = risen_none b.counts.splits now.counts.splits goes.counts.splits;
+  shuts = rises_none b.counts.shuts now.counts.shuts shuts;
+  splits = rises_none b.counts.splits now.counts.splits splits;
   empties = risen_none b.counts.empties now.counts.empties goes.counts.empties;
 }
 
@@ -133,7 +133,7 @@ fetch_whole s max count b now before mid after f all w = record {
   ends = refl;
   replies = record {
     steps = fetch_steps s max f.given f.given b now f.goes f.known f.own f.from (omega (arith, f.many, f.few)) f.noted;
-    tied = fetch_tied max f.given b now f.goes (all_second max f.given b now count f.many all);
+    tied = fetch_tied max f.given b now f.goes f.reads.shuts f.splits (all_second max f.given b now count f.many all);
     puts = puts_one b.box (fetching max, notes f.given) b.counts now.counts refl f.puts;
     letters = gives_all b.box max f.given b now f.from (all_first max f.given b now count f.many f.few all);
   };
@@ -196,7 +196,7 @@ fetch_cut_at_end s max count b now before mid after fault f all w =
       out = out;
       replies = record {
         steps = fetch_steps s max f.given f.given b now f.goes f.known f.own f.from (omega (arith, f.many, f.few)) f.noted;
-        tied = part_tied max f.given b now f.goes;
+        tied = part_tied max f.given b now f.goes f.reads.shuts f.splits;
         puts = puts_one b.box (fetching max, notes f.given) b.counts now.counts refl f.puts;
         letters = cut_at_end b.box s max f.given out b now (gives_all b.box max f.given b now f.from (all_first max f.given b now count f.many f.few all))
             (record { taken = f.given; letters = sym (append-nil f.given); given = begins_lines s (length f.given - 1) f.given (take part.0 (end_line count)) });
@@ -286,7 +286,7 @@ fetch_cut s sch max count b now next l before mid after fault f more q fit holds
       replies = record {
         steps = fetch_steps s max taken (taken ++ c.more) b next (GoesOn-along b now next f.goes q.goes) (q.known ∙ f.known) (q.own ∙ f.own)
             (draws_on b.box f.given b now next l f.goes.session fit.session f.from q.from) c.few c.noted;
-        tied = part_tied max (taken ++ c.more) b next (GoesOn-along b now next f.goes q.goes);
+        tied = part_tied max (taken ++ c.more) b next (GoesOn-along b now next f.goes q.goes) (q.reads.shuts ∙ f.reads.shuts) (q.splits ∙ f.splits);
         puts = puts_one b.box (fetching max, notes (taken ++ c.more)) b.counts next.counts refl (q.puts ∙ f.puts);
         letters = c.given out (record {
           taken = taken;

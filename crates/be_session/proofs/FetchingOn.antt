@@ -39,6 +39,8 @@ fetch_first s max b sink = record {
   known = refl;
   own = refl;
   puts = refl;
+  reads = record { reads = refl; shuts = refl };
+  splits = refl;
   noted = λ h bears. All-nil _;
   from = first b.box refl;
 }
@@ -143,6 +145,8 @@ fetch_next s sch max count b now next l before mid after f more q fit w = record
   known = q.known ∙ f.known;
   own = q.own ∙ f.own;
   puts = q.puts ∙ f.puts;
+  reads = record { reads = q.reads.reads ∙ f.reads.reads; shuts = q.reads.shuts ∙ f.reads.shuts };
+  splits = q.splits ∙ f.splits;
   noted = noted_on s sch max count b now next l before mid f q fit;
   from = draws_on b.box f.given b now next l f.goes.session (fit.session) f.from q.from;
 }
@@ -177,6 +181,8 @@ fetch_none s max count b now next before after f q = record {
   known = q.known ∙ f.known;
   own = q.own ∙ f.own;
   puts = q.puts ∙ f.puts;
+  reads = record { reads = q.reads.reads ∙ f.reads.reads; shuts = q.reads.shuts ∙ f.reads.shuts };
+  splits = q.splits ∙ f.splits;
   noted = λ h bears. f.noted h (bears_fetched h now next None q bears);
   from = draws_none b.box f.given b now next f.goes.session f.from q.from;
 }

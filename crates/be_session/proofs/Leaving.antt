@@ -56,6 +56,7 @@ pub asked_again : (b c d : BoardState) (answer : Answer) → Asked b c quit NoMe
 asked_again b c d answer p q = record {
   goes = GoesOn-along b c d p.goes q.goes;
   letters = record { notes = q.letters.notes ∙ p.letters.notes; box = q.letters.box ∙ p.letters.box; puts = q.letters.puts ∙ p.letters.puts; fulls = q.letters.fulls ∙ p.letters.fulls };
+  reads = record { reads = q.reads.reads ∙ p.reads.reads; shuts = q.reads.shuts ∙ p.reads.shuts };
   formed = q.formed;
   answers = answers_from b c d.word answer p.goes p.answers q.answers;
   split = subst (λ k. CountsSplit answer k d.counts.splits) p.split q.split;

@@ -1,6 +1,6 @@
 -- What a read of the board found, and its reply.
 use Rattle.std.proofs.Common.{◌≡◌, ℕ, ◌≤◌, Bool, true, false, cond, List, [], ◌∷◌, length, take, filter, Some, None, is_some, refl, sym, ap, ◌∙◌, subst, arith}
-use Rattle.be_base.specs.Counts.{HasRisen, HasRisenBy}
+use Rattle.be_base.specs.Counts.{raised, HasRisen, HasRisenBy, RisesBy}
 use Rattle.be_base.specs.Lists.{BeginsWith}
 use Rattle.be_base.proofs.Beginnings.{BeginsWith-same, BeginsWith-take, BeginsWith-length}
 use Rattle.be_base.specs.declared.names.NoRead.{NoRead}
@@ -28,13 +28,22 @@ one : (b : Bool) (test : Exchange → Bool) (p : Exchange) (x y : ℕ) → test 
 one true test p x y is falls so = subst (λ (c : Bool). HasRisenBy (length (cond c (p ∷ []) [])) x y) (sym is) (so is)
 one false test p x y is falls so = subst (λ (c : Bool). HasRisenBy (length (cond c (p ∷ []) [])) x y) (sym is) (omega (arith, falls))
 
+-- it was counted once, or not
+abbrev pub CountsIf : Bool → ℕ → ℕ → Type 0
+CountsIf true x y = y ≡ raised 1 x
+CountsIf false x y = y ≡ x
+
+exactly : (b : Bool) (test : Exchange → Bool) (p : Exchange) (x y : ℕ) → test p ≡ b → CountsIf b x y → RisesBy (length (filter test (p ∷ []))) x y
+exactly true test p x y is so = subst (λ (c : Bool). RisesBy (length (cond c (p ∷ []) [])) x y) (sym is) (omega (arith, so))
+exactly false test p x y is so = subst (λ (c : Bool). RisesBy (length (cond c (p ∷ []) [])) x y) (sym is) (omega (arith, so))
+
 -- one reply, and what it owes the counts
-pub tied_one : (p : Exchange) (c c' : BoardCounts) → NoneFalls c c' → (is_read p ≡ true → HasRisen c.reads c'.reads) → (is_shut p ≡ true → HasRisen c.shuts c'.shuts) → (is_split p ≡ true → HasRisen c.splits c'.splits)
-    → (is_short p ≡ true → HasRisen c.empties c'.empties) → Tied (p ∷ []) (p ∷ []) c c'
+pub tied_one : (p : Exchange) (c c' : BoardCounts) → NoneFalls c c' → (is_read p ≡ true → HasRisen c.reads c'.reads) → CountsIf (is_shut p) c.shuts c'.shuts → CountsIf (is_split p) c.splits c'.splits
+    → (is_short p ≡ true → HasRisen c.empties c'.empties) → Tied false (p ∷ []) (p ∷ []) c c'
 tied_one p c c' falls reads shuts splits empties = record {
   reads = one (is_read p) is_read p c.reads c'.reads refl falls.reads reads;
-  shuts = one (is_shut p) is_shut p c.shuts c'.shuts refl falls.shuts shuts;
-  splits = one (is_split p) is_split p c.splits c'.splits refl falls.splits splits;
+  shuts = exactly (is_shut p) is_shut p c.shuts c'.shuts refl shuts;
+  splits = exactly (is_split p) is_split p c.splits c'.splits refl splits;
   empties = one (is_short p) is_short p c.empties c'.empties refl falls.empties empties;
 }
 
@@ -100,8 +109,8 @@ refused_entry (fetching max) is = absurd cc
 refused_entry quit is = absurd cc
 
 refuses_read : (s : Attributes) (r : Request) (t : Reply) (b b' : BoardState) → IsRefusal r t → place_accepted t ≡ [] → letters_of t ≡ [] → GoesOn b b' → LeavesLetters b b' → b'.word ≡ b.word
-    → (is_shut (r, t) ≡ true → HasRisen b.counts.shuts b'.counts.shuts) → (b.alone ≡ true → comes_in_run true t ≡ true) → length_told t ≡ None → Replies s (r, t) b b'
-refuses_read s r t b b' f nothing without goes letters same shuts plain tells =
+    → CountsIf (is_shut (r, t)) b.counts.shuts b'.counts.shuts → b'.counts.splits ≡ b.counts.splits → (b.alone ≡ true → comes_in_run true t ≡ true) → length_told t ≡ None → Replies s (r, t) b b'
+refuses_read s r t b b' f nothing without goes letters same shuts splits plain tells =
     let own : b'.word.own ≡ b.word.own = ap (λ (w : Word). w.own) same in
     let since : BeginsWith b'.word.notes b.word.notes = subst (λ (l : List PlainLetter). BeginsWith l b.word.notes) (sym letters.notes) (BeginsWith-same b.word.notes) in
     record {
@@ -109,27 +118,27 @@ refuses_read s r t b b' f nothing without goes letters same shuts plain tells =
           (λ h w bears st going. led_same s h w (r, t) b b' (f.answers s b.word.session h w) goes own st going f.on (f.zero h))
           (λ alone told. quiet_alone (r, t) b b' (told_same b b' letters.box told) (plain alone) (subst (IsTold (length b'.word.known)) (sym tells) tt) (f.removal b.word.session b.word.known) nothing
           goes.session (ap (λ (w : Word). w.known) same) own letters.notes);
-      tied = tied_one (r, t) b.counts b'.counts goes.counts (λ e. let x = sym f.read ∙ e in absurd cc) shuts (λ e. let x = sym f.split ∙ e in absurd cc) (λ e. let x = sym f.short ∙ e in absurd cc);
+      tied = tied_one (r, t) b.counts b'.counts goes.counts (λ e. let x = sym f.read ∙ e in absurd cc) shuts (subst (λ (x : Bool). CountsIf x b.counts.splits b'.counts.splits) (sym f.split) splits) (λ e. let x = sym f.short ∙ e in absurd cc);
       puts = puts_unread b.box (r, t) b.counts b'.counts f.read letters.puts;
       letters = letters_by b.box (r, t) b b' refl without letters f.boxed;
     }
 
 -- a read was refused an entry, or memory was wanting
-pub refused_read : (s : Attributes) (r : Request) (b b' : BoardState) (no : NoRead) → is_reading r ≡ true → GoesOn b b' → LeavesLetters b b' → Refuses b b' no → Replies s (r, plain_reply (short_of no)) b b'
-refused_read s r b b' unread.Shut is goes letters f =
-    refuses_read s r shut b b' (refused_entry r is) refl refl goes letters f.0 (λ e. f.1) (λ alone. let x = sym alone ∙ f.2 in absurd cc) refl
-refused_read s r b b' unread.NoMemory is goes letters f =
-    refuses_read s r no_memory b b' (refused_memory r is) refl refl goes letters f (λ e. absurd cc) (λ alone. refl) refl
+pub refused_read : (s : Attributes) (r : Request) (b b' : BoardState) (no : NoRead) → is_reading r ≡ true → GoesOn b b' → LeavesLetters b b' → b'.counts.splits ≡ b.counts.splits → Refuses b b' no → Replies s (r, plain_reply (short_of no)) b b'
+refused_read s r b b' unread.Shut is goes letters splits f =
+    refuses_read s r shut b b' (refused_entry r is) refl refl goes letters f.0 f.1.shuts splits (λ alone. let x = sym alone ∙ f.2 in absurd cc) refl
+refused_read s r b b' unread.NoMemory is goes letters splits f =
+    refuses_read s r no_memory b b' (refused_memory r is) refl refl goes letters f.0 f.1.shuts splits (λ alone. refl) refl
 
 -- memory was wanting after the read, or before it
-pub wanted_memory : (s : Attributes) (r : Request) (b b' : BoardState) → is_reading r ≡ true → Looks b b' → Replies s (r, no_memory) b b'
-wanted_memory s r b b' is l =
+pub wanted_memory : (s : Attributes) (r : Request) (b b' : BoardState) → is_reading r ≡ true → Looks b b' → b'.counts.shuts ≡ b.counts.shuts → Replies s (r, no_memory) b b'
+wanted_memory s r b b' is l shuts =
     let f : IsRefusal r no_memory = refused_memory r is in
     record {
       steps = quiet s (r, no_memory) b b' l.goes l.own (subst (λ (n : List PlainLetter). BeginsWith n b.word.notes) (sym l.letters.notes) (BeginsWith-same b.word.notes)) refl
           (λ h w bears st going. led_same s h w (r, no_memory) b b' (f.answers s b.word.session h w) l.goes l.own st going f.on (f.zero h))
           (λ alone told. quiet_alone (r, no_memory) b b' (told_same b b' l.letters.box told) refl tt (f.removal b.word.session b.word.known) refl l.goes.session (l.alone alone) l.own l.letters.notes);
-      tied = tied_one (r, no_memory) b.counts b'.counts l.goes.counts (λ e. let x = sym f.read ∙ e in absurd cc) (λ e. absurd cc) (λ e. absurd cc) (λ e. let x = sym f.short ∙ e in absurd cc);
+      tied = tied_one (r, no_memory) b.counts b'.counts l.goes.counts (λ e. let x = sym f.read ∙ e in absurd cc) shuts l.splits (λ e. let x = sym f.short ∙ e in absurd cc);
       puts = puts_unread b.box (r, no_memory) b.counts b'.counts f.read l.letters.puts;
       letters = letters_by b.box (r, no_memory) b b' refl refl l.letters f.boxed;
     }
@@ -140,7 +149,7 @@ pub found : (s : Attributes) (p : Exchange) (n : ℕ) (b b' : BoardState) → Lo
     → ((h : List Entry) (w : Walk) → IsReadAt h w n → take n h ≡ b'.word.known → Answers s b.word.session h p.0 p.1 w (having_seen n w)) → Replies s p b b'
 found s p n b b' l at nothing on plain tells removal shuts splits shorts without unsent zero boxed answers = record {
   steps = looks s p n b b' l.goes l.own l.letters.notes l.alone (told_same b b' l.letters.box) at.length nothing on plain tells removal answers (λ h front. full_by h p b b' (zero h) l.goes.counts);
-  tied = tied_one p b.counts b'.counts l.goes.counts (λ e. at.counted) (λ e. let x = sym shuts ∙ e in absurd cc) (λ e. let x = sym splits ∙ e in absurd cc) (λ e. let x = sym shorts ∙ e in absurd cc);
+  tied = tied_one p b.counts b'.counts l.goes.counts (λ e. omega (arith, at.counted)) (subst (λ (x : Bool). CountsIf x b.counts.shuts b'.counts.shuts) (sym shuts) at.shuts) (subst (λ (x : Bool). CountsIf x b.counts.splits b'.counts.splits) (sym splits) l.splits) (λ e. let x = sym shorts ∙ e in absurd cc);
   puts = puts_one b.box p b.counts b'.counts unsent l.letters.puts;
   letters = letters_by b.box p b b' refl without l.letters boxed;
 }

@@ -31,7 +31,7 @@ letters_in_part : (o : Option (List Note)) (s : Attributes) (p : Exchange) (out 
 letters_in_part None s p out b b' without g = (g.0, g.1, record { taken = []; letters = without; given = (out, refl) })
 letters_in_part (Some box) s p out b b' without g = (g.0, [], g.1, g.2, g.3, record { taken = []; letters = without; given = (out, refl) })
 
-pub tied_in_part : (p : Exchange) (b b' : BoardState) → b.counts.empties ≤ b'.counts.empties → Tied (p ∷ []) (p ∷ []) b.counts b'.counts → Tied (p ∷ []) [] b.counts b'.counts
+pub tied_in_part : (p : Exchange) (b b' : BoardState) → b.counts.empties ≤ b'.counts.empties → Tied false (p ∷ []) (p ∷ []) b.counts b'.counts → Tied false (p ∷ []) [] b.counts b'.counts
 tied_in_part p b b' falls t = record { reads = t.reads; shuts = t.shuts; splits = t.splits; empties = risen_none b.counts.empties b'.counts.empties falls }
 
 -- a reply without letters, of which a part was written
@@ -54,7 +54,7 @@ pub replies_refused : (s : Attributes) (r : Refusal) (b : BoardState) → Replie
 replies_refused s r b = record {
   steps = still s (refused r, refusal r) b (λ h w. (refl, refl)) (λ h. refl) refl refl refl tt refl;
   tied = tied_one (refused r, refusal r) b.counts b.counts (NoneFalls-same b.counts)
-      (λ e. absurd cc) (λ e. absurd cc) (λ e. absurd cc) (λ e. absurd cc);
+      (λ e. absurd cc) refl refl (λ e. absurd cc);
   puts = puts_unread b.box (refused r, refusal r) b.counts b.counts refl refl;
   letters = letters_by b.box (refused r, refusal r) b b refl refl (letters_still b) (λ h box. (tt, refl));
 }
@@ -65,7 +65,7 @@ unread_event s r b is =
     record {
       steps = still s (r, no_memory) b (f.answers s b.word.session) f.zero f.on refl refl (f.removal b.word.session b.word.known) refl;
       tied = tied_one (r, no_memory) b.counts b.counts (NoneFalls-same b.counts)
-          (λ e. let x = sym f.read ∙ e in absurd cc) (λ e. absurd cc) (λ e. absurd cc) (λ e. let x = sym f.short ∙ e in absurd cc);
+          (λ e. let x = sym f.read ∙ e in absurd cc) refl refl (λ e. let x = sym f.short ∙ e in absurd cc);
       puts = puts_unread b.box (r, no_memory) b.counts b.counts f.read refl;
       letters = letters_by b.box (r, no_memory) b b refl refl (letters_still b) f.boxed;
     }
@@ -75,7 +75,7 @@ pub replies_unread : (s : Attributes) (r : Request) (b : BoardState) → TakesMe
 replies_unread s (subscribe name conj) b takes = record {
   steps = still s (subscribe name conj, no_memory) b (λ h w. refl) (λ h. refl) refl refl refl tt refl;
   tied = tied_one (subscribe name conj, no_memory) b.counts b.counts (NoneFalls-same b.counts)
-      (λ e. absurd cc) (λ e. absurd cc) (λ e. absurd cc) (λ e. absurd cc);
+      (λ e. absurd cc) refl refl (λ e. absurd cc);
   puts = puts_unread b.box (subscribe name conj, no_memory) b.counts b.counts refl refl;
   letters = letters_by b.box (subscribe name conj, no_memory) b b refl refl (letters_still b) (λ h box. (tt, refl));
 }

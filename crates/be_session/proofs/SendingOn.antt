@@ -20,5 +20,5 @@ use Rattle.be_session.proofs.Looking.{looks, tied_one, refused_read, wanted_memo
 
 -- an entry was refused, or memory was wanting after the read or before it
 pub refused_send : (s : Attributes) (e : Assignments) (b b' : BoardState) (no : NoRead) → Sends b b' → LeavesLetters b b' → RefusesSend b b' no → Replies s (sending e, plain_reply (short_of no)) b b'
-refused_send s e b b' Shut q letters f = refused_read s (sending e) b b' Shut refl q.goes letters f
-refused_send s e b b' NoMemory q letters f = wanted_memory s (sending e) b b' refl (record { goes = q.goes; own = q.own; letters = letters; alone = q.alone })
+refused_send s e b b' Shut q letters f = refused_read s (sending e) b b' Shut refl q.goes letters q.splits f
+refused_send s e b b' NoMemory q letters f = wanted_memory s (sending e) b b' refl (record { goes = q.goes; own = q.own; letters = letters; splits = q.splits; alone = q.alone }) f

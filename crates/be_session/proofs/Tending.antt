@@ -35,7 +35,7 @@ serves_tended s on ps b c d g t = subst (λ (x : BoardState). Serves s on ps b x
     by : (n : ℕ) → c.counts.tends ≤ n → Serves s on ps b (having_tended n c)
     by n more = record {
       board = tended_board s on ps n b c more g.board;
-      tied = tied_then ps ps b.counts c.counts (having_tended n c).counts g.tied (tended_goes n c more).counts;
+      tied = tied_then ps ps b.counts c.counts (having_tended n c).counts g.tied (tended_goes n c more).counts refl refl;
       puts = puts_then b.box (sum_by letters_put ps) b.counts c.counts (having_tended n c).counts g.puts refl;
       letters = letters_then b.box ps b c (having_tended n c) (λ h bears. bears) (record { notes = refl; box = refl; puts = refl; fulls = refl }) g.letters;
     }

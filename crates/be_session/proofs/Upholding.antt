@@ -34,7 +34,7 @@ use Rattle.be_session.proofs.BorneOut.{adds_left, borne_out, borne_left, bears_l
 use Rattle.be_session.proofs.GivingOn.{letters_none, letters_on, letters_then, letters_cut, letters_cut_then}
 use Rattle.be_session.proofs.InPart.{in_part}
 use Rattle.be_session.proofs.Tending.{serves_tended}
-use Rattle.be_session.proofs.Tying.{tied_none, tied_on, tied_then, puts_none, puts_on, puts_then}
+use Rattle.be_session.proofs.Tying.{tied_none, tied_on, tied_left, puts_none, puts_on, puts_then}
 
 nothing_served : (s : Attributes) (b : BoardState) → own_in b.word ≡ [] → Serves s true [] b b
 nothing_served s b first = record { board = serves_first s b first; tied = tied_none b.counts; puts = puts_none b.box b.counts; letters = letters_none b.box b refl }
@@ -73,7 +73,7 @@ serves_by s (Some end) ps b c first (front, last, is, on, by) t =
 uphold : (s : Attributes) (on : Bool) (lines : List TextLine) (ps : List Exchange) (b c d : BoardState) → b.word.session ≢ 0 → requests ps ≡ map (reading s) lines → Serves s on ps b c → LeavesIf (session_conduct s) on c d → Upheld s on lines ps b d
 uphold s true lines ps b c d somebody asked g (answer, q) = record {
   borne = borne_left s ps lines b c d answer somebody g.board q asked;
-  tied = tied_then ps ps b.counts c.counts d.counts g.tied q.goes.counts;
+  tied = tied_left ps ps answer b.counts c.counts d.counts g.tied q.goes.counts q.reads.shuts q.split;
   puts = puts_then b.box (sum_by letters_put ps) b.counts c.counts d.counts g.puts q.letters.puts;
   letters = letters_then b.box ps b c d (λ h bears. bears_left h c d answer q bears) q.letters g.letters;
   alone = λ a. ran_over s true ps lines b c d somebody g.board asked (box_whole ps b c g.letters) (λ x. left_so c d answer (g.board.alone x).keeps (g.board.alone x).alone q) a;
@@ -92,10 +92,10 @@ pub upheld : (s : Attributes) (end : Option SessionEnd) (lines : List TextLine) 
 upheld s end lines ps b d somebody first asked ends l = uphold s (is_on end) lines ps b l.last d somebody asked (serves_by s end ps b l.last first ends l.trace) l.left
 
 cut_upheld : (s : Attributes) (o : Bool) (lines : List TextLine) (ps : List Exchange) (p : Exchange) (out : List ℕ) (b c d : BoardState) → b.word.session ≢ 0 → requests (ps ++ p ∷ []) ≡ map (reading s) lines → goes_on p ≡ o
-    → BoardServes s o (ps ++ p ∷ []) b c → Tied (ps ++ p ∷ []) ps b.counts c.counts → TiedPuts (ps ++ p ∷ []) b c → GivesInPart b.box s ps p out b c → LeavesIf (session_conduct s) o c d → UpheldInPart s lines ps p out b d
+    → BoardServes s o (ps ++ p ∷ []) b c → Tied false (ps ++ p ∷ []) ps b.counts c.counts → TiedPuts (ps ++ p ∷ []) b c → GivesInPart b.box s ps p out b c → LeavesIf (session_conduct s) o c d → UpheldInPart s lines ps p out b d
 cut_upheld s true lines ps p out b c d somebody asked is board tied puts cut (answer, q) = record {
   borne = borne_left s (ps ++ p ∷ []) lines b c d answer somebody board q asked;
-  tied = tied_then (ps ++ p ∷ []) ps b.counts c.counts d.counts tied q.goes.counts;
+  tied = subst (λ (x : Bool). Tied x (ps ++ p ∷ []) ps b.counts d.counts) (sym is) (tied_left (ps ++ p ∷ []) ps answer b.counts c.counts d.counts tied q.goes.counts q.reads.shuts q.split);
   puts = puts_then b.box (sum_by letters_put (ps ++ p ∷ [])) b.counts c.counts d.counts puts q.letters.puts;
   letters = letters_cut_then b.box s ps p out b c d (λ h bears. bears_left h c d answer q bears) q.letters cut;
   alone = λ a. subst (λ (x : Bool). RanOver s x lines (ps ++ p ∷ []) b d) (sym is)
@@ -103,7 +103,7 @@ cut_upheld s true lines ps p out b c d somebody asked is board tied puts cut (an
 }
 cut_upheld s false lines ps p out b c d somebody asked is board tied puts cut still = subst (λ (x : BoardState). UpheldInPart s lines ps p out b x) (sym still) (record {
   borne = borne_out s false (ps ++ p ∷ []) lines b c somebody board asked;
-  tied = tied;
+  tied = subst (λ (x : Bool). Tied x (ps ++ p ∷ []) ps b.counts c.counts) (sym is) tied;
   puts = puts;
   letters = cut;
   alone = λ a. subst (λ (x : Bool). RanOver s x lines (ps ++ p ∷ []) b c) (sym is)
@@ -119,7 +119,7 @@ upheld_in_part s lines ps p out b d somebody first asked on l =
     let g : Serves s true ps b e = serves_by s None ps b e first on l.trace in
     let r : RepliesInPart s p l.part e c = in_part s p l.part e c l.replies in
     cut_upheld s (goes_on p) lines ps p out b c d somebody asked refl (serves_step s ps p b e c g.board r.steps)
-    (subst (λ (ws : List Exchange). Tied (ps ++ p ∷ []) ws b.counts c.counts) (append-nil ps) (tied_on ps (p ∷ []) ps [] b.counts e.counts c.counts g.tied r.tied))
+    (subst (λ (ws : List Exchange). Tied false (ps ++ p ∷ []) ws b.counts c.counts) (append-nil ps) (tied_on ps (p ∷ []) ps [] b.counts e.counts c.counts g.tied r.tied))
     (puts_on b.box ps (p ∷ []) b e c g.letters g.puts r.puts)
     (subst (λ (x : List ℕ). GivesInPart b.box s ps p x b c) (sym l.is_out) (letters_cut b.box s ps p l.part b e c g.board.goes.session (λ h bears. bears_step s h p e c r.steps bears) g.letters r.letters))
     l.left

@@ -10,7 +10,7 @@ use Rattle.be_change.specs.Requests.{Note}
 use Rattle.be_change.specs.Walk.{IsNoteFor}
 use Rattle.be_protocol.specs.Replies.{note_line, with_lf}
 use Rattle.be_board.specs.Letters.{note_of}
-use Rattle.be_board.specs.State.{BoardState, GoesOn}
+use Rattle.be_board.specs.State.{BoardState, GoesOn, LeavesReads}
 use Rattle.be_session.specs.Bearing.{Bears}
 
 -- the lines of these letters
@@ -37,5 +37,7 @@ pub record FetchesSo (s : Attributes) (max count : ℕ) (b now : BoardState) (be
   pub known : now.word.known ≡ b.word.known
   pub own : now.word.own ≡ b.word.own
   pub puts : now.counts.puts ≡ b.counts.puts
+  pub reads : LeavesReads b now
+  pub splits : now.counts.splits ≡ b.counts.splits
   pub noted : (h : List Entry) → Bears h now.word → All (IsNoteFor b.word.session h) given
   pub from : Draws b.box given b now

@@ -53,7 +53,7 @@ pub record RanOver (s : Attributes) (on : Bool) (lines : List TextLine) (ps : Li
 -- what the board's word and counts say of exchanges that were written whole, the last of which ended the session or none did
 pub record Upheld (s : Attributes) (on : Bool) (lines : List TextLine) (ps : List Exchange) (b b' : BoardState) : Type 0 where
   pub borne : AreBorneOut s lines ps b b'
-  pub tied : Tied ps ps b.counts b'.counts
+  pub tied : Tied on ps ps b.counts b'.counts
   pub puts : TiedPuts ps b b'
   pub letters : GivesLetters b.box ps b b'
   pub alone : BeginsAlone b → RanOver s on lines ps b b'
@@ -61,7 +61,7 @@ pub record Upheld (s : Attributes) (on : Bool) (lines : List TextLine) (ps : Lis
 -- the same where the output broke off at the last reply
 pub record UpheldInPart (s : Attributes) (lines : List TextLine) (ps : List Exchange) (last : Exchange) (out : List ℕ) (b b' : BoardState) : Type 0 where
   pub borne : AreBorneOut s lines (ps ++ last ∷ []) b b'
-  pub tied : Tied (ps ++ last ∷ []) ps b.counts b'.counts
+  pub tied : Tied (is_on (end_after last.0 last.1)) (ps ++ last ∷ []) ps b.counts b'.counts
   pub puts : TiedPuts (ps ++ last ∷ []) b b'
   pub letters : GivesInPart b.box s ps last out b b'
   pub alone : BeginsAlone b → RanOver s (is_on (end_after last.0 last.1)) lines (ps ++ last ∷ []) b b'

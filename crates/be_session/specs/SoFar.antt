@@ -45,6 +45,6 @@ pub record BoardServes (s : Attributes) (on : Bool) (ps : List Exchange) (b b' :
 -- what the board gave is tied to its counts, and so are the letters
 pub record Serves (s : Attributes) (on : Bool) (ps : List Exchange) (b b' : BoardState) : Type 0 where
   pub board : BoardServes s on ps b b'
-  pub tied : Tied ps ps b.counts b'.counts
+  pub tied : Tied false ps ps b.counts b'.counts
   pub puts : TiedPuts ps b b'
   pub letters : GivesLetters b.box ps b b'

@@ -55,14 +55,14 @@ pub record Steps (s : Attributes) (p : Exchange) (b b' : BoardState) : Type 0 wh
 -- the reply was, or will be, written whole
 pub record Replies (s : Attributes) (p : Exchange) (b b' : BoardState) : Type 0 where
   pub steps : Steps s p b b'
-  pub tied : Tied (p ∷ []) (p ∷ []) b.counts b'.counts
+  pub tied : Tied false (p ∷ []) (p ∷ []) b.counts b'.counts
   pub puts : TiedPuts (p ∷ []) b b'
   pub letters : GivesLetters b.box (p ∷ []) b b'
 
 -- only this part of the reply was written
 pub record RepliesInPart (s : Attributes) (p : Exchange) (out : List ℕ) (b b' : BoardState) : Type 0 where
   pub steps : Steps s p b b'
-  pub tied : Tied (p ∷ []) [] b.counts b'.counts
+  pub tied : Tied false (p ∷ []) [] b.counts b'.counts
   pub puts : TiedPuts (p ∷ []) b b'
   pub letters : GivesInPart b.box s [] p out b b'
 

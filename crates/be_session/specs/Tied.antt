@@ -1,7 +1,7 @@
 -- What a session's replies owe the counts of its board.
-use Rattle.std.specs.Prelude.{ℕ, ◌-◌, Bool, true, false, List, length, filter, take, nat_lt}
+use Rattle.std.specs.Prelude.{ℕ, ◌+◌, ◌-◌, ◌⊎◌, Bool, true, false, List, length, filter, take, nat_lt}
 use Rattle.std.specs.List.{sum_by}
-use Rattle.be_base.specs.Counts.{HasRisenBy}
+use Rattle.be_base.specs.Counts.{HasRisenBy, RisesBy}
 use Rattle.be_change.specs.History.{Entry, is_of, hit_rows}
 use Rattle.be_change.specs.Requests.{fetching, sending, hit, cost, listed, sent, notes, dumped, tailed, split, shut, Exchange}
 use Rattle.be_board.specs.State.{BoardCounts, BoardState, CountsPuts}
@@ -41,12 +41,20 @@ abbrev pub letters_put : Exchange → ℕ
 letters_put (r, sent n put dropped) = put
 letters_put (r, _) = 0
 
--- of these replies, and of those that were written whole, no more tell of a read, an entry that was refused, two numbers
--- that differ, or an empty mailbox, than the board counted
-pub record Tied (ps whole : List Exchange) (before after : BoardCounts) : Type 0 where
+-- the board counted two numbers that differ as often as these replies tell them; or once more, where the session left without a
+-- reply, and may have been refused by them
+abbrev pub TiedSplits : (silent : Bool) → List Exchange → BoardCounts → BoardCounts → Type 0
+TiedSplits false ps before after = RisesBy (length (filter is_split ps)) before.splits after.splits
+TiedSplits true ps before after =
+    RisesBy (length (filter is_split ps)) before.splits after.splits ⊎ RisesBy (length (filter is_split ps) + 1) before.splits after.splits
+
+-- of these replies as many tell of an entry that was refused, and of two numbers that differ, as the board counted; and no more
+-- tell of a read, or, of those that were written whole, of an empty mailbox. A read may be counted and not told where memory was
+-- wanting then
+pub record Tied (silent : Bool) (ps whole : List Exchange) (before after : BoardCounts) : Type 0 where
   pub reads : HasRisenBy (length (filter is_read ps)) before.reads after.reads
-  pub shuts : HasRisenBy (length (filter is_shut ps)) before.shuts after.shuts
-  pub splits : HasRisenBy (length (filter is_split ps)) before.splits after.splits
+  pub shuts : RisesBy (length (filter is_shut ps)) before.shuts after.shuts
+  pub splits : TiedSplits silent ps before after
   pub empties : HasRisenBy (length (filter is_short whole)) before.empties after.empties
 
 -- over this list no more letters found their mailbox full than the board counted

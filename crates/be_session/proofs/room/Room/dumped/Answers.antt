@@ -23,7 +23,7 @@ returns-in_err-n-clause-refused g c =
     let b' : BoardState = g.B.Board.state c.all.new.self in
     let p = err_from_is_err_and c.from_residual.result c.from_residual.ensures.1 in
     subst (λ r. IfErr r (λ (short : Short). Replies b.schema (asked.dumping, plain_reply short) b b')) (sym p.1)
-    (subst (λ (short : Short). Replies b.schema (asked.dumping, plain_reply short) b b') (sym p.2) (refused_read b.schema asked.dumping b b' c.in_err-n.field-0.0 refl c.all.ensures.looks.goes c.all.ensures.looks.letters c.in_err-n.ensures.refused))
+    (subst (λ (short : Short). Replies b.schema (asked.dumping, plain_reply short) b b') (sym p.2) (refused_read b.schema asked.dumping b b' c.in_err-n.field-0.0 refl c.all.ensures.looks.goes c.all.ensures.looks.letters c.all.ensures.looks.splits c.in_err-n.ensures.refused))
 
 pub returns-in_err-write_rows-clause-refused : goal.returns-in_err-write_rows-clause-refused
 returns-in_err-write_rows-clause-refused g c =
@@ -31,7 +31,7 @@ returns-in_err-write_rows-clause-refused g c =
     let b' : BoardState = g.B.Board.state c.all.new.self in
     let p = err_from_is_err_and c.from_residual-in_err-write_rows.result c.from_residual-in_err-write_rows.ensures.1 in
     subst (λ r. IfErr r (λ (short : Short). Replies b.schema (asked.dumping, plain_reply short) b b')) (sym p.1)
-    (subst (λ (short : Short). Replies b.schema (asked.dumping, plain_reply short) b b') (sym p.2) (wanted_memory b.schema asked.dumping b b' refl c.all.ensures.looks))
+    (subst (λ (short : Short). Replies b.schema (asked.dumping, plain_reply short) b b') (sym p.2) (wanted_memory b.schema asked.dumping b b' refl c.all.ensures.looks c.in_ok-n.ensures.read.shuts))
 
 pub write_rows-requires-clause-lies : goal.write_rows-requires-clause-lies
 write_rows-requires-clause-lies g c =

@@ -18,7 +18,7 @@ returns-in_err-n-clause-refused g c =
     let b' : BoardState = g.B.Board.state c.hits.new.self in
     let p = err_from_is_err_and c.from_residual.result c.from_residual.ensures.1 in
     subst (λ r. IfErr r (λ (short : Short). Replies b.schema (asked.publish c.args.event.now, plain_reply short) b b')) (sym p.1)
-    (subst (λ (short : Short). Replies b.schema (asked.publish c.args.event.now, plain_reply short) b b') (sym p.2) (refused_read b.schema (asked.publish c.args.event.now) b b' c.in_err-n.field-0.0 refl c.hits.ensures.looks.goes c.hits.ensures.looks.letters c.in_err-n.ensures.refused))
+    (subst (λ (short : Short). Replies b.schema (asked.publish c.args.event.now, plain_reply short) b b') (sym p.2) (refused_read b.schema (asked.publish c.args.event.now) b b' c.in_err-n.field-0.0 refl c.hits.ensures.looks.goes c.hits.ensures.looks.letters c.hits.ensures.looks.splits c.in_err-n.ensures.refused))
 
 pub returns-in_err-write_hits-clause-refused : goal.returns-in_err-write_hits-clause-refused
 returns-in_err-write_hits-clause-refused g c =
@@ -26,7 +26,7 @@ returns-in_err-write_hits-clause-refused g c =
     let b' : BoardState = g.B.Board.state c.hits.new.self in
     let p = err_from_is_err_and c.from_residual-in_err-write_hits.result c.from_residual-in_err-write_hits.ensures.1 in
     subst (λ r. IfErr r (λ (short : Short). Replies b.schema (asked.publish c.args.event.now, plain_reply short) b b')) (sym p.1)
-    (subst (λ (short : Short). Replies b.schema (asked.publish c.args.event.now, plain_reply short) b b') (sym p.2) (wanted_memory b.schema (asked.publish c.args.event.now) b b' refl c.hits.ensures.looks))
+    (subst (λ (short : Short). Replies b.schema (asked.publish c.args.event.now, plain_reply short) b b') (sym p.2) (wanted_memory b.schema (asked.publish c.args.event.now) b b' refl c.hits.ensures.looks c.in_ok-n.ensures.read.shuts))
 
 pub returns-clause-told : goal.returns-clause-told
 returns-clause-told g c =

@@ -23,7 +23,7 @@ returns-in_err-n-clause-refused g c =
     let b' : BoardState = g.B.Board.state c.mine.new.self in
     let p = err_from_is_err_and c.from_residual.result c.from_residual.ensures.1 in
     subst (λ r. IfErr r (λ (short : Short). Replies b.schema (asked.listing, plain_reply short) b b')) (sym p.1)
-    (subst (λ (short : Short). Replies b.schema (asked.listing, plain_reply short) b b') (sym p.2) (refused_read b.schema asked.listing b b' c.in_err-n.field-0.0 refl c.mine.ensures.looks.goes c.mine.ensures.looks.letters c.in_err-n.ensures.refused))
+    (subst (λ (short : Short). Replies b.schema (asked.listing, plain_reply short) b b') (sym p.2) (refused_read b.schema asked.listing b b' c.in_err-n.field-0.0 refl c.mine.ensures.looks.goes c.mine.ensures.looks.letters c.mine.ensures.looks.splits c.in_err-n.ensures.refused))
 
 pub returns-in_err-write_names-clause-refused : goal.returns-in_err-write_names-clause-refused
 returns-in_err-write_names-clause-refused g c =
@@ -31,7 +31,7 @@ returns-in_err-write_names-clause-refused g c =
     let b' : BoardState = g.B.Board.state c.mine.new.self in
     let p = err_from_is_err_and c.from_residual-in_err-write_names.result c.from_residual-in_err-write_names.ensures.1 in
     subst (λ r. IfErr r (λ (short : Short). Replies b.schema (asked.listing, plain_reply short) b b')) (sym p.1)
-    (subst (λ (short : Short). Replies b.schema (asked.listing, plain_reply short) b b') (sym p.2) (wanted_memory b.schema asked.listing b b' refl c.mine.ensures.looks))
+    (subst (λ (short : Short). Replies b.schema (asked.listing, plain_reply short) b b') (sym p.2) (wanted_memory b.schema asked.listing b b' refl c.mine.ensures.looks c.in_ok-n.ensures.read.shuts))
 
 pub returns-clause-told : goal.returns-clause-told
 returns-clause-told g c =

@@ -22,7 +22,7 @@ returns-in_err-n-clause-refused g c =
     let b' : BoardState = g.B.Board.state c.tail.new.self in
     let p = err_from_is_err_and c.from_residual.result c.from_residual.ensures.1 in
     subst (λ r. IfErr r (λ (short : Short). Replies b.schema (asked.tailing c.args.place c.args.max, plain_reply short) b b')) (sym p.1)
-    (subst (λ (short : Short). Replies b.schema (asked.tailing c.args.place c.args.max, plain_reply short) b b') (sym p.2) (refused_read b.schema (asked.tailing c.args.place c.args.max) b b' c.in_err-n.field-0.0 refl c.tail.ensures.looks.goes c.tail.ensures.looks.letters c.in_err-n.ensures.refused))
+    (subst (λ (short : Short). Replies b.schema (asked.tailing c.args.place c.args.max, plain_reply short) b b') (sym p.2) (refused_read b.schema (asked.tailing c.args.place c.args.max) b b' c.in_err-n.field-0.0 refl c.tail.ensures.looks.goes c.tail.ensures.looks.letters c.tail.ensures.looks.splits c.in_err-n.ensures.refused))
 
 pub returns-in_err-write_changes-clause-refused : goal.returns-in_err-write_changes-clause-refused
 returns-in_err-write_changes-clause-refused g c =
@@ -30,7 +30,7 @@ returns-in_err-write_changes-clause-refused g c =
     let b' : BoardState = g.B.Board.state c.tail.new.self in
     let p = err_from_is_err_and c.from_residual-in_err-write_changes.result c.from_residual-in_err-write_changes.ensures.1 in
     subst (λ r. IfErr r (λ (short : Short). Replies b.schema (asked.tailing c.args.place c.args.max, plain_reply short) b b')) (sym p.1)
-    (subst (λ (short : Short). Replies b.schema (asked.tailing c.args.place c.args.max, plain_reply short) b b') (sym p.2) (wanted_memory b.schema (asked.tailing c.args.place c.args.max) b b' refl c.tail.ensures.looks))
+    (subst (λ (short : Short). Replies b.schema (asked.tailing c.args.place c.args.max, plain_reply short) b b') (sym p.2) (wanted_memory b.schema (asked.tailing c.args.place c.args.max) b b' refl c.tail.ensures.looks c.in_ok-n.ensures.read.shuts))
 
 pub write_changes-requires-clause-lies : goal.write_changes-requires-clause-lies
 write_changes-requires-clause-lies g c =
