@@ -61,6 +61,8 @@ fetches_some schema s s1 s2 from l o seat passes tends =
       own = refl;
       puts = refl;
       fulls = refl;
+      reads = record { reads = refl; shuts = refl };
+      splits = refl;
       from = (refl, record { passed = map letter_in o.passed; taken = notes; others = others_of s.session o.passed o.others });
     })
 
@@ -86,5 +88,7 @@ fetches_none schema s s1 s2 few o seat passes tends =
       own = refl;
       puts = refl;
       fulls = refl;
+      reads = record { reads = refl; shuts = refl };
+      splits = refl;
       from = (refl, record { passed = map letter_in o.passed; taken = notes; others = others_of s.session o.passed o.others });
     })

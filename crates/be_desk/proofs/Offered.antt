@@ -194,6 +194,7 @@ sends_on F schema s s1 s2 e boxes n put p tends =
       };
       own = l.own;
       notes = ap (λ (xs : List Posting). map letter_in xs) q.taken ∙ l.letters.notes;
+      splits = l.splits;
       alone = λ is. absurd cc;
     })
 
@@ -221,7 +222,7 @@ posts_on F schema s s1 s2 e boxes n put dropped p left tends =
     let all = parts n e h in
     let few : put ≤ length ls = offers_few F (length boxes) ls put s1.passes s2.passes p.offers in
     subst (λ (x : SeatState). Posts (board_of schema tends s) (board_of schema tends x) e (record { n = n; put = put; dropped = dropped })) (sym p.posted) (record {
-      read = record { length = r.length; counted = r.counted };
+      read = record { length = r.length; counted = r.counted; shuts = r.shuts };
       all = omega (arith, left, few, all.0, all.1);
       drops = (length ls - put, omega (arith, left, few, all.0), omega (arith, q.fulls, l.letters.fulls));
       puts = omega (arith, q.puts, l.letters.puts);
@@ -253,11 +254,11 @@ next_of P ls l rest is all =
 
 -- a read that was refused, and no letter put
 pub sends_refused : (schema : Attributes) (s s1 : SeatState) → OnBoards schema Looks s s1 → OnBoards schema Sends s s1
-sends_refused schema s s1 looks tends = let l = looks tends in record { goes = l.goes; own = l.own; notes = l.letters.notes; alone = l.alone }
+sends_refused schema s s1 looks tends = let l = looks tends in record { goes = l.goes; own = l.own; notes = l.letters.notes; splits = l.splits; alone = l.alone }
 
 pub refused_send : (schema : Attributes) (s s1 : SeatState) (why : NoRead) → OnBoards schema (λ b b'. Refuses b b' why) s s1 → OnBoards schema (λ b b'. RefusesSend b b' why) s s1
 refused_send schema s s1 Shut refused tends = refused tends
-refused_send schema s s1 NoMemory refused tends = tt
+refused_send schema s s1 NoMemory refused tends = (refused tends).1.shuts
 
 pub refused_send_in : {X Y : Type 0} (schema : Attributes) (s s1 : SeatState) (r : Result X NoRead) (r' : Result Y NoRead) (why : NoRead) → r ≡ Err why → r' ≡ Err why → IfErr r (λ why. OnBoards schema (λ b b'. Refuses b b' why) s s1)
     → IfErr r' (λ why. OnBoards schema (λ b b'. RefusesSend b b' why) s s1)

@@ -15,7 +15,7 @@ pub record DeskState : Type 0 where
   pub steps : List Step
   -- what the reader that plans knows and counted
   pub glass : GlassState
-  -- what changes and tends earned towards the next look for a step, which costs 1 for each row that it goes through
+  -- what changes and tends earned since the last look for a step
   pub patience : ℕ
 
 -- the list begins with this opening, and each entry behind it is of a session

@@ -10,7 +10,7 @@ use Rattle.be_desk.specs.Seats.{SeatState}
 abbrev pub after_taken : Passes → List Posting → Passes
 after_taken q letters = record q { taken = q.taken ++ letters }
 
--- the mailbox was empty at the step that looked behind these letters, or they are a box full
+-- these letters were taken, and a look found the mailbox empty; or they are a box full
 abbrev pub TakesAll : Passes → List Posting → Passes → Type 0
 TakesAll q letters q' =
     ((length letters < BOX_LETTERS) × (q' ≡ after_empty (after_taken q letters)))

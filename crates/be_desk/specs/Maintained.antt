@@ -36,7 +36,7 @@ IsMaintained d d' Shut = (d.published ≡ d.list) × (d' ≡ record (freed d) { 
 -- memory was wanting to the publishing of what was pending, to the plan, or to the step that it found
 IsMaintained d d' NoMemory = (d' ≡ d) ⊎ ((d.published ≡ d.list) × IsCutShort d d')
 
--- the step that was made, or that there is none, came of a plan of a copy that the desk's reader entered
+-- the step that was made, or that there is none, came of a plan of some copy whose list goes on from what the desk's reader knew
 abbrev pub IsByPlan : {X : Type 0} → (X → List Entry) → (X → Option Step) → (X → ℕ) → DeskState → DeskState → Maintained → Type 0
 IsByPlan list planned mark d d' (Stepped step) = Plans list planned mark d.glass d'.glass (Some step)
 IsByPlan list planned mark d d' Idle = Plans list planned mark d.glass d'.glass None
@@ -54,7 +54,7 @@ IsLookedOn d d' Shut = d' ≡ record (freed d) { glass = one_shut d.glass }
 -- memory was wanting to the publishing of what was pending, to the look, or to the step that it found
 IsLookedOn d d' NoMemory = (d' ≡ d) ⊎ IsCutShort d d'
 
--- the step that was made stood in a copy that the desk's reader entered
+-- the step that was made stood in some copy whose list goes on from what the desk's reader knew
 abbrev pub IsByLook : {X : Type 0} → (X → List Entry) → (X → Step → Bool) → DeskState → DeskState → Maintained → Type 0
 IsByLook list can d d' (Stepped step) = Looks list can d.glass d'.glass (Some step)
 IsByLook list can d d' answer = Unit {0}
@@ -69,7 +69,7 @@ OnStep d d' step answer = ⊥
 abbrev pub having_tended : DeskState → DeskState
 having_tended d = record d { patience = raised WORK_A_TEND d.patience }
 
--- a look begins: what was earned is spent
+-- what was earned is spent, as a look is due
 abbrev pub looking : DeskState → DeskState
 looking d = record d { patience = 0 }
 

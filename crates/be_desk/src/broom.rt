@@ -1,10 +1,10 @@
-//! What counts how often a desk was maintained or tended.
+//! What counts how often a desk was maintained.
 
 ghost use Rattle.std.specs.Prelude.{◌≡◌};
 
 use std::marker::Model;
 
-/// How often the desk was maintained or tended by whoever holds it. A count at the end of its type stays there.
+/// How often the desk was maintained by whoever holds it. Nothing else raises it. A count at the end of its type stays there.
 #[derive(Drop)]
 pub struct Broom {
     pub(crate) calls: u64,
@@ -26,7 +26,7 @@ impl Broom {
         Broom { calls: 0 }
     }
 
-    /// How often the desk was maintained or tended by it.
+    /// How often the desk was maintained by it.
     pub fn calls(&self) -> u64
         ensures { result ≡ self.now }
     {

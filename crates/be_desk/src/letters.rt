@@ -137,9 +137,10 @@ impl<T: Sheet<J>, J: Naming + BoxNames> Seat<T, J> {
     /// Takes out what is in the seat's mailbox, and gives none of it. It stops where the mailbox is empty at the step that
     /// looks, or after a box full, however many letters others put meanwhile. It takes no memory.
     ///
-    /// The next session begins with an empty box where this is called after one session and before the next is entered: no
-    /// row of a session that hasn't begun is live, so each letter is for a session that is over. That isn't a clause, since
-    /// the seat doesn't see what others know. Whatever comes here, `fetch` gives only letters for the present session.
+    /// The next session begins with what is put from then on, where this is called after one session and before the next is entered:
+    /// no row of a session that hasn't begun is live, so each letter is for a session that is over. Such letters may still be under
+    /// way, and take up room until they are fetched. None of this is a clause, since the seat doesn't see what others know. Whatever
+    /// comes here, `fetch` gives only letters for the present session.
     pub fn empty_box<S: Post, R: Wait>(&mut self, rt: &R, mail: &Mail<S>)
         requires mail { mail.now ≡ J.boxes }
         requires schema { S.schema ≡ J.schema }

@@ -24,6 +24,7 @@ mod rift;
 mod seat;
 mod stands;
 mod stray;
+mod tend_count;
 
 pub use ask::Ask;
 pub use broom::Broom;
@@ -34,3 +35,4 @@ pub use patience::{LOOK_ROWS, ROWS_RESHAPED, WORK_A_CHANGE, WORK_A_TEND};
 pub use rift::Rift;
 pub use seat::Seat;
 pub use stray::Stray;
+pub use tend_count::TendCount;

@@ -9,6 +9,7 @@ ghost use Rattle.be_desk.specs.Maintained.{IsByLook, IsByPlan, IsDue, IsLookedOn
 use crate::broom::Broom;
 use crate::desk::Desk;
 use crate::patience::{LOOK_ROWS, WORK_A_TEND};
+use crate::tend_count::TendCount;
 use be_base::{NoMemory, NoRead};
 use be_copy::Edit;
 use be_mail::BoxNames;
@@ -31,15 +32,15 @@ pub enum Maintained {
 }
 
 impl<T: Sheet<J>, J: Naming + BoxNames> Desk<T, J> {
-    /// What a worker calls between two replies. It publishes what is pending. Where no change was held, a look for a step was earned by
-    /// the changes and tends since the last one, and enough rows are live for one, it makes the step that the desk's reader
-    /// finds by looking on among some of the rows. Else it looks at nothing. It may wait for readers.
-    pub fn tend<R: Wait>(&mut self, rt: &R, broom: &mut Broom) -> Option<Maintained>
-        ensures broom { broom.new ≡ raised 1 broom.old }
+    /// What a worker calls between two replies. It publishes what is pending. Where that was a step, or where nothing was, a look for a
+    /// step was earned by the changes and tends since the last one, and enough rows are live for one, it makes the step that the
+    /// desk's reader finds by looking on among some of the rows. Else it looks at nothing. It may wait for readers.
+    pub fn tend<R: Wait>(&mut self, rt: &R, tended: &mut TendCount) -> Option<Maintained>
+        ensures counted { tended.new ≡ raised 1 tended.old }
         ensures done { IsTended self.old self.new result }
         ensures look { IfSome result (IsByLook T.list T.can_step self.old self.new) }
     {
-        broom.calls = broom.calls.saturating_add(1);
+        tended.calls = tended.calls.saturating_add(1);
         self.patience.earn(WORK_A_TEND);
         if !self.is_due() {
             return None;

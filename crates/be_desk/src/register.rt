@@ -18,7 +18,7 @@ use std::alloc::Global;
 use std::sync::Arc;
 
 /// Where the live rows of a list are found by name and by session, and how many there are. A call takes the time of one digest of a
-/// name and of a look-up, and a glance at each row whose name has the same number; `leave` takes that for each row of its session.
+/// long name and of a look-up, and a glance at each row whose name has the same number; `leave` takes that for each row of its session.
 #[derive(Drop)]
 pub struct Register {
     filed: be_copy::Register,

@@ -26,7 +26,7 @@ splits_grow s s' NoMemory c most = omega (arith, c.0)
 
 -- and rises where two numbers were told, and there alone
 split_counted : (s s' : SeatState) (answer : Answer) → Counts s s' answer → CountsSplit answer s.splits s'.splits
-split_counted s s' (Split a b) c = omega (arith, c.0)
+split_counted s s' (Split a b) c = c.0
 split_counted s s' (Done n) c = c.0
 split_counted s s' (Held n) c = c.0
 split_counted s s' (Dup m id) c = c.0
@@ -64,6 +64,7 @@ asked schema tends s s' r answer goes counts answers formed most =
         puts = ap (λ (q : Passes). put_count q) goes.passes;
         fulls = fulls;
       };
+      reads = record { reads = reads; shuts = shuts };
       formed = formed;
       answers = answers;
       split = split_counted s s' answer counts;

@@ -7,7 +7,7 @@ use Rattle.std.proofs.lemmas.List.{append-nil, map-append}
 use Rattle.std.proofs.lemmas.List.Elements.{All-append, All-push, All-weaker, filter_passes, filter-append, All-head, All-tail}
 use Rattle.std.proofs.lemmas.Option.{slice_get_within}
 use Rattle.atomic_table.specs.Seated.{TableId}
-use Rattle.be_base.specs.Counts.{raised, HasRisen, HasRisenBy}
+use Rattle.be_base.specs.Counts.{raised, HasRisen, HasRisenBy, RisesBy}
 use Rattle.be_base.specs.Lists.{BeginsWith}
 use Rattle.be_base.specs.declared.limits.TheConstants.{SOURCE_BYTES}
 use Rattle.be_base.specs.declared.names.SessionNo.{SessionNo}
@@ -166,7 +166,7 @@ splits_of P s before after calls calls' seat seat' (Split i j) e is =
     let some = subst (λ (ps : List Exchange). 0 < length (filter is_split ps)) (sym r.ends.2) (some_counted r.ends.0 r.ends.1 (is_split_of r.ends.1 i j r.ends.4)) in
     one_risen _ seat.splits seat'.splits some r.legal.tied.splits
   where
-    one_risen : (n before after : ℕ) → 0 < n → HasRisenBy n before after → HasRisen before after
+    one_risen : (n before after : ℕ) → 0 < n → RisesBy n before after → HasRisen before after
     one_risen n before after some rise = omega (arith, rise, some)
 splits_of P s before after calls calls' seat seat' Eof e is = absurd cc
 splits_of P s before after calls calls' seat seat' Quit e is = absurd cc

@@ -4,7 +4,7 @@ use Rattle.std.specs.Prelude.{if◌then◌else◌}
 use Rattle.std.specs.List.{All, Contains, list_all, filter}
 use Rattle.std.proofs.lemmas.Bool.{and_parts, and_from, eqb-true}
 use Rattle.std.proofs.lemmas.List.Elements.{All-contains, filter_passes}
-use Rattle.be_base.specs.Counts.{HasRisenBy}
+use Rattle.be_base.specs.Counts.{RisesBy}
 use Rattle.be_base.specs.Lists.{BeginsWith}
 use Rattle.be_base.specs.declared.limits.TheConstants.{LINE_BYTES}
 use Rattle.be_io.specs.Lines.{TextLine, lines}
@@ -85,10 +85,10 @@ none_counted (p ∷ ps) few = go (is_shut p) few (none_counted ps)
     go true h rest = absurd (omega (arith, h))
     go false h rest = rest h
 
-no_rise : (n before after : ℕ) → HasRisenBy n before after → after ≡ 0 → n ≡ 0
+no_rise : (n before after : ℕ) → RisesBy n before after → after ≡ 0 → n ≡ 0
 no_rise n before after rise is = omega (arith, rise, is)
 
-pub shuts_only : (shuts : Bool) (ps : List Exchange) (before after : ℕ) → HasRisenBy (length (filter is_shut ps)) before after → (shuts ≡ false → after ≡ 0) → ShutsOnly shuts ps
+pub shuts_only : (shuts : Bool) (ps : List Exchange) (before after : ℕ) → RisesBy (length (filter is_shut ps)) before after → (shuts ≡ false → after ≡ 0) → ShutsOnly shuts ps
 shuts_only true ps before after rise quiet = tt
 shuts_only false ps before after rise quiet = none_counted ps (no_rise (length (filter is_shut ps)) before after rise (quiet refl))
 
@@ -168,7 +168,7 @@ some_counted (q ∷ ps) p is = go (is_split q) (some_counted ps p is)
     go true some = omega arith
     go false some = some
 
-some_rise : (n before after : ℕ) → HasRisenBy n before after → 0 < n → 0 < after
+some_rise : (n before after : ℕ) → RisesBy n before after → 0 < n → 0 < after
 some_rise n before after rise some = omega (arith, rise, some)
 
 -- how a file's session ends at its seat

@@ -155,7 +155,7 @@ module _ {L : Type 0} (told : L → LinkState) where
     pub split : All (λ (end : SessionEnd). is_split_end end ≡ true → HasRisen first.splits last.splits) ends
     -- an accept failed only where the count of faults says it
     pub failed : 0 < count.failed → 0 < count.read_faults
-    -- after each session the desk was tended
+    -- the desk was tended at least as often as sessions have ended
     pub swept : length ends ≤ calls
 
   -- a worker has met the end of the links, and all that it was given are back

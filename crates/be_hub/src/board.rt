@@ -9,7 +9,7 @@ ghost use Rattle.be_desk.specs.Seats.{is_over};
 use crate::hub::Hub;
 use be_base::{Name, NoRead};
 use be_board::{Answer, Board, Sent};
-use be_desk::{Ask, Broom, Seat};
+use be_desk::{Ask, Seat, TendCount};
 use be_index::Ids;
 use be_mail::{BoxNames, Post};
 use be_model::{Change, Conj, Cost, Event, Found, Letter};
@@ -24,9 +24,9 @@ pub struct DeskBoard<'a, T: Sheet<J>, J: Naming + BoxNames, S: Post, R: Wait, co
     rt: &'a R,
     hub: &'a Hub<T, J, S>,
     seat: Seat<T, J>,
-    broom: Broom,
+    tended: TendCount,
     // Where it tends nothing its count is 0.
-    ghost still: { TENDS ≡ 0 → broom ≡ 0 },
+    ghost still: { TENDS ≡ 0 → tended ≡ 0 },
 }
 
 impl<'a, T: Sheet<J>, J: Naming + BoxNames, S: Post, R: Wait, const TENDS: u8> DeskBoard<
@@ -41,39 +41,39 @@ impl<'a, T: Sheet<J>, J: Naming + BoxNames, S: Post, R: Wait, const TENDS: u8> D
         rt: &'a R,
         hub: &'a Hub<T, J, S>,
         seat: Seat<T, J>,
-        broom: Broom,
+        tended: TendCount,
     ) -> DeskBoard<'a, T, J, S, R, TENDS>
-        requires still { TENDS ≡ 0 → broom ≡ 0 }
+        requires still { TENDS ≡ 0 → tended ≡ 0 }
         ensures seat { result.seat ≡ seat }
-        ensures broom { result.broom ≡ broom }
+        ensures tended { result.tended ≡ tended }
     {
         DeskBoard {
             rt,
             hub,
             seat,
-            broom,
+            tended,
         }
     }
 
-    pub(crate) fn take(self) -> (Seat<T, J>, Broom)
+    pub(crate) fn take(self) -> (Seat<T, J>, TendCount)
         ensures seat { result.0 ≡ self.entry.seat }
-        ensures broom { result.1 ≡ self.entry.broom }
+        ensures tended { result.1 ≡ self.entry.tended }
         ensures still { TENDS ≡ 0 → result.1 ≡ 0 }
     {
         let DeskBoard {
             rt: _,
             hub: _,
             seat,
-            broom,
+            tended,
         } = self;
-        (seat, broom)
+        (seat, tended)
     }
 
     // Takes a change under the lock.
     fn change(&mut self, alloc: Global, ask: Ask) -> Answer
         requires present { is_over self.old.seat ≡ false }
         requires lies { ask_lies J.schema ask ≡ true }
-        ensures { Asked (board_of J.schema self.old.broom self.old.seat) (board_of J.schema self.new.broom self.new.seat) (request_of ask) result }
+        ensures { Asked (board_of J.schema self.old.tended self.old.seat) (board_of J.schema self.new.tended self.new.seat) (request_of ask) result }
     {
         // That the count isn't past its type's end comes to light here.
         let _ = self.seat.splits();
@@ -89,7 +89,7 @@ impl<'a, T: Sheet<J>, J: Naming + BoxNames, S: Post, R: Wait, const TENDS: u8> B
     for DeskBoard<'a, T, J, S, R, TENDS> {
     ghost use Rattle.be_desk.specs.Boards.{board_of};
 
-    ghost state = { λ b. board_of J.schema b.broom b.seat };
+    ghost state = { λ b. board_of J.schema b.tended b.seat };
 
     fn subscribe(&mut self, alloc: Global, name: Name, conj: Conj) -> Answer {
         self.change(alloc, Ask::Subscribe { name, conj })
@@ -145,11 +145,14 @@ impl<'a, T: Sheet<J>, J: Naming + BoxNames, S: Post, R: Wait, const TENDS: u8> B
     fn tend(&mut self) {
         if TENDS > 0 {
             // That the count isn't past its type's end comes to light here.
-            let _ = self.broom.calls();
+            let _ = self.tended.calls();
+            // Whoever is at the desk isn't waited for: the next tend will do.
             let hub = self.hub;
-            let mut guard = hub.desk.lock(self.rt);
-            guard.tend(self.rt, &mut self.broom);
-            MutexGuard::unlock(guard);
+            if let Some(guard) = hub.desk.try_lock() {
+                let mut guard = guard;
+                guard.tend(self.rt, &mut self.tended);
+                MutexGuard::unlock(guard);
+            }
         }
     }
 }

@@ -11,7 +11,7 @@ use crate::hub::Hub;
 use crate::jobs::{Job, pairs_of};
 use crate::quiet::{FileSource, Transcript};
 use be_base::NoMemory;
-use be_desk::{Broom, Seat};
+use be_desk::{Broom, Seat, TendCount};
 use be_io::{Gate, Pair};
 use be_mail::{BoxNames, Post};
 use be_published::{Naming, Sheet};
@@ -49,7 +49,7 @@ fn serve_file<T: Sheet<J>, J: Naming + BoxNames, S: Post, R: Wait, G: Gate>(
     ensures { FileServed J.schema job.task.items job.seat result.seat result.transcript.items result.end }
 {
     let Job { seat, task, worker } = job;
-    let mut board = DeskBoard::<T, J, S, R, 0>::make(rt, hub, seat, Broom::make());
+    let mut board = DeskBoard::<T, J, S, R, 0>::make(rt, hub, seat, TendCount::make());
     let mut link = Pair {
         source: FileSource::make(alloc, task),
         sink: Transcript::make(alloc),

@@ -16,7 +16,7 @@ use crate::board::DeskBoard;
 use crate::hub::Hub;
 use crate::jobs::Job;
 use be_base::NoMemory;
-use be_desk::{Broom, Maintained, Seat};
+use be_desk::{Maintained, Seat, TendCount};
 use be_door::{Door, DoorCount};
 use be_io::{Gate, Link};
 use be_mail::{BoxNames, Post};
@@ -38,14 +38,14 @@ pub struct WorkEnd<T: Sheet<J>, J: Naming + BoxNames, L> {
     pub seat: Seat<T, J>,
     pub count: DoorCount<L>,
     pub ends: Vec<SessionEnd>,
-    pub broom: Broom,
+    pub tended: TendCount,
 }
 
 // A link that was served, what served it, and how its session ended.
 #[derive(Drop)]
 struct Visit<T: Sheet<J>, J: Naming + BoxNames, L> {
     seat: Seat<T, J>,
-    broom: Broom,
+    tended: TendCount,
     link: L,
     end: SessionEnd,
 }
@@ -69,14 +69,14 @@ pub(crate) fn serve_links<
 ) -> Result<WorkEnd<T, J, L>, NoMemory>
     requires few { (0 < length J.boxes) × (length J.boxes ≤ SEATS) }
     requires may { MayBegin (D.state door.now) job.seat job.task }
-    ensures { IfOk result (λ end. WorkerServed (link_state L.Source L.Sink) J.schema J.boxes (D.state door.now) job.seat end.seat end.count end.ends.items end.broom) }
+    ensures { IfOk result (λ end. WorkerServed (link_state L.Source L.Sink) J.schema J.boxes (D.state door.now) job.seat end.seat end.count end.ends.items end.tended) }
 {
     let Job { seat, task, worker } = job;
     let mut work = WorkEnd {
         seat,
         count: task,
         ends: Vec::new(alloc),
-        broom: Broom::make(),
+        tended: TendCount::make(),
     };
     loop {
         work.ends.reserve(1)?;
@@ -114,8 +114,8 @@ fn serve_next<
     requires fresh { work.ends.items ≡ [] → own_in (word_of work.seat) ≡ [] }
     requires number { work.seat.session < SESSIONS_END }
     requires unused { IsUnused (link_state L.Source L.Sink link) }
-    ensures served { (first : SeatState) → LinksServed (link_state L.Source L.Sink) J.schema J.boxes first work.seat work.count work.ends.items work.broom
-        → LinksServed (link_state L.Source L.Sink) J.schema J.boxes first result.seat result.count result.ends.items result.broom }
+    ensures served { (first : SeatState) → LinksServed (link_state L.Source L.Sink) J.schema J.boxes first work.seat work.count work.ends.items work.tended
+        → LinksServed (link_state L.Source L.Sink) J.schema J.boxes first result.seat result.count result.ends.items result.tended }
     ensures ended { length result.ends.items ≡ length work.ends.items + 1 }
     ensures back { (result.count.given ≡ work.count.given) × (result.count.back ≡ work.count.given) × (result.count.failed ≡ work.count.failed) × (result.count.refused ≡ work.count.refused) }
     ensures same { IsOf (D.state door.now) result.count × (result.count.ended ≡ work.count.ended) × (result.count.links ≡ work.count.links) }
@@ -124,24 +124,24 @@ fn serve_next<
         seat,
         mut count,
         mut ends,
-        broom,
+        tended,
     } = work;
     let seat = next_seat(rt, hub, seat, ends.is_empty());
     let session = seat.session();
     let Visit {
         seat,
-        mut broom,
+        mut tended,
         link,
         end,
-    } = serve_session(rt, alloc, hub, gate, worker, seat, broom, link);
-    publish_held(rt, hub, &mut broom);
+    } = serve_session(rt, alloc, hub, gate, worker, seat, tended, link);
+    publish_held(rt, hub, &mut tended);
     door.give_back(&mut count, session, link);
     ends.push_reserved(end);
     WorkEnd {
         seat,
         count,
         ends,
-        broom,
+        tended,
     }
 }
 
@@ -176,19 +176,19 @@ fn serve_session<T: Sheet<J>, J: Naming + BoxNames, S: Post, R: Wait, L: Link, G
     gate: &G,
     worker: u32,
     seat: Seat<T, J>,
-    broom: Broom,
+    tended: TendCount,
     link: L,
 ) -> Visit<T, J, L>
     requires fresh { own_in (word_of seat) ≡ [] }
-    ensures { SessionServed J.schema seat result.seat (link_state L.Source L.Sink link) (link_state L.Source L.Sink result.link) result.end broom result.broom }
+    ensures { SessionServed J.schema seat result.seat (link_state L.Source L.Sink link) (link_state L.Source L.Sink result.link) result.end tended result.tended }
 {
     let mut link = link;
-    let mut board = DeskBoard::<T, J, S, R, 1>::make(rt, hub, seat, broom);
+    let mut board = DeskBoard::<T, J, S, R, 1>::make(rt, hub, seat, tended);
     let end = serve_link(alloc, &hub.schema, &mut board, &mut link, gate, worker);
-    let (seat, broom) = board.take();
+    let (seat, tended) = board.take();
     Visit {
         seat,
-        broom,
+        tended,
         link,
         end,
     }
@@ -199,13 +199,13 @@ fn serve_session<T: Sheet<J>, J: Naming + BoxNames, S: Post, R: Wait, L: Link, G
 fn publish_held<T: Sheet<J>, J: Naming + BoxNames, S: Post, R: Wait>(
     rt: &R,
     hub: &Hub<T, J, S>,
-    broom: &mut Broom,
+    tended: &mut TendCount,
 )
-    ensures { HasRisen broom.old broom.new }
+    ensures { HasRisen tended.old tended.new }
 {
     for _ in 0..TRIES {
         let mut guard = hub.desk.lock(rt);
-        let done = guard.tend(rt, broom);
+        let done = guard.tend(rt, tended);
         MutexGuard::unlock(guard);
         if !matches!(done, Some(Maintained::NoMemory)) {
             return;

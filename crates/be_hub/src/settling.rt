@@ -98,7 +98,7 @@ fn part_links<T: Sheet<J>, J: Naming + BoxNames, L: Link + Drop>(
             seat,
             count,
             ends: _,
-            broom: _,
+            tended: _,
         } = end;
         // What its type keeps comes to light here.
         let _ = seat.session();

@@ -3,7 +3,7 @@
 ghost use Rattle.std.specs.Prelude.{◌≡◌};
 
 use crate::{seats, texts};
-use be_desk::{Broom, Desk, Maintained, Seat};
+use be_desk::{Broom, Desk, Maintained, Seat, TendCount};
 use be_mail::BoxNames;
 use be_model::Schema;
 use be_published::{Naming, Sheet};
@@ -24,18 +24,28 @@ pub fn answers<T: Sheet<J>, J: Naming + BoxNames, R: Wait>(
 ) -> Option<String>
     requires { schema.now ≡ J.schema }
 {
-    let mut broom = Broom::make();
+    let mut counts = Counts {
+        broom: Broom::make(),
+        tended: TendCount::make(),
+    };
     let mut answers = String::new(alloc);
     for command in script.split("; ") {
         if !answers.is_empty() {
             answers.push_str("; ").ok()?;
         }
-        match answer(rt, alloc, schema, desk, seats, &mut broom, command) {
+        match answer(rt, alloc, schema, desk, seats, &mut counts, command) {
             Some(answer) => answers.push_str(answer.as_str()).ok()?,
             None => answers.push_str("none").ok()?,
         }
     }
     Some(answers)
+}
+
+// How often a desk was maintained, and tended.
+#[derive(Drop)]
+struct Counts {
+    broom: Broom,
+    tended: TendCount,
 }
 
 fn answer<T: Sheet<J>, J: Naming + BoxNames, R: Wait>(
@@ -44,7 +54,7 @@ fn answer<T: Sheet<J>, J: Naming + BoxNames, R: Wait>(
     schema: &Schema,
     desk: &mut Desk<T, J>,
     seats: &mut Vec<Seat<T, J>>,
-    broom: &mut Broom,
+    counts: &mut Counts,
     command: &str,
 ) -> Option<String>
     requires { schema.now ≡ J.schema }
@@ -53,11 +63,14 @@ fn answer<T: Sheet<J>, J: Naming + BoxNames, R: Wait>(
     match word {
         "A" => seats::answer(rt, alloc, schema, desk, seats.get_mut(0)?, rest),
         "B" => seats::answer(rt, alloc, schema, desk, seats.get_mut(1)?, rest),
-        "MAINTAIN" => texts::maintained(alloc, &desk.maintain(rt, broom)),
-        "TEND" => tended(rt, alloc, desk, broom, rest.parse().ok()?),
-        "REST" => rested(rt, alloc, desk, broom),
+        "MAINTAIN" => texts::maintained(alloc, &desk.maintain(rt, &mut counts.broom)),
+        "TEND" => tended(rt, alloc, desk, &mut counts.tended, rest.parse().ok()?),
+        "REST" => rested(rt, alloc, desk, &mut counts.broom),
         "FREE" => freed(rt, alloc, desk),
-        "STATE" => format!(in alloc; "{} {}", desk.len(), broom.calls()).ok(),
+        "STATE" => {
+            let calls = counts.broom.calls().saturating_add(counts.tended.calls());
+            format!(in alloc; "{} {calls}", desk.len()).ok()
+        }
         _ => None,
     }
 }
@@ -67,11 +80,11 @@ fn tended<T: Sheet<J>, J: Naming + BoxNames, R: Wait>(
     rt: &R,
     alloc: Global,
     desk: &mut Desk<T, J>,
-    broom: &mut Broom,
+    tended: &mut TendCount,
     times: u32,
 ) -> Option<String> {
     for before in 0..times {
-        if let Some(done) = desk.tend(rt, broom) {
+        if let Some(done) = desk.tend(rt, tended) {
             let done = texts::maintained(alloc, &done)?;
             return format!(in alloc; "{before} not due, {done}").ok();
         }

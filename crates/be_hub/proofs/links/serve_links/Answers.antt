@@ -63,8 +63,8 @@ loop-work-preserved-in-Ok-Some g c =
     let told = link_state g.L.Source g.L.Sink in
     let first = c.args.job.seat in
     let work = c.loop-work.work in
-    let given = was_given told g.J.Naming.schema g.J.BoxNames.boxes first work.seat work.count c.accept.new.count work.ends.items work.broom i.0 is in (
-      e.served first (subst (λ es. LinksServed told g.J.Naming.schema g.J.BoxNames.boxes first work.seat c.accept.new.count es work.broom) (sym c.reserve.ensures.items) given),
+    let given = was_given told g.J.Naming.schema g.J.BoxNames.boxes first work.seat work.count c.accept.new.count work.ends.items work.tended i.0 is in (
+      e.served first (subst (λ es. LinksServed told g.J.Naming.schema g.J.BoxNames.boxes first work.seat c.accept.new.count es work.tended) (sym c.reserve.ensures.items) given),
       e.same.0,
       e.same.1 ∙ (ap (λ (x : CountState g.row.L.Denot). x.ended) is ∙ i.2),
       e.back.0 ∙ sym e.back.1,
@@ -78,9 +78,9 @@ returns-in-Ok-None g c =
     let told = link_state g.L.Source g.L.Sink in
     let first = c.args.job.seat in
     let work = c.loop-work.work in
-    let links = subst (λ es. LinksServed told g.J.Naming.schema g.J.BoxNames.boxes first work.seat c.accept.new.count es work.broom) (sym c.reserve.ensures.items)
-    (has_ended told g.J.Naming.schema g.J.BoxNames.boxes first work.seat work.count c.accept.new.count work.ends.items work.broom i.0 is) in
-    worker_served told g.J.Naming.schema g.J.BoxNames.boxes first work.seat c.accept.new.count c.reserve.new.self.items work.broom links (g.D.Door.state c.args.door.now)
+    let links = subst (λ es. LinksServed told g.J.Naming.schema g.J.BoxNames.boxes first work.seat c.accept.new.count es work.tended) (sym c.reserve.ensures.items)
+    (has_ended told g.J.Naming.schema g.J.BoxNames.boxes first work.seat work.count c.accept.new.count work.ends.items work.tended i.0 is) in
+    worker_served told g.J.Naming.schema g.J.BoxNames.boxes first work.seat c.accept.new.count c.reserve.new.self.items work.tended links (g.D.Door.state c.args.door.now)
     (ap (λ (x : CountState g.row.L.Denot). x.given) is ∙ (i.3 ∙ sym (ap (λ (x : CountState g.row.L.Denot). x.back) is)))
     (ap (λ (x : CountState g.row.L.Denot). x.ended) is)
     (i.1.0 ∙ ap (λ (x : CountState g.row.L.Denot). Some x.of) (sym is), ap (λ (x : CountState g.row.L.Denot). x.keeps) is ∙ i.1.1)
@@ -99,8 +99,8 @@ loop-work-preserved g c =
     let first = c.args.job.seat in
     let work = c.loop-work.work in
     let less = one_less work.count c.accept.new.count c.accept.result c.in-Err.field-0 c.in-Err.is c.accept.ensures.failed c.accept.ensures.no_memory in (
-      subst (λ es. LinksServed told g.J.Naming.schema g.J.BoxNames.boxes first work.seat c.accept.new.count es work.broom) (sym c.reserve.ensures.items)
-          (none_given told g.J.Naming.schema g.J.BoxNames.boxes first work.seat work.count c.accept.new.count work.ends.items work.broom i.0 c.accept.result c.in-Err.field-0 c.in-Err.is c.accept.ensures.failed c.accept.ensures.no_memory),
+      subst (λ es. LinksServed told g.J.Naming.schema g.J.BoxNames.boxes first work.seat c.accept.new.count es work.tended) (sym c.reserve.ensures.items)
+          (none_given told g.J.Naming.schema g.J.BoxNames.boxes first work.seat work.count c.accept.new.count work.ends.items work.tended i.0 c.accept.result c.in-Err.field-0 c.in-Err.is c.accept.ensures.failed c.accept.ensures.no_memory),
       (i.1.0 ∙ ap (λ o. Some o) (sym less.0), less.1 ∙ i.1.1),
       less.2 ∙ i.2,
       less.3 ∙ (i.3 ∙ sym less.4),

@@ -9,7 +9,7 @@ use Rattle.be_hub.proofs.links.serve_links.Given as goal
 
 abbrev pub invariant-loop-work : goal.invariant-loop-work
 invariant-loop-work g l =
-    LinksServed (link_state g.L.Source g.L.Sink) g.J.Naming.schema g.J.BoxNames.boxes l.fn.job.seat l.work.seat l.work.count l.work.ends.items l.work.broom
+    LinksServed (link_state g.L.Source g.L.Sink) g.J.Naming.schema g.J.BoxNames.boxes l.fn.job.seat l.work.seat l.work.count l.work.ends.items l.work.tended
     × IsOf (g.D.Door.state l.door) l.work.count
     × (l.work.count.ended ≡ false)
     × (l.work.count.given ≡ l.work.count.back)

@@ -11,11 +11,11 @@ returns g c =
     let s = g.J.Naming.schema in
     let made = c.make-board.result in
     let left = c.serve_link-end.new.board in
-    session_served _ s c.deref.result.now c.args.seat c.take-seat.result.0 c.args.broom c.take-seat.result.1
+    session_served _ s c.deref.result.now c.args.seat c.take-seat.result.0 c.args.tended c.take-seat.result.1
     (link_state g.L.Source g.L.Sink c.args.link) (link_state g.L.Source g.L.Sink c.serve_link-end.new.link)
-    (board_of s made.broom made.seat) (board_of s left.broom left.seat) c.serve_link-end.result
+    (board_of s made.tended made.seat) (board_of s left.tended left.seat) c.serve_link-end.result
     (c.deref.ensures ∙ c.hub.invariant.2)
-    (board_same s made.broom c.args.broom made.seat c.args.seat c.make-board.ensures.broom c.make-board.ensures.seat)
-    (sym (board_same s c.take-seat.result.1 left.broom c.take-seat.result.0 left.seat c.take-seat.ensures.broom c.take-seat.ensures.seat))
+    (board_same s made.tended c.args.tended made.seat c.args.seat c.make-board.ensures.tended c.make-board.ensures.seat)
+    (sym (board_same s c.take-seat.result.1 left.tended c.take-seat.result.0 left.seat c.take-seat.ensures.tended c.take-seat.ensures.seat))
     (λ u. (ap (link_state g.L.Source g.L.Sink) u.0, c.take-seat.ensures.seat ∙ (ap (λ b. b.seat) u.1 ∙ c.make-board.ensures.seat)))
     e.beside.whole e.ends e.board

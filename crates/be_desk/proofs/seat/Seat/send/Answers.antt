@@ -31,6 +31,9 @@ returns-in_err-n-clause-refused g c =
 pub returns-in_default-clause-sends : goal.returns-in_default-clause-sends
 returns-in_default-clause-sends g c = sends_refused g.J.Naming.schema c.args.self.now c.find.new.self c.find.ensures.looks
 
+pub returns-in_default-clause-refused : goal.returns-in_default-clause-refused
+returns-in_default-clause-refused g c tends = (c.in_ok-n.ensures.read tends).shuts
+
 pub post-put-requires-clause-fit : goal.post-put-requires-clause-fit
 post-put-requires-clause-fit g c =
     let made : map plain_letter c.in-Ok.letters.items ≡ take c.len.result (letters_for c.in_ok-n.n c.args.event.now (rows_in c.rows.result.now)) = search rules in
