@@ -9,7 +9,7 @@ use Rattle.clap.specs.Kinds.{Kinds, or_else}
 use Rattle.clap.specs.Simple.{built, entered}
 use Rattle.clap.specs.Walk.{Held, Row, Walk, finished, has_row, nothing_held, settled, walk, walked}
 use Rattle.clap.proofs.OnLiterals.{clap_on_literals}
-use Rattle.be_command_line.specs.Arguments.{Arguments, Progress, arguments, arguments_from, ended, beginning}
+use Rattle.be_command_line.specs.Arguments.{Arguments, Progress, arguments, arguments_from, ended, nothing_read}
 use Rattle.be_command_line.proofs.Classes.{class_of}
 use Rattle.be_command_line.specs.Read.{seen}
 use Rattle.be_command_line.specs.CommandLine.{app, load_id, word_id}
@@ -140,4 +140,4 @@ all_met a place (word ∷ words) utf8 r = elim (step a place word (class_of word
 -- the parser takes exactly the words that have arguments, and gives these
 pub words_met : (words : List Text) → All IsUtf8 words → IsMet (arguments words) (fault_of app words) (walk rules [] nothing_held words)
 unfolding clap_on_literals
-words_met words utf8 = all_met beginning (open_at [] none false) words utf8 (record { next = refl; words = refl; loads = refl })
+words_met words utf8 = all_met nothing_read (open_at [] none false) words utf8 (record { next = refl; words = refl; loads = refl })

@@ -19,14 +19,14 @@ use Rattle.clap.proofs.OnLiterals.{clap_on_literals}
 use Rattle.be_command_line.specs.Arguments.{Arguments, arguments}
 use Rattle.be_command_line.specs.CommandLine.{app, load_id, word_id}
 use Rattle.be_command_line.specs.Read.{AreArguments, arguments_in, seen}
-use Rattle.be_command_line.specs.Words.{words_of}
+use Rattle.be_command_line.specs.Words.{word_texts}
 use Rattle.be_command_line.specs.declared.words.WordsFault.{WordsFault}
 use Rattle.be_command_line.specs.declared.words.WordsFault.TheVariants.{Refused, NoMemory}
 use Rattle.be_command_line.proofs.Ending.{HasEnded, IsMet, words_met}
 use Rattle.be_command_line.proofs.Rules.{rules}
 
 -- strings are texts
-pub are_texts : (words : List (String Global)) → All IsUtf8 (words_of words)
+pub are_texts : (words : List (String Global)) → All IsUtf8 (word_texts words)
 are_texts [] k d below = absurd (omega arith)
 are_texts (word ∷ words) zero d below = IsUtf8-string_bytes word
 are_texts (word ∷ words) (suc k) d below = are_texts words k d (omega arith)

@@ -6,7 +6,7 @@ use Rattle.clap.specs.Walk.{Row, Waiting, idle, option, positional, Walk, readin
 use Rattle.clap.specs.Kinds.{Kinds}
 use Rattle.clap.specs.declared.error.kind.ErrorKind.TheVariants as kind
 use Rattle.clap.specs.declared.parser.matches.ValueSource.TheVariants.{CommandLine}
-use Rattle.be_command_line.specs.Arguments.{Progress, Next, any, file, plain, with_load, with_next, with_word}
+use Rattle.be_command_line.specs.Arguments.{Progress, Next, any, file, plain, with_load, with_next_word, with_word}
 use Rattle.be_command_line.specs.Read.{seen}
 use Rattle.be_command_line.proofs.Classes.{Class, separates, loads, names_load, unknown, placed, Placed, Unknown}
 use Rattle.be_command_line.proofs.Rows.{seen_more, seen_other}
@@ -75,14 +75,14 @@ pub record HasRead (a : Progress) (place : Place) : Type 0 where
 pub record Reads (a : Progress) (place : Place) (word : Text) : Type 0 where
   pub after : Progress
   pub there : Place
-  pub reads : with_next a.next word a ≡ Some after
+  pub reads : with_next_word a.next word a ≡ Some after
   pub passes : turn_fault shape [] (walk_at place) word ≡ []
   pub walks : walked rules [] (walk_at place) word ≡ walk_at there
   pub read : HasRead after there
 
 -- both refuse, the parser with the next word or at the end
 pub record Refuses (a : Progress) (place : Place) (word : Text) : Type 0 where
-  pub refuses : with_next a.next word a ≡ None
+  pub refuses : with_next_word a.next word a ≡ None
   pub fails : (turn_fault shape [] (walk_at place) word ≡ [] → ⊥)
       ⊎ ((turn_fault shape [] (walk_at place) word ≡ []) × (rows : List Row) × (walked rules [] (walk_at place) word ≡ doomed_at rows))
 

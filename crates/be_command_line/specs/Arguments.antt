@@ -26,8 +26,8 @@ pub record Progress : Type 0 where
   pub loads : List Text
   pub next : Next
 
-abbrev pub beginning : Progress
-beginning = record { words = []; loads = []; next = any }
+abbrev pub nothing_read : Progress
+nothing_read = record { words = []; loads = []; next = any }
 
 abbrev pub with_word : Text → Progress → Progress
 with_word word a = record a { words = a.words ++ word ∷ [] }
@@ -53,10 +53,10 @@ with_any word a =
     (if same_text word (codes "--load") then Some (record a { next = file }) else
     option_map_or (λ named. Some (with_load named a)) (load_in word) (undashed with_word word a))
 
-abbrev pub with_next : Next → Text → Progress → Option Progress
-with_next any word a = with_any word a
-with_next file word a = undashed with_load word a
-with_next plain word a = Some (with_word word a)
+abbrev pub with_next_word : Next → Text → Progress → Option Progress
+with_next_word any word a = with_any word a
+with_next_word file word a = undashed with_load word a
+with_next_word plain word a = Some (with_word word a)
 
 -- the words that stand by their places, and the FILE of each `--load`
 pub record Arguments : Type 0 where
@@ -71,7 +71,7 @@ ended _ a = Some (record { words = a.words; loads = a.loads })
 -- these words read behind what was read
 abbrev pub arguments_from : Progress → List Text → Option Arguments
 arguments_from a [] = ended a.next a
-arguments_from a (word ∷ words) = option_and_then (λ b. arguments_from b words) (with_next a.next word a)
+arguments_from a (word ∷ words) = option_and_then (λ b. arguments_from b words) (with_next_word a.next word a)
 
 abbrev pub arguments : List Text → Option Arguments
-arguments words = arguments_from beginning words
+arguments words = arguments_from nothing_read words

@@ -13,11 +13,11 @@ use Rattle.be_command_line.specs.CommandLine.{load_id, word_id}
 abbrev pub seen : Text → List Row → List Text
 seen id rows = unwrap_or (all_of id rows) []
 
-abbrev pub values_in : ArgMatches → Text → List Text
-values_in matches id = seen id (rows_of (found_of matches))
+abbrev pub argument_values : ArgMatches → Text → List Text
+argument_values matches id = seen id (rows_of (found_of matches))
 
 abbrev pub arguments_in : ArgMatches → Arguments
-arguments_in matches = record { words = values_in matches word_id; loads = values_in matches load_id }
+arguments_in matches = record { words = argument_values matches word_id; loads = argument_values matches load_id }
 
 -- the arguments exactly where there are some, and the refusal exactly where there are none, want of memory aside
 abbrev pub AreArguments : Option Arguments → Result ArgMatches WordsFault → Type 0

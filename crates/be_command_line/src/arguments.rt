@@ -6,8 +6,8 @@ ghost use Rattle.clap.specs.Simple.{app_of};
 ghost use Rattle.clap.specs.Values.{kind_of};
 ghost use Rattle.be_command_line.specs.Arguments.{arguments};
 ghost use Rattle.be_command_line.specs.CommandLine.{app};
-ghost use Rattle.be_command_line.specs.Read.{AreArguments, values_in};
-ghost use Rattle.be_command_line.specs.Words.{words_of};
+ghost use Rattle.be_command_line.specs.Read.{AreArguments, argument_values};
+ghost use Rattle.be_command_line.specs.Words.{word_texts};
 
 use crate::words::WordsFault;
 use be_base::NoMemory;
@@ -23,7 +23,7 @@ pub const LOAD: &str = "load";
 
 /// Reads the words behind the command.
 pub fn read_arguments(alloc: Global, words: &[String]) -> Result<ArgMatches<'_>, WordsFault>
-    ensures { AreArguments (arguments (words_of words.now)) result }
+    ensures { AreArguments (arguments (word_texts words.now)) result }
 {
     match command_line(alloc)?.try_get_matches_from(words) {
         Ok(matches) => Ok(matches),
@@ -54,7 +54,7 @@ fn fault_of(error: &Error) -> WordsFault
 
 /// The values of an argument.
 pub fn values_of<'m, 'a>(matches: &'m ArgMatches<'a>, id: &str) -> &'m [&'a str]
-    ensures { map now_of result.now ≡ values_in matches.now id.now }
+    ensures { map now_of result.now ≡ argument_values matches.now id.now }
 {
     matches.get_raw(id).unwrap_or_default()
 }

@@ -2,7 +2,7 @@
 
 ghost use Rattle.std.specs.Prelude.{◌≡◌, map, option_map, ◌<◌, ◌≤◌, IfOk, IfSome, length};
 ghost use Rattle.be_base.specs.Readers.{now_of};
-ghost use Rattle.be_command_line.specs.Words.{IsAnswerTo, words_of, plain_request, plain_service, plain_sessions, request_of, run_of, gen_of, cover_of, follow_of, drill_of, heat_of, serve_of, mirror_of, service_of, sessions_of, once_loaded, count_within, count_from_one, IsWithin};
+ghost use Rattle.be_command_line.specs.Words.{IsAnswerTo, word_texts, plain_program_request, plain_service, plain_sessions, command_request, run_of, gen_of, cover_of, follow_of, drill_of, heat_of, serve_of, mirror_of, service_of, sessions_of, once_loaded, count_within, count_from_one, IsWithin};
 
 use crate::arguments::{LOAD, WORD, read_arguments, values_of};
 use be_base::{
@@ -105,7 +105,7 @@ impl From<NoMemory> for WordsFault {
 
 // `run SCHEMA`, with one `--load FILE` or none.
 fn run_of<'a>(words: &[&'a str], loads: &[&'a str]) -> Option<Request<'a>>
-    ensures request { option_map plain_request result ≡ run_of (map now_of words.now) (map now_of loads.now) }
+    ensures request { option_map plain_program_request result ≡ run_of (map now_of words.now) (map now_of loads.now) }
     ensures within { IfSome result IsWithin }
 {
     match (words, loads) {
@@ -120,7 +120,7 @@ fn run_of<'a>(words: &[&'a str], loads: &[&'a str]) -> Option<Request<'a>>
 
 // `gen NUMBER SUBS EVENTS`.
 fn gen_of<'a>(words: &[&'a str], loads: &[&'a str]) -> Option<Request<'a>>
-    ensures request { option_map plain_request result ≡ gen_of (map now_of words.now) (map now_of loads.now) }
+    ensures request { option_map plain_program_request result ≡ gen_of (map now_of words.now) (map now_of loads.now) }
     ensures within { IfSome result IsWithin }
 {
     let ([number, subs, events], []) = (words, loads) else {
@@ -135,7 +135,7 @@ fn gen_of<'a>(words: &[&'a str], loads: &[&'a str]) -> Option<Request<'a>>
 
 // `cover SCHEMA FILE NAME`.
 fn cover_of<'a>(words: &[&'a str], loads: &[&'a str]) -> Option<Request<'a>>
-    ensures request { option_map plain_request result ≡ cover_of (map now_of words.now) (map now_of loads.now) }
+    ensures request { option_map plain_program_request result ≡ cover_of (map now_of words.now) (map now_of loads.now) }
     ensures within { IfSome result IsWithin }
 {
     let ([schema, file, name], []) = (words, loads) else {
@@ -149,7 +149,7 @@ fn cover_of<'a>(words: &[&'a str], loads: &[&'a str]) -> Option<Request<'a>>
 
 // `follow SCHEMA FILE`.
 fn follow_of<'a>(words: &[&'a str], loads: &[&'a str]) -> Option<Request<'a>>
-    ensures request { option_map plain_request result ≡ follow_of (map now_of words.now) (map now_of loads.now) }
+    ensures request { option_map plain_program_request result ≡ follow_of (map now_of words.now) (map now_of loads.now) }
     ensures within { IfSome result IsWithin }
 {
     match (words, loads) {
@@ -198,7 +198,7 @@ fn drill_of<'a>(
     words: &[&'a str],
     loads: &[&'a str],
 ) -> Result<Option<Request<'a>>, NoMemory>
-    ensures request { IfOk result (λ request. option_map plain_request request ≡ drill_of (map now_of words.now) (map now_of loads.now)) }
+    ensures request { IfOk result (λ request. option_map plain_program_request request ≡ drill_of (map now_of words.now) (map now_of loads.now)) }
     ensures within { IfOk result (λ request. IfSome request IsWithin) }
 {
     let Some(load) = once_loaded(loads) else {
@@ -227,7 +227,7 @@ fn heat_of<'a>(
     words: &[&'a str],
     loads: &[&'a str],
 ) -> Result<Option<Request<'a>>, NoMemory>
-    ensures request { IfOk result (λ request. option_map plain_request request ≡ heat_of (map now_of words.now) (map now_of loads.now)) }
+    ensures request { IfOk result (λ request. option_map plain_program_request request ≡ heat_of (map now_of words.now) (map now_of loads.now)) }
     ensures within { IfOk result (λ request. IfSome request IsWithin) }
 {
     if !loads.is_empty() {
@@ -267,7 +267,7 @@ fn service_of<'a>(words: &[&'a str]) -> Option<Service<'a>>
 
 // `serve SCHEMA PORT SEATS LINKS`, with one `--load FILE` or none.
 fn serve_of<'a>(words: &[&'a str], loads: &[&'a str]) -> Option<Request<'a>>
-    ensures request { option_map plain_request result ≡ serve_of (map now_of words.now) (map now_of loads.now) }
+    ensures request { option_map plain_program_request result ≡ serve_of (map now_of words.now) (map now_of loads.now) }
     ensures within { IfSome result IsWithin }
 {
     let load = once_loaded(loads)?;
@@ -288,7 +288,7 @@ fn serve_of<'a>(words: &[&'a str], loads: &[&'a str]) -> Option<Request<'a>>
 
 // `mirror SCHEMA PORT SEATS LINKS`.
 fn mirror_of<'a>(words: &[&'a str], loads: &[&'a str]) -> Option<Request<'a>>
-    ensures request { option_map plain_request result ≡ mirror_of (map now_of words.now) (map now_of loads.now) }
+    ensures request { option_map plain_program_request result ≡ mirror_of (map now_of words.now) (map now_of loads.now) }
     ensures within { IfSome result IsWithin }
 {
     if !loads.is_empty() {
@@ -328,7 +328,7 @@ fn count_from_one(most: u64, word: &str) -> Option<u64>
 
 /// Reads the words after the program's name.
 pub fn read_words(alloc: Global, words: &[String]) -> Result<Request<'_>, WordsFault>
-    ensures answer { IsAnswerTo (words_of words.now) result }
+    ensures answer { IsAnswerTo (word_texts words.now) result }
     ensures within { IfOk result IsWithin }
 {
     let [command, words @ ..] = words else {
@@ -350,7 +350,7 @@ fn request_of<'a>(
     words: &[&'a str],
     loads: &[&'a str],
 ) -> Result<Option<Request<'a>>, NoMemory>
-    ensures request { IfOk result (λ request. option_map plain_request request ≡ request_of command.now (record { words = map now_of words.now; loads = map now_of loads.now })) }
+    ensures request { IfOk result (λ request. option_map plain_program_request request ≡ command_request command.now (record { words = map now_of words.now; loads = map now_of loads.now })) }
     ensures within { IfOk result (λ request. IfSome request IsWithin) }
 {
     match command {

@@ -18,12 +18,13 @@ use Rattle.be_door.specs.Sums.{no_sums}
 use Rattle.be_door.specs.declared.sums.Sums.{Sums}
 use Rattle.be_hub.specs.Files.{lacks_memory, is_split_end}
 use Rattle.be_hub.specs.Links.{IsCounted}
+use Rattle.be_hub.specs.Serving.{told_of}
 use Rattle.be_protocol.specs.Conversation.{ConversationEnds}
 use Rattle.be_protocol.specs.declared.ends.SessionEnd.{SessionEnd}
 use Rattle.be_protocol.specs.declared.ends.SessionEnd.TheVariants.{Eof, Quit, ReadFault, WriteFault, Spent, Split, NoMemory}
 use Rattle.be_published.specs.States.{GlassState}
-use Rattle.be_mirror.specs.Links.{IsQuiet, WasRead, WorkerServed}
-use Rattle.be_mirror.specs.Serving.{ReadLink, IsReadLink, LinkEnds, list_terms, number_and_link, told_of, AreKept, LinksAreRead}
+use Rattle.be_mirror.specs.Links.{IsQuiet, WasRead, ReadWorkerServed}
+use Rattle.be_mirror.specs.Serving.{ReadLink, IsReadLink, LinkEnds, list_terms, number_and_link, ReadLinksAreKept, LinksAreRead}
 
 -- these numbers say what a count's say
 record Covers (sums : Sums) {L : Type 0} (c : CountState L) : Type 0 where
@@ -120,7 +121,7 @@ all_left {X} {E} P xs rs is all = mapped_back {X = X} {Y = Result X E} (λ x. Ok
 
 module _ {L : Type 0} (told : L → LinkState) {E : Type 0} (glass_in : E → GlassState) (count_in : E → CountState L) (ends_in : E → List SessionEnd) (s : Attributes) (door : DoorState L) where
   abbrev Served : E → Type 0
-  Served e = WorkerServed told s door (glass_in e) (count_in e) (ends_in e)
+  Served e = ReadWorkerServed told s door (glass_in e) (count_in e) (ends_in e)
 
   pub counts_are : (ends : List E) → All Served ends → door.workers ≡ length ends → 0 < length ends → AreAllCounts door (map count_in ends)
   counts_are ends w many some = record {
@@ -178,22 +179,22 @@ module _ {L : Type 0} (told : L → LinkState) {E : Type 0} (glass_in : E → Gl
         (read_by e (All-head (IsSeen h shuts) e es seen) (All-head (Covers sums) (count_in e) (map count_in es) covers) here)
         (all_read es (All-tail Served e es w) (All-tail (IsSeen h shuts) e es seen) (All-tail (Covers sums) (count_in e) (map count_in es) covers))
 
-  join_kept : (b : Bool) (xs ys : List (SessionNo × L)) (ls ms : List ReadLink) → AreKept told b xs ls → AreKept told b ys ms → AreKept told b (xs ++ ys) (ls ++ ms)
+  join_kept : (b : Bool) (xs ys : List (SessionNo × L)) (ls ms : List ReadLink) → ReadLinksAreKept told b xs ls → ReadLinksAreKept told b ys ms → ReadLinksAreKept told b (xs ++ ys) (ls ++ ms)
   join_kept true xs ys ls ms p q = map-append (told_of told) xs ys ∙ (ap (λ l. l ++ map (told_of told) ys) p ∙ (ap (λ l. map number_and_link ls ++ l) q ∙ sym (map-append number_and_link ls ms)))
   join_kept false xs ys ls ms p q = ap (λ l. l ++ ys) p ∙ q
 
-  none_kept : (b : Bool) → AreKept told b [] []
+  none_kept : (b : Bool) → ReadLinksAreKept told b [] []
   none_kept true = refl
   none_kept false = refl
 
-  all_are_kept : (ends : List E) (w : All Served ends) → AreKept told door.keeps (all_kept (map count_in ends)) (all_served ends w)
+  all_are_kept : (ends : List E) (w : All Served ends) → ReadLinksAreKept told door.keeps (all_kept (map count_in ends)) (all_served ends w)
   unfolding all_served
   all_are_kept [] w = none_kept door.keeps
   all_are_kept (e ∷ es) w =
       let here = All-head Served e es w in
-      subst (λ l. AreKept told door.keeps l (all_served (e ∷ es) w)) (sym (flat_map-cons (λ (c : CountState L). c.kept) (count_in e) (map count_in es)))
+      subst (λ l. ReadLinksAreKept told door.keeps l (all_served (e ∷ es) w)) (sym (flat_map-cons (λ (c : CountState L). c.kept) (count_in e) (map count_in es)))
       (join_kept door.keeps (count_in e).kept (all_kept (map count_in es)) here.links.served (all_served es (All-tail Served e es w))
-      (subst (λ b. AreKept told b (count_in e).kept here.links.served) here.is_of.1 here.links.kept_are)
+      (subst (λ b. ReadLinksAreKept told b (count_in e).kept here.links.served) here.is_of.1 here.links.kept_are)
       (all_are_kept es (All-tail Served e es w)))
 
   -- all links that were given out came back

@@ -12,41 +12,41 @@ use Rattle.be_event.specs.Events.{event_of}
 use Rattle.be_change.specs.Requests.{Request, subscribe, publish, costing, sending, dumping, quit}
 use Rattle.be_protocol.specs.Readings.{request_of, asking_of, of_event, alone, tail, tailing_at_most, number_asked}
 use Rattle.be_protocol.specs.Requests.{TakesMemory}
-use Rattle.be_mirror.specs.Asked.{asked_of, answered, is_command}
+use Rattle.be_mirror.specs.Asked.{mirror_request_of, mirror_answered, is_mirror_command}
 use Rattle.be_mirror.proofs.Stepping.{is_reading}
 
-event_kept : (r : Result Assignments EventFault) (s : Attributes) → answered (asking_of publish s r) ≡ asking_of publish s r
+event_kept : (r : Result Assignments EventFault) (s : Attributes) → mirror_answered (asking_of publish s r) ≡ asking_of publish s r
 event_kept (Ok e) s = refl
 event_kept (Err fault) s = refl
 
-cost_kept : (r : Result Assignments EventFault) (s : Attributes) → answered (asking_of costing s r) ≡ asking_of costing s r
+cost_kept : (r : Result Assignments EventFault) (s : Attributes) → mirror_answered (asking_of costing s r) ≡ asking_of costing s r
 cost_kept (Ok e) s = refl
 cost_kept (Err fault) s = refl
 
-dump_kept : (ts : List Lexeme) → answered (alone dumping (Some ts)) ≡ alone dumping (Some ts)
+dump_kept : (ts : List Lexeme) → mirror_answered (alone dumping (Some ts)) ≡ alone dumping (Some ts)
 dump_kept [] = refl
 dump_kept (t ∷ ts) = refl
 
-quit_kept : (ts : List Lexeme) → answered (alone quit (Some ts)) ≡ alone quit (Some ts)
+quit_kept : (ts : List Lexeme) → mirror_answered (alone quit (Some ts)) ≡ alone quit (Some ts)
 quit_kept [] = refl
 quit_kept (t ∷ ts) = refl
 
-numbers_kept : (place max : Option ℕ) → answered (tailing_at_most place max) ≡ tailing_at_most place max
+numbers_kept : (place max : Option ℕ) → mirror_answered (tailing_at_most place max) ≡ tailing_at_most place max
 numbers_kept (Some place) (Some max) = refl
 numbers_kept (Some place) None = refl
 numbers_kept None max = refl
 
-tail_kept : (ts : List Lexeme) → answered (tail (Some ts)) ≡ tail (Some ts)
+tail_kept : (ts : List Lexeme) → mirror_answered (tail (Some ts)) ≡ tail (Some ts)
 tail_kept (word place ∷ word max ∷ []) = numbers_kept (count_of place) (number_asked (count_of max))
 tail_kept _ = refl
 
 -- a command's words ask of a mirror what they ask of a session
-pub command_same : (s : Attributes) (w : Text) (o : Option (List Lexeme)) → is_command w ≡ true → request_of s (put_token (word w) o) ≡ asked_of s (put_token (word w) o)
+pub command_same : (s : Attributes) (w : Text) (o : Option (List Lexeme)) → is_mirror_command w ≡ true → request_of s (put_token (word w) o) ≡ mirror_request_of s (put_token (word w) o)
 command_same s w None is = refl
 command_same s w (Some ts) is = by_quit (or_cases (((same_text w (codes "PUB") || same_text w (codes "COST")) || same_text w (codes "DUMP")) || same_text w (codes "TAIL")) (same_text w (codes "QUIT")) is)
   where
     Same : Text → Type 0
-    Same x = request_of s (Some (word x ∷ ts)) ≡ asked_of s (Some (word x ∷ ts))
+    Same x = request_of s (Some (word x ∷ ts)) ≡ mirror_request_of s (Some (word x ∷ ts))
 
     by_pub : (same_text w (codes "PUB") ≡ true) ⊎ (same_text w (codes "COST") ≡ true) → Same w
     by_pub (inl e) = subst Same (sym (equal_from_same_text w (codes "PUB") e)) refl
@@ -64,11 +64,11 @@ command_same s w (Some ts) is = by_quit (or_cases (((same_text w (codes "PUB") |
     by_quit (inl e) = by_tail (or_cases ((same_text w (codes "PUB") || same_text w (codes "COST")) || same_text w (codes "DUMP")) (same_text w (codes "TAIL")) e)
     by_quit (inr e) = subst Same (sym (equal_from_same_text w (codes "QUIT") e)) refl
 
-either_kept : (b : Bool) (r r' : Request) → answered r ≡ r → answered r' ≡ r' → answered (if b then r else r') ≡ (if b then r else r')
+either_kept : (b : Bool) (r r' : Request) → mirror_answered r ≡ r → mirror_answered r' ≡ r' → mirror_answered (if b then r else r') ≡ (if b then r else r')
 either_kept true r r' e e' = e
 either_kept false r r' e e' = e'
 
-commands_kept : (s : Attributes) (w : Text) (ts : List Lexeme) → answered (asked_of s (Some (word w ∷ ts))) ≡ asked_of s (Some (word w ∷ ts))
+commands_kept : (s : Attributes) (w : Text) (ts : List Lexeme) → mirror_answered (mirror_request_of s (Some (word w ∷ ts))) ≡ mirror_request_of s (Some (word w ∷ ts))
 commands_kept s w ts =
     either_kept (same_text w (codes "PUB")) (of_event publish s (Some ts)) _ (event_kept (event_of s (Some ts)) s)
     (either_kept (same_text w (codes "COST")) (of_event costing s (Some ts)) _ (cost_kept (event_of s (Some ts)) s)
@@ -77,17 +77,17 @@ commands_kept s w ts =
     (either_kept (same_text w (codes "QUIT")) (alone quit (Some ts)) _ (quit_kept ts) refl))))
 
 -- a mirror answers what its commands ask
-pub asked_kept : (s : Attributes) (w : Text) (o : Option (List Lexeme)) → answered (asked_of s (put_token (word w) o)) ≡ asked_of s (put_token (word w) o)
+pub asked_kept : (s : Attributes) (w : Text) (o : Option (List Lexeme)) → mirror_answered (mirror_request_of s (put_token (word w) o)) ≡ mirror_request_of s (put_token (word w) o)
 asked_kept s w None = refl
 asked_kept s w (Some ts) = commands_kept s w ts
 
 -- of what a mirror is asked only a read takes memory
-pub only_reads : (s : Attributes) (o : Option (List Lexeme)) → TakesMemory (asked_of s o) → is_reading (asked_of s o) ≡ true
+pub only_reads : (s : Attributes) (o : Option (List Lexeme)) → TakesMemory (mirror_request_of s o) → is_reading (mirror_request_of s o) ≡ true
 only_reads s None t = absurd t
 only_reads s (Some []) t = absurd t
-only_reads s (Some (word w ∷ ts)) t = by_request (asked_of s (Some (word w ∷ ts))) (commands_kept s w ts) t
+only_reads s (Some (word w ∷ ts)) t = by_request (mirror_request_of s (Some (word w ∷ ts))) (commands_kept s w ts) t
   where
-    by_request : (r : Request) → answered r ≡ r → TakesMemory r → is_reading r ≡ true
+    by_request : (r : Request) → mirror_answered r ≡ r → TakesMemory r → is_reading r ≡ true
     by_request (publish e) kept t = refl
     by_request (costing e) kept t = refl
     by_request (subscribe name conj) kept t = absurd cc

@@ -13,9 +13,9 @@ use Rattle.be_door.specs.declared.sums.Sums.{Sums}
 use Rattle.be_hub.specs.Files.{lacks_memory}
 use Rattle.be_protocol.specs.declared.ends.SessionEnd.{SessionEnd}
 use Rattle.be_published.specs.States.{GlassState}
-use Rattle.be_mirror.specs.Links.{Listened, WorkerServed}
+use Rattle.be_mirror.specs.Links.{Listened, ReadWorkerServed}
 use Rattle.be_published.specs.declared.beyond.Beyond.{Beyond}
-use Rattle.be_mirror.specs.Serving.{LinksAreRead, LeavesDoor, IsSomeBeyond}
+use Rattle.be_mirror.specs.Serving.{LinksAreRead, DoorAfterMirrorFault}
 use Rattle.be_mirror.specs.declared.serving.MirrorFault.TheVariants as fault
 use Rattle.be_mirror.proofs.AllRead.{links_are_read, all_seen, all_back}
 use Rattle.be_mirror.proofs.DoorSettled.{kept_is, keeps_is, all_links, door_served}
@@ -26,7 +26,7 @@ no_shade (Some x) is = absurd cc
 
 module _ {L : Type 0} (d d₁ d₂ : DoorState L) (port links workers : ℕ) (is : Listened d d₁ port links workers) where
   module _ (told : L → LinkState) {E : Type 0} (glass_in : E → GlassState) (count_in : E → CountState L) (ends_in : E → List SessionEnd) (s : Attributes) where
-    pub links_read : (h : List Entry) (shuts : Bool) (ends : List E) → All (λ e. WorkerServed told s d₁ (glass_in e) (count_in e) (ends_in e)) ends
+    pub links_read : (h : List Entry) (shuts : Bool) (ends : List E) → All (λ e. ReadWorkerServed told s d₁ (glass_in e) (count_in e) (ends_in e)) ends
         → (glasses : List GlassState) → glasses ≡ map glass_in ends → All (λ (x : GlassState). BeginsWith h x.known) glasses → (shuts ≡ false → All (λ e. (glass_in e).shuts ≡ 0) ends)
         → list_any (λ e. list_any lacks_memory (ends_in e)) ends ≡ false → (sums : Sums) → sums ≡ with_counts no_sums (map count_in ends) → sums.refused ≡ 0
         → d₂ ≡ after_settle d₁ (map count_in ends) → d₂.given + d₂.failed + d₂.refused ≡ d₂.links → LinksAreRead told s h shuts links sums d₂.keeps d₂.kept
@@ -40,13 +40,12 @@ module _ {L : Type 0} (d d₁ d₂ : DoorState L) (port links workers : ℕ) (is
         (subst (λ k. LinksAreRead told s h shuts links (with_counts no_sums counts) d₁.keeps k) (sym (kept_is d d₁ d₂ port links workers is counts settled)) base))
 
     -- where some reader knows more than what is published
-    pub door_left : (published : List Entry) (beyond : Beyond) → IsSomeBeyond published beyond → (ends : List E) → All (λ e. WorkerServed told s d₁ (glass_in e) (count_in e) (ends_in e)) ends
+    pub door_left : (beyond : Beyond) (ends : List E) → All (λ e. ReadWorkerServed told s d₁ (glass_in e) (count_in e) (ends_in e)) ends
         → (sums : Sums) → sums ≡ with_counts no_sums (map count_in ends) → sums.refused ≡ 0 → d₂ ≡ after_settle d₁ (map count_in ends) → d₂.given + d₂.failed + d₂.refused ≡ d₂.links
-        → LeavesDoor d d₂ port links workers (fault.Ahead beyond)
-    door_left published beyond some ends w sums sums_are none_refused settled all =
+        → DoorAfterMirrorFault d d₂ port links workers (fault.Ahead beyond)
+    door_left beyond ends w sums sums_are none_refused settled all =
         let counts = map count_in ends in
         let refused : (with_counts no_sums counts).refused ≡ 0 = sym (ap (λ (x : Sums). x.refused) sums_are) ∙ none_refused in (
-          (published, some),
           with_counts no_sums counts,
           door_served d d₁ d₂ port links workers is counts settled,
           all_back told glass_in count_in ends_in s d₁ ends w,

@@ -19,6 +19,7 @@ use Rattle.be_door.specs.Kept.{put_last}
 use Rattle.be_door.specs.Links.{IsUnused}
 use Rattle.be_hub.specs.Files.{is_split_end}
 use Rattle.be_hub.specs.Links.{IsCounted}
+use Rattle.be_hub.specs.Serving.{told_of}
 use Rattle.be_hub.specs.Transcripts.{ShutsOnly}
 use Rattle.be_protocol.specs.Conversation.{ConversationEnds}
 use Rattle.be_protocol.specs.declared.ends.SessionEnd.{SessionEnd}
@@ -26,9 +27,9 @@ use Rattle.be_protocol.specs.declared.ends.SessionEnd.TheVariants.{Eof, Quit, Re
 use Rattle.be_protocol.proofs.Under.{ends_under, ends_give}
 use Rattle.be_published.specs.States.{GlassState}
 use Rattle.be_session.specs.Tied.{is_shut}
-use Rattle.be_mirror.specs.Links.{IsQuiet, WasRead, LinksServed}
+use Rattle.be_mirror.specs.Links.{IsQuiet, WasRead, ReadLinksServed}
 use Rattle.be_mirror.specs.Reading.{mirror_terms, MirrorSessionEnds}
-use Rattle.be_mirror.specs.Serving.{ReadLink, list_terms, number_and_link, told_of, AreKept}
+use Rattle.be_mirror.specs.Serving.{ReadLink, list_terms, number_and_link, ReadLinksAreKept}
 
 -- what isn't counted isn't there
 none_counted : (ps : List Exchange) → length (filter is_shut ps) ≡ 0 → list_all (λ (p : Exchange). not (is_shut p)) ps ≡ true
@@ -135,12 +136,12 @@ module _ {L : Type 0} (told : L → LinkState) where
   counted_on c c' g (Split i j) is = tt
   counted_on c c' g NoMemory is = tt
 
-  kept_on : (b : Bool) (kept : List (SessionNo × L)) (ls : List ReadLink) (number : SessionNo) (link : L) (l : ReadLink) → told_of told (number, link) ≡ number_and_link l → AreKept told b kept ls → AreKept told b (put_last b kept number link) (ls ++ l ∷ [])
+  kept_on : (b : Bool) (kept : List (SessionNo × L)) (ls : List ReadLink) (number : SessionNo) (link : L) (l : ReadLink) → told_of told (number, link) ≡ number_and_link l → ReadLinksAreKept told b kept ls → ReadLinksAreKept told b (put_last b kept number link) (ls ++ l ∷ [])
   kept_on true kept ls number link l same k =
       map-append (told_of told) kept ((number, link) ∷ []) ∙ (ap (λ xs. xs ++ told_of told (number, link) ∷ []) k ∙ (ap (λ x. map number_and_link ls ++ x ∷ []) same ∙ sym (map-append number_and_link ls (l ∷ []))))
   kept_on false kept ls number link l same k = k
 
-  module _ (U : Type 0) (s : Attributes) (g g' : GlassState) (c : CountState L) (ends : List SessionEnd) (number : SessionNo) (link : L) (before : LinkState) (end : SessionEnd) (l : LinksServed told s g c ends) (same : U → g' ≡ g) (known : BeginsWith g'.known g.known)
+  module _ (U : Type 0) (s : Attributes) (g g' : GlassState) (c : CountState L) (ends : List SessionEnd) (number : SessionNo) (link : L) (before : LinkState) (end : SessionEnd) (l : ReadLinksServed told s g c ends) (same : U → g' ≡ g) (known : BeginsWith g'.known g.known)
       (unused : IsUnused before) (whole : (told link).source.whole ≡ before.source.whole) (served : MirrorSessionEnds U s before (told link) g g' end)
     where
       abbrev c' : CountState L
@@ -163,7 +164,7 @@ module _ {L : Type 0} (told : L → LinkState) where
       was_read = record { unused = before; is_unused = unused; whole = whole; never_split = unsplit U s before (told link) g g' end served; ends = over_list U s before (told link) g g' end served }
 
       -- one more link was served
-      pub one_served : LinksServed told s g' c' (ends ++ end ∷ [])
+      pub one_served : ReadLinksServed told s g' c' (ends ++ end ∷ [])
       one_served = record {
         back = omega (arith, l.back, length-append ends (end ∷ []));
         served = l.served ++ new ∷ [];
@@ -174,14 +175,14 @@ module _ {L : Type 0} (told : L → LinkState) where
         failed = λ some. further.read_faults (l.failed some);
       }
 
-      pub one_served_as : (count : CountState L) (all : List SessionEnd) → count ≡ c' → all ≡ ends ++ end ∷ [] → LinksServed told s g' count all
-      one_served_as count all is are = subst (λ x. LinksServed told s g' x all) (sym is) (subst (λ es. LinksServed told s g' c' es) (sym are) one_served)
+      pub one_served_as : (count : CountState L) (all : List SessionEnd) → count ≡ c' → all ≡ ends ++ end ∷ [] → ReadLinksServed told s g' count all
+      one_served_as count all is are = subst (λ x. ReadLinksServed told s g' x all) (sym is) (subst (λ es. ReadLinksServed told s g' c' es) (sym are) one_served)
 
   -- nothing was served yet
-  pub none_served : (s : Attributes) (g : GlassState) (c : CountState L) (of : TableId) (links : ℕ) (keeps : Bool) (ends : List SessionEnd) → c ≡ new_count of links keeps → ends ≡ [] → LinksServed told s g c ends
+  pub none_served : (s : Attributes) (g : GlassState) (c : CountState L) (of : TableId) (links : ℕ) (keeps : Bool) (ends : List SessionEnd) → c ≡ new_count of links keeps → ends ≡ [] → ReadLinksServed told s g c ends
   none_served s g c of links keeps ends is none =
-      subst (LinksServed told s g c) (sym none)
-      (subst (λ x. LinksServed told s g x []) (sym is)
+      subst (ReadLinksServed told s g c) (sym none)
+      (subst (λ x. ReadLinksServed told s g x []) (sym is)
       (record {
         back = refl;
         served = [];
@@ -192,19 +193,19 @@ module _ {L : Type 0} (told : L → LinkState) where
         failed = λ some. absurd (omega (arith, some));
       }))
     where
-      none_kept : (b : Bool) → AreKept told b [] []
+      none_kept : (b : Bool) → ReadLinksAreKept told b [] []
       none_kept true = refl
       none_kept false = refl
 
   -- an accept leaves what was served
-  pub accepted : (s : Attributes) (g : GlassState) (c c' : CountState L) (ends : List SessionEnd) → LinksServed told s g c ends → c'.back ≡ c.back → c'.keeps ≡ c.keeps → c'.kept ≡ c.kept → (0 < c.read_faults → 0 < c'.read_faults)
-      → c'.write_faults ≡ c.write_faults → c'.most ≡ c.most → (0 < c'.failed → 0 < c'.read_faults) → LinksServed told s g c' ends
+  pub accepted : (s : Attributes) (g : GlassState) (c c' : CountState L) (ends : List SessionEnd) → ReadLinksServed told s g c ends → c'.back ≡ c.back → c'.keeps ≡ c.keeps → c'.kept ≡ c.kept → (0 < c.read_faults → 0 < c'.read_faults)
+      → c'.write_faults ≡ c.write_faults → c'.most ≡ c.most → (0 < c'.failed → 0 < c'.read_faults) → ReadLinksServed told s g c' ends
   accepted s g c c' ends l back keeps kept reads writes most failed = record {
     back = back ∙ l.back;
     served = l.served;
     ends_are = l.ends_are;
     each = l.each;
-    kept_are = subst (λ b. AreKept told b c'.kept l.served) (sym keeps) (subst (λ k. AreKept told c.keeps k l.served) (sym kept) l.kept_are);
+    kept_are = subst (λ b. ReadLinksAreKept told b c'.kept l.served) (sym keeps) (subst (λ k. ReadLinksAreKept told c.keeps k l.served) (sym kept) l.kept_are);
     counted = All-weaker (IsCounted (sums_of c)) (IsCounted (sums_of c')) (counted_on c c' (record { read_faults = reads; write_faults = λ some. omega (arith, some, writes); most = omega (arith, most) })) ends l.counted;
     failed = failed;
   }

@@ -21,10 +21,10 @@ use Rattle.be_protocol.specs.declared.ends.SessionEnd.{SessionEnd}
 use Rattle.be_protocol.specs.declared.ends.SessionEnd.TheVariants as ends
 use Rattle.be_protocol.proofs.Going.{trace_pop}
 use Rattle.be_protocol.proofs.Under.{ends_under, ends_give}
-use Rattle.be_mirror.specs.Asked.{asked}
-use Rattle.be_mirror.specs.Legal.{Answers}
+use Rattle.be_mirror.specs.Asked.{mirror_reading}
+use Rattle.be_mirror.specs.Legal.{MirrorAnswers}
 use Rattle.be_mirror.specs.Reading.{AreAnswered, AreTied, Showed, mirror_terms, MirrorSessionEnds}
-use Rattle.be_mirror.specs.Sessions.{Replies, mirror_conduct}
+use Rattle.be_mirror.specs.Sessions.{ReadReplies, mirror_conduct}
 use Rattle.be_mirror.proofs.Said.{no_split}
 use Rattle.be_mirror.proofs.Tying.{tied_none, tied_on}
 
@@ -48,12 +48,12 @@ nothing_shown s g = record {
   tied = tied_none g;
 }
 
-answered_on : (s : Attributes) (h : List Entry) (ps : List Exchange) (p : Exchange) (w m e : Walk) → AreAnswered s h ps w m → m.ended ≡ false → Answers s h p.0 p.1 m e → AreAnswered s h (ps ++ p ∷ []) w e
-answered_on s h [] p w m e still on one = (ap (λ (x : Walk). x.ended) (sym still) ∙ on, e, subst (λ (x : Walk). Answers s h p.0 p.1 x e) still one, refl)
+answered_on : (s : Attributes) (h : List Entry) (ps : List Exchange) (p : Exchange) (w m e : Walk) → AreAnswered s h ps w m → m.ended ≡ false → MirrorAnswers s h p.0 p.1 m e → AreAnswered s h (ps ++ p ∷ []) w e
+answered_on s h [] p w m e still on one = (ap (λ (x : Walk). x.ended) (sym still) ∙ on, e, subst (λ (x : Walk). MirrorAnswers s h p.0 p.1 x e) still one, refl)
 answered_on s h (q ∷ qs) p w m e (going, next, first, rest) on one = (going, next, first, answered_on s h qs p next m e rest on one)
 
 -- one more exchange
-shows_on : (s : Attributes) (ps : List Exchange) (p : Exchange) (a b c : GlassState) → Shows s false ps a b → Replies s p b c → Shows s (is_quit p.0) (ps ++ p ∷ []) a c
+shows_on : (s : Attributes) (ps : List Exchange) (p : Exchange) (a b c : GlassState) → Shows s false ps a b → ReadReplies s p b c → Shows s (is_quit p.0) (ps ++ p ∷ []) a c
 shows_on s ps p a b c f q = record {
   grows = BeginsWith-along c.known b.known a.known q.steps.grows f.grows;
   borne = λ h w begins seen going.
@@ -95,12 +95,12 @@ each_is : (ended : Bool) (asked answered : List Request) → answered ≡ asked 
 each_is true asked answered same = ([], sym same ∙ sym (append-nil answered))
 each_is false asked answered same = same
 
-showed_by : (s : Attributes) (ended : Bool) (lines : List TextLine) (ps : List Exchange) (g g' : GlassState) → requests ps ≡ map (asked s) lines → Shows s ended ps g g' → Showed s lines ps g g'
+showed_by : (s : Attributes) (ended : Bool) (lines : List TextLine) (ps : List Exchange) (g g' : GlassState) → requests ps ≡ map (mirror_reading s) lines → Shows s ended ps g g' → Showed s lines ps g g'
 showed_by s ended lines ps g g' same f = record {
   grows = f.grows;
   borne = λ h z begins within.
       let led = f.borne h (beginning_at z) begins within refl in
-      record { end = led.end; answered = led.answered; each = each_is led.end.ended (map (asked s) lines) (requests ps) same };
+      record { end = led.end; answered = led.answered; each = each_is led.end.ended (map (mirror_reading s) lines) (requests ps) same };
   tied = f.tied;
 }
 
@@ -110,7 +110,7 @@ left_so s true g g' same = same
 left_so s false g g' same = same
 
 -- the exchanges of a conversation, the last of which ended it or none did
-showed : (s : Attributes) (end : Option SessionEnd) (lines : List TextLine) (ps : List Exchange) (g g' : GlassState) → requests ps ≡ map (asked s) lines → EndsBy end ps → Trace (mirror_conduct s) ps g g' → Showed s lines ps g g'
+showed : (s : Attributes) (end : Option SessionEnd) (lines : List TextLine) (ps : List Exchange) (g g' : GlassState) → requests ps ≡ map (mirror_reading s) lines → EndsBy end ps → Trace (mirror_conduct s) ps g g' → Showed s lines ps g g'
 showed s None lines ps g g' same on t = showed_by s false lines ps g g' same (shows_going s ps g g' on t)
 showed s (Some end) lines ps g g' same (front, last, is, on, by) t =
     let pop = trace_pop (mirror_conduct s) front last g g' (subst (λ (xs : List Exchange). Trace (mirror_conduct s) xs g g') is t) in
@@ -119,18 +119,18 @@ showed s (Some end) lines ps g g' same (front, last, is, on, by) t =
     (subst (λ (xs : List Exchange). Shows s (is_quit last.0) xs g g') (sym is)
     (subst (λ (x : GlassState). Shows s (is_quit last.0) (front ++ last ∷ []) g x) (sym (rested s pop.1 g' pop.4)) all))
 
-led_showed : (s : Attributes) (end : Option SessionEnd) (lines : List TextLine) (ps : List Exchange) (g g' : GlassState) → requests ps ≡ map (asked s) lines → EndsBy end ps → Led (mirror_conduct s) (is_on end) ps g g' → Showed s lines ps g g'
+led_showed : (s : Attributes) (end : Option SessionEnd) (lines : List TextLine) (ps : List Exchange) (g g' : GlassState) → requests ps ≡ map (mirror_reading s) lines → EndsBy end ps → Led (mirror_conduct s) (is_on end) ps g g' → Showed s lines ps g g'
 led_showed s end lines ps g g' same ends l =
     subst (λ (x : GlassState). Showed s lines ps g x) (sym (left_so s (is_on end) l.last g' l.left)) (showed s end lines ps g l.last same ends l.trace)
 
 -- a reply is whole as a value, however much of it was written
-so_far : (s : Attributes) (p : Exchange) (out : List ℕ) (g g' : GlassState) → RepliesSoFar (mirror_conduct s) p out g g' → Replies s p g g'
+so_far : (s : Attributes) (p : Exchange) (out : List ℕ) (g g' : GlassState) → RepliesSoFar (mirror_conduct s) p out g g' → ReadReplies s p g g'
 so_far s p out g g' (inl whole) = whole.0
 so_far s p out g g' (inr part) = part
 
-cut_showed : (s : Attributes) (lines : List TextLine) (ps : List Exchange) (p : Exchange) (out : List ℕ) (g g' : GlassState) → requests (ps ++ p ∷ []) ≡ map (asked s) lines → EndsBy None ps → LedInPart (mirror_conduct s) ps p out g g' → Showed s lines (ps ++ p ∷ []) g g'
+cut_showed : (s : Attributes) (lines : List TextLine) (ps : List Exchange) (p : Exchange) (out : List ℕ) (g g' : GlassState) → requests (ps ++ p ∷ []) ≡ map (mirror_reading s) lines → EndsBy None ps → LedInPart (mirror_conduct s) ps p out g g' → Showed s lines (ps ++ p ∷ []) g g'
 cut_showed s lines ps p out g g' same on l =
-    let last : Replies s p l.before l.last = so_far s p l.part l.before l.last l.replies in
+    let last : ReadReplies s p l.before l.last = so_far s p l.part l.before l.last l.replies in
     subst (λ (x : GlassState). Showed s lines (ps ++ p ∷ []) g x) (sym (left_so s (is_on (end_after p.0 p.1)) l.last g' l.left))
     (showed_by s (is_quit p.0) lines (ps ++ p ∷ []) g l.last same (shows_on s ps p g l.before l.last (shows_going s ps g l.before on l.trace) last))
 
@@ -138,7 +138,7 @@ cut_showed s lines ps p out g g' same on l =
 ends_unsplit : (s : Attributes) (g g' : GlassState) (i j : ℕ) (before after : LinkState) → EndedByReply (leading (mirror_conduct s) g g') (ends.Split i j) before after → ⊥
 ends_unsplit s g g' i j before after e = by e.replied.ends
   where
-    not_so : (p : Exchange) (a b : GlassState) → Replies s p a b → end_after p.0 p.1 ≡ Some (ends.Split i j) → ⊥
+    not_so : (p : Exchange) (a b : GlassState) → ReadReplies s p a b → end_after p.0 p.1 ≡ Some (ends.Split i j) → ⊥
     not_so (r, split k l) a b q is = no_split s r k l a.known b.known q.steps
     not_so (quit, _) a b q is = absurd cc
     not_so (_, _) a b q is = absurd cc

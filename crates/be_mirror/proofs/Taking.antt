@@ -8,10 +8,10 @@ use Rattle.be_follow.specs.declared.faults.FeedFault.{FeedFault}
 use Rattle.be_follow.specs.declared.faults.FeedFault.TheVariants.{Bad, NoMemory}
 use Rattle.be_follow.specs.Followers.{FollowerState, Follows, Tells, taken_of}
 use Rattle.be_follow.proofs.Taken.{follows_bad}
-use Rattle.be_mirror.specs.Feeders.{Takes, behind}
+use Rattle.be_mirror.specs.Feeders.{TakesPiece, behind}
 
 -- a fault of the first part is the fault of the piece
-pub takes_first : (a b : FollowerState) (part later : List ℕ) (fault : FeedFault) → Takes a b part (Err fault) → Takes a b (part ++ later) (Err fault)
+pub takes_first : (a b : FollowerState) (part later : List ℕ) (fault : FeedFault) → TakesPiece a b part (Err fault) → TakesPiece a b (part ++ later) (Err fault)
 takes_first a b part later (Bad line kind) t = record {
   follows = λ bytes f. subst (λ (x : List ℕ). Follows x b) (append_assoc bytes part later) (follows_bad (bytes ++ part) later b kind t.tells.0 (t.follows bytes f));
   tells = t.tells;
@@ -48,7 +48,7 @@ stays_along a b c p q = by_fault a.fed.fault refl p
         subst (λ (o : Option FeedKind). IfSome o (λ kind. c ≡ b)) (ap (λ (x : FollowerState). x.fed.fault) p ∙ is) q ∙ p
 
 -- one part was taken, and then the rest
-pub takes_then : (a b c : FollowerState) (part later : List ℕ) (u : Unit {0}) (r : Result (Unit {0}) FeedFault) → Takes a b part (Ok u) → Takes b c later r → Takes a c (part ++ later) (behind (length part) r)
+pub takes_then : (a b c : FollowerState) (part later : List ℕ) (u : Unit {0}) (r : Result (Unit {0}) FeedFault) → TakesPiece a b part (Ok u) → TakesPiece b c later r → TakesPiece a c (part ++ later) (behind (length part) r)
 takes_then a b c part later u r t v = record {
   follows = λ bytes f.
       subst (λ (x : List ℕ). Follows x c) (append_assoc bytes part (taken_of later r) ∙ ap (λ (x : List ℕ). bytes ++ x) (taken_behind part later r)) (v.follows (bytes ++ part) (t.follows bytes f));

@@ -6,7 +6,7 @@ use Rattle.be_change.specs.Requests.{hit, cost, listed, sent, dumped, tailed, by
 use Rattle.be_published.specs.States.{GlassState, one_read}
 use Rattle.be_session.specs.Tied.{is_read, is_shut}
 use Rattle.be_mirror.specs.Reading.{AreTied}
-use Rattle.be_mirror.specs.Sessions.{Counts}
+use Rattle.be_mirror.specs.Sessions.{GlassCounts}
 
 read_tied : (p : Exchange) (g g' : GlassState) → length (filter is_read (p ∷ [])) ≡ 1 → length (filter is_shut (p ∷ [])) ≡ 0 → g' ≡ one_read g'.known g → AreTied (p ∷ []) g g'
 read_tied p g g' one none is = record { reads = omega (arith, one, ap (λ (x : GlassState). x.reads) is); shuts = omega (arith, none, ap (λ (x : GlassState). x.shuts) is) }
@@ -15,7 +15,7 @@ still_tied : (p : Exchange) (g g' : GlassState) → length (filter is_read (p �
 still_tied p g g' unread unshut is = record { reads = omega (arith, unread, ap (λ (x : GlassState). x.reads) is); shuts = omega (arith, unshut, ap (λ (x : GlassState). x.shuts) is) }
 
 -- a reply that the glass counted
-tied_one : (p : Exchange) (g g' : GlassState) → Counts p.1 g g' → AreTied (p ∷ []) g g'
+tied_one : (p : Exchange) (g g' : GlassState) → GlassCounts p.1 g g' → AreTied (p ∷ []) g g'
 tied_one (r, hit n names) g g' is = read_tied (r, hit n names) g g' refl refl is
 tied_one (r, cost n c) g g' is = read_tied (r, cost n c) g g' refl refl is
 tied_one (r, listed n names) g g' is = read_tied (r, listed n names) g g' refl refl is
@@ -41,7 +41,7 @@ pub tied_none : (g : GlassState) → AreTied [] g g
 tied_none g = record { reads = omega arith; shuts = omega arith }
 
 -- one more exchange
-pub tied_on : (ps : List Exchange) (p : Exchange) (a b c : GlassState) → AreTied ps a b → Counts p.1 b c → AreTied (ps ++ p ∷ []) a c
+pub tied_on : (ps : List Exchange) (p : Exchange) (a b c : GlassState) → AreTied ps a b → GlassCounts p.1 b c → AreTied (ps ++ p ∷ []) a c
 tied_on ps p a b c t counts =
     let one = tied_one p b c counts in
     record { reads = both is_read ps (p ∷ []) a.reads b.reads c.reads t.reads one.reads; shuts = both is_shut ps (p ∷ []) a.shuts b.shuts c.shuts t.shuts one.shuts }

@@ -23,47 +23,47 @@ mirror_commands =
     ∷ []
 
 -- every other line asks nothing, whatever else is wrong with it
-abbrev pub asked_of : Attributes → Option (List Lexeme) → Request
-asked_of s (Some (word name ∷ ts)) = commanded_by mirror_commands s name (Some ts)
-asked_of s _ = refused bad
+abbrev pub mirror_request_of : Attributes → Option (List Lexeme) → Request
+mirror_request_of s (Some (word name ∷ ts)) = commanded_by mirror_commands s name (Some ts)
+mirror_request_of s _ = refused bad
 
 -- what a line asks for, or why it asks nothing
-abbrev pub asked : Attributes → line.TextLine → Request
-asked s (line.text bytes) = asked_of s (tokens bytes)
-asked s (line.long n) = refused long
+abbrev pub mirror_reading : Attributes → line.TextLine → Request
+mirror_reading s (line.text bytes) = mirror_request_of s (tokens bytes)
+mirror_reading s (line.long n) = refused long
 
 -- a word that is one of the commands
-abbrev pub is_command : Text → Bool
-is_command name =
+abbrev pub is_mirror_command : Text → Bool
+is_mirror_command name =
     same_text name (codes "PUB") || same_text name (codes "COST") || same_text name (codes "DUMP") || same_text name (codes "TAIL") || same_text name (codes "QUIT")
 
 -- the requests that a mirror answers, and nothing for the others
-abbrev pub answered : Request → Request
-answered (publish e) = publish e
-answered (costing e) = costing e
-answered dumping = dumping
-answered (tailing place max) = tailing place max
-answered quit = quit
-answered (refused r) = refused r
-answered _ = refused bad
+abbrev pub mirror_answered : Request → Request
+mirror_answered (publish e) = publish e
+mirror_answered (costing e) = costing e
+mirror_answered dumping = dumping
+mirror_answered (tailing place max) = tailing place max
+mirror_answered quit = quit
+mirror_answered (refused r) = refused r
+mirror_answered _ = refused bad
 
-abbrev pub plain_ask : Ask → Request
-plain_ask (Publish event) = publish event
-plain_ask (Costing event) = costing event
-plain_ask Dumping = dumping
-plain_ask (Tailing place max) = tailing place max
-plain_ask Quit = quit
-plain_ask (Refused r) = refused (plain_refusal r)
+abbrev pub plain_mirror_ask : Ask → Request
+plain_mirror_ask (Publish event) = publish event
+plain_mirror_ask (Costing event) = costing event
+plain_mirror_ask Dumping = dumping
+plain_mirror_ask (Tailing place max) = tailing place max
+plain_mirror_ask Quit = quit
+plain_mirror_ask (Refused r) = refused (plain_refusal r)
 
 -- its event lies in the schema
-abbrev pub ask_lies : Attributes → Ask → Bool
-ask_lies s (Publish event) = event_lies s event
-ask_lies s (Costing event) = event_lies s event
-ask_lies s Dumping = true
-ask_lies s (Tailing place max) = true
-ask_lies s Quit = true
-ask_lies s (Refused r) = true
+abbrev pub mirror_ask_lies : Attributes → Ask → Bool
+mirror_ask_lies s (Publish event) = event_lies s event
+mirror_ask_lies s (Costing event) = event_lies s event
+mirror_ask_lies s Dumping = true
+mirror_ask_lies s (Tailing place max) = true
+mirror_ask_lies s Quit = true
+mirror_ask_lies s (Refused r) = true
 
-abbrev pub ReadsAsk : Result Ask NoMemory → Request → Type 0
-ReadsAsk (Ok ask) r = r ≡ plain_ask ask
-ReadsAsk (Err _) r = TakesMemory r
+abbrev pub ReadsMirrorAsk : Result Ask NoMemory → Request → Type 0
+ReadsMirrorAsk (Ok ask) r = r ≡ plain_mirror_ask ask
+ReadsMirrorAsk (Err _) r = TakesMemory r

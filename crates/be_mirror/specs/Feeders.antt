@@ -9,7 +9,7 @@ use Rattle.be_follow.specs.Followers as follower
 use Rattle.be_follow.specs.Followers.{FollowerState, Follows, new_follower, taken_of}
 
 -- a follower took a piece, and the answer says so. Its list only grew, and behind a faulty line nothing changed
-pub record Takes (before after : FollowerState) (piece : List ℕ) (r : Result (Unit {0}) FeedFault) : Type 0 where
+pub record TakesPiece (before after : FollowerState) (piece : List ℕ) (r : Result (Unit {0}) FeedFault) : Type 0 where
   pub follows : (bytes : List ℕ) → Follows bytes before → Follows (bytes ++ taken_of piece r) after
   pub tells : follower.Tells after.fed piece r
   pub schema : after.schema ≡ before.schema
@@ -36,15 +36,15 @@ pub record FeederState : Type 0 where
 abbrev pub new_feeder : Attributes → FeederState
 new_feeder s = record { took = new_follower s; published = [] }
 
-abbrev pub IsShown : FeederState → Type 0
-IsShown f = f.published ≡ f.took.fed.list
+abbrev pub IsAllPublished : FeederState → Type 0
+IsAllPublished f = f.published ≡ f.took.fed.list
 
 -- the whole list is published, and the answer names the first faulty line where there is one; or memory was wanting to a line or
 -- to the publishing, once so many bytes were taken
-abbrev pub Tells : FeederState → List ℕ → Result (Unit {0}) FeedFault → Type 0
-Tells f piece (Ok _) = (f.took.fed.fault ≡ None) × IsShown f
-Tells f piece (Err (Bad line kind)) = (f.took.fed.fault ≡ Some kind) × (line ≡ f.took.fed.lines) × IsShown f
-Tells f piece (Err (NoMemory taken)) = taken ≤ length piece
+abbrev pub FeederTells : FeederState → List ℕ → Result (Unit {0}) FeedFault → Type 0
+FeederTells f piece (Ok _) = (f.took.fed.fault ≡ None) × IsAllPublished f
+FeederTells f piece (Err (Bad line kind)) = (f.took.fed.fault ≡ Some kind) × (line ≡ f.took.fed.lines) × IsAllPublished f
+FeederTells f piece (Err (NoMemory taken)) = taken ≤ length piece
 
 -- the answer where what was taken isn't published, of a piece of so many bytes
 abbrev pub unpublished : Result (Unit {0}) FeedFault → ℕ → FeedFault

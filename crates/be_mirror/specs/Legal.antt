@@ -12,7 +12,7 @@ abbrev pub nobody : ℕ
 nobody = 0
 
 -- the reply may answer the request at w, and leads to w'. A QUIT is told a length as a read is, and ends the session
-abbrev pub Answers : Attributes → List Entry → Request → Reply → Walk → Walk → Type 0
-Answers s h quit (bye n) w w' = IsReadAt h w n × (w' ≡ having_ended (having_seen n w))
-Answers s h quit reply w w' = ⊥
-Answers s h r reply w w' = session.Answers s nobody h r reply w w'
+abbrev pub MirrorAnswers : Attributes → List Entry → Request → Reply → Walk → Walk → Type 0
+MirrorAnswers s h quit (bye n) w w' = IsReadAt h w n × (w' ≡ having_ended (having_seen n w))
+MirrorAnswers s h quit reply w w' = ⊥
+MirrorAnswers s h r reply w w' = session.Answers s nobody h r reply w w'

@@ -12,7 +12,7 @@ use Rattle.be_hub.specs.Links.{IsCounted}
 use Rattle.be_protocol.specs.Conversation.{ConversationEnds}
 use Rattle.be_protocol.specs.declared.ends.SessionEnd.{SessionEnd}
 use Rattle.be_published.specs.States.{GlassState}
-use Rattle.be_mirror.specs.Serving.{ReadLink, list_terms, AreKept}
+use Rattle.be_mirror.specs.Serving.{ReadLink, list_terms, ReadLinksAreKept}
 
 -- readers may have been refused an entry, or this one wasn't
 abbrev pub IsQuiet : Bool → GlassState → Type 0
@@ -34,20 +34,20 @@ Listened before door port links workers = door ≡ after_listen before door.«op
 module _ {L : Type 0} (told : L → LinkState) where
   -- the links that came back were served one after another by the reader that stands so now, and ended so. It is so while a link is out,
   -- too
-  pub record LinksServed (s : Attributes) (g : GlassState) (count : CountState L) (ends : List SessionEnd) : Type 0 where
+  pub record ReadLinksServed (s : Attributes) (g : GlassState) (count : CountState L) (ends : List SessionEnd) : Type 0 where
     pub back : count.back ≡ length ends
     -- one a link, in order
     pub served : List ReadLink
     pub ends_are : ends ≡ map (λ (l : ReadLink). l.end) served
     pub each : All (WasRead s g) served
-    pub kept_are : AreKept told count.keeps count.kept served
+    pub kept_are : ReadLinksAreKept told count.keeps count.kept served
     pub counted : All (IsCounted (sums_of count)) ends
     -- an accept failed only where the count of faults says it
     pub failed : 0 < count.failed → 0 < count.read_faults
 
   -- a worker has met the end of the links, and all that it was given are back
-  pub record WorkerServed (s : Attributes) (door : DoorState L) (g : GlassState) (count : CountState L) (ends : List SessionEnd) : Type 0 where
-    pub links : LinksServed s g count ends
+  pub record ReadWorkerServed (s : Attributes) (door : DoorState L) (g : GlassState) (count : CountState L) (ends : List SessionEnd) : Type 0 where
+    pub links : ReadLinksServed s g count ends
     pub all_back : count.given ≡ count.back
     pub ended : count.ended ≡ true
     pub is_of : IsOf door count

@@ -16,11 +16,11 @@ use Rattle.be_protocol.specs.Conversation.{Terms, ConversationEnds}
 use Rattle.be_protocol.specs.declared.ends.SessionEnd.{SessionEnd}
 use Rattle.be_protocol.specs.declared.ends.SessionEnd.TheVariants.{Split, NoMemory}
 use Rattle.be_hub.specs.Links.{IsCounted}
-use Rattle.be_hub.specs.Serving.{IsTried, served_door}
+use Rattle.be_hub.specs.Serving.{IsTried, served_door, told_of}
 use Rattle.be_hub.specs.Transcripts.{ShutsOnly}
 use Rattle.be_published.specs.Reads.{IsBeyond}
 use Rattle.be_published.specs.declared.beyond.Beyond.{Beyond}
-use Rattle.be_mirror.specs.Asked.{asked}
+use Rattle.be_mirror.specs.Asked.{mirror_reading}
 use Rattle.be_mirror.specs.Reading.{AreReads}
 use Rattle.be_mirror.specs.declared.feeding.FeedEnd.{FeedEnd}
 use Rattle.be_mirror.specs.declared.feeding.FeedEnd.TheVariants as feed
@@ -30,19 +30,19 @@ use Rattle.be_io.specs.declared.faults.ListenFault.{ListenFault}
 use Rattle.be_io.specs.declared.faults.ListenFault.TheVariants as listen
 
 -- no read of the input failed
-abbrev pub NoReadFailed : SourceState → SourceState → Type 0
-NoReadFailed before after = after.faults ≡ before.faults
+abbrev pub NoFeedReadFailed : SourceState → SourceState → Type 0
+NoFeedReadFailed before after = after.faults ≡ before.faults
 
 -- why the feed was taken no further, over what has come of it
 abbrev pub FeedEnds : SourceState → SourceState → FeedEnd → Fed → Type 0
 -- the input came to its end
-FeedEnds before after feed.Ended f = (f.fault ≡ None) × NoReadFailed before after × WhereTold before.left after.left (λ b a. a ≡ [])
--- all links were served
-FeedEnds before after feed.Left f = (f.fault ≡ None) × NoReadFailed before after
+FeedEnds before after feed.Ended f = (f.fault ≡ None) × NoFeedReadFailed before after × WhereTold before.left after.left (λ b a. a ≡ [])
+-- it was left, as the code does once all links were served
+FeedEnds before after feed.Left f = (f.fault ≡ None) × NoFeedReadFailed before after
 -- the first faulty line
-FeedEnds before after (feed.Bad line kind) f = (f.fault ≡ Some kind) × (line ≡ f.lines) × NoReadFailed before after
+FeedEnds before after (feed.Bad line kind) f = (f.fault ≡ Some kind) × (line ≡ f.lines) × NoFeedReadFailed before after
 FeedEnds before after feed.ReadFault f = (f.fault ≡ None) × HasRisen before.faults after.faults
-FeedEnds before after feed.Spent f = (f.fault ≡ None) × HasRisenBy SOURCE_BYTES before.taken after.taken × NoReadFailed before after
+FeedEnds before after feed.Spent f = (f.fault ≡ None) × HasRisenBy SOURCE_BYTES before.taken after.taken × NoFeedReadFailed before after
 -- memory was wanting to it
 FeedEnds before after feed.NoMemory f = ⊥
 
@@ -69,7 +69,7 @@ pub record Feeds (s : Attributes) (before after : SourceState) (end : FeedEnd) (
 abbrev pub list_terms : Attributes → List Entry → (shuts : Bool) → Terms
 list_terms s h shuts = record {
   schema = s;
-  asks = asked s;
+  asks = mirror_reading s;
   Whole = λ end lines ps. AreReads s 0 h lines ps × ShutsOnly shuts ps;
   InPart = λ lines ps p out. AreReads s 0 h lines (ps ++ p ∷ []) × ShutsOnly shuts (ps ++ p ∷ []);
 }
@@ -100,13 +100,10 @@ abbrev pub number_and_link : ReadLink → ℕ × LinkState
 number_and_link l = (l.number, l.link)
 
 module _ {L : Type 0} (told : L → LinkState) where
-  abbrev pub told_of : SessionNo × L → ℕ × LinkState
-  told_of x = (x.0.0, told x.1)
-
   -- a door that keeps its links has these, in this order, and one that doesn't keep them has none
-  abbrev pub AreKept : Bool → List (SessionNo × L) → List ReadLink → Type 0
-  AreKept true kept ls = map told_of kept ≡ map number_and_link ls
-  AreKept false kept ls = kept ≡ []
+  abbrev pub ReadLinksAreKept : Bool → List (SessionNo × L) → List ReadLink → Type 0
+  ReadLinksAreKept true kept ls = map (told_of told) kept ≡ map number_and_link ls
+  ReadLinksAreKept false kept ls = kept ≡ []
 
   -- so many links were to be given out, and what came of them has these numbers. Each that was given out was served over the list
   pub record LinksAreRead (s : Attributes) (h : List Entry) (shuts : Bool) (links : ℕ) (sums : Sums) (keeps : Bool) (kept : List (SessionNo × L)) : Type 0 where
@@ -118,7 +115,7 @@ module _ {L : Type 0} (told : L → LinkState) where
     pub served : List ReadLink
     pub count : length served ≡ sums.given
     pub each : All (IsReadLink s h shuts sums) served
-    pub kept_are : AreKept keeps kept served
+    pub kept_are : ReadLinksAreKept keeps kept served
 
   -- the feed was taken from the input beside the links, which were served over the list that it means, of n changes
   pub record Mirrors (s : Attributes) (before after : SourceState) (end : FeedEnd) (n links : ℕ) (shuts : Bool) (sums : Sums) (keeps : Bool) (kept : List (SessionNo × L)) : Type 0 where
@@ -131,19 +128,25 @@ module _ {L : Type 0} (told : L → LinkState) where
 abbrev pub IsSomeBeyond : List Entry → Beyond → Type 0
 IsSomeBeyond published beyond = (known : List Entry) × IsBeyond known published beyond
 
+-- the feed was taken from the input, all of the list that it means is published, and some reader knows more than that
+pub record IsAhead (s : Attributes) (before after : SourceState) (beyond : Beyond) : Type 0 where
+  pub end : FeedEnd
+  pub fed : Fed
+  pub feeds : Feeds s before after end fed
+  pub knows : IsSomeBeyond fed.list beyond
+
 module _ {L : Type 0} where
   -- what is known of the door where nothing is given
-  abbrev pub LeavesDoor : DoorState L → DoorState L → (port links workers : ℕ) → MirrorFault → Type 0
+  abbrev pub DoorAfterMirrorFault : DoorState L → DoorState L → (port links workers : ℕ) → MirrorFault → Type 0
   -- it can't listen, and no more has changed
-  LeavesDoor before after port links workers fault.Failed =
+  DoorAfterMirrorFault before after port links workers fault.Failed =
       HasRisen before.read_faults after.read_faults × (after ≡ record (after_try before port) { read_faults = after.read_faults })
-  LeavesDoor before after port links workers fault.NoMemory = IsTried before after port
-  -- all links came back. A reader that is shown what is published knows more than that
-  LeavesDoor before after port links workers (fault.Ahead beyond) =
-      ((published : List Entry) × IsSomeBeyond published beyond)
-      × (sums : Sums) × (after ≡ served_door before port links workers sums after.kept) × (sums.back ≡ sums.given) × (sums.given + sums.failed ≡ links)
+  DoorAfterMirrorFault before after port links workers fault.NoMemory = IsTried before after port
+  -- all links came back
+  DoorAfterMirrorFault before after port links workers (fault.Ahead beyond) =
+      (sums : Sums) × (after ≡ served_door before port links workers sums after.kept) × (sums.back ≡ sums.given) × (sums.given + sums.failed ≡ links)
 
 -- the fault where the door didn't listen
-abbrev pub fault_of_listen : ListenFault → MirrorFault
-fault_of_listen listen.Failed = fault.Failed
-fault_of_listen listen.NoMemory = fault.NoMemory
+abbrev pub mirror_fault_of_listen : ListenFault → MirrorFault
+mirror_fault_of_listen listen.Failed = fault.Failed
+mirror_fault_of_listen listen.NoMemory = fault.NoMemory

@@ -4,7 +4,7 @@ ghost use Rattle.std.specs.Prelude.{◌≡◌, true, IfOk};
 ghost use Rattle.be_io.specs.Lines as line;
 ghost use Rattle.be_model.specs.Schemas.{Attributes};
 ghost use Rattle.be_protocol.specs.Requests.{plain_request, request_lies};
-ghost use Rattle.be_mirror.specs.Asked.{asked, answered, is_command, plain_ask, ask_lies, ReadsAsk};
+ghost use Rattle.be_mirror.specs.Asked.{mirror_reading, mirror_answered, is_mirror_command, plain_mirror_ask, mirror_ask_lies, ReadsMirrorAsk};
 
 use be_base::{NoMemory, Scan, Token, next_token};
 use be_model::{Event, Schema};
@@ -26,8 +26,8 @@ pub enum Ask {
 impl Ask {
     // What a session would be asked, as far as a mirror answers it.
     fn of(request: Request) -> Ask
-        ensures ask { plain_ask result ≡ answered (plain_request request) }
-        ensures lies { (s : Attributes) → request_lies s request ≡ true → ask_lies s result ≡ true }
+        ensures ask { plain_mirror_ask result ≡ mirror_answered (plain_request request) }
+        ensures lies { (s : Attributes) → request_lies s request ≡ true → mirror_ask_lies s result ≡ true }
     {
         match request {
             Request::Publish(event) => Ask::Publish(event),
@@ -43,8 +43,8 @@ impl Ask {
 
 /// Reads a line. Only an event takes memory.
 pub fn read_ask(alloc: Global, schema: &Schema, text: &[u8]) -> Result<Ask, NoMemory>
-    ensures read { ReadsAsk result (asked schema.now (line.text text.now)) }
-    ensures lies { IfOk result (λ ask. ask_lies schema.now ask ≡ true) }
+    ensures read { ReadsMirrorAsk result (mirror_reading schema.now (line.text text.now)) }
+    ensures lies { IfOk result (λ ask. mirror_ask_lies schema.now ask ≡ true) }
 {
     let Scan::Found(Token::Word(word), _) = next_token(text) else {
         return Ok(Ask::Refused(Refusal::Bad));
@@ -57,7 +57,7 @@ pub fn read_ask(alloc: Global, schema: &Schema, text: &[u8]) -> Result<Ask, NoMe
 }
 
 fn is_command(word: &[u8]) -> bool
-    ensures { result ≡ is_command word.now }
+    ensures { result ≡ is_mirror_command word.now }
 {
     word == b"PUB".as_slice()
         || word == b"COST".as_slice()

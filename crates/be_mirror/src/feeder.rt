@@ -5,7 +5,7 @@ ghost use Rattle.std.specs.Arc.{arc_value};
 ghost use Rattle.be_base.specs.Lists.{BeginsWith};
 ghost use Rattle.be_index.specs.Rows.{plain_index};
 ghost use Rattle.be_follow.specs.Followers.{Follows, taken_of};
-ghost use Rattle.be_mirror.specs.Feeders.{new_feeder, unpublished, behind, taken_at, IsShown, Takes, Tells};
+ghost use Rattle.be_mirror.specs.Feeders.{new_feeder, unpublished, behind, taken_at, IsAllPublished, TakesPiece, FeederTells};
 
 use crate::printing::{Printer, feed_beside, lacked};
 use be_base::NoMemory;
@@ -71,7 +71,7 @@ impl<T: Sheet<J>, J: Naming> Feeder<T, J> {
     pub fn feed<R: Threads + Wait>(&mut self, rt: &R, piece: &[u8]) -> Result<(), FeedFault>
         // Whatever bytes it took before, it is what these and the piece's mean together.
         ensures follows { (bytes : List ℕ) → Follows bytes self.old.took → Follows (bytes ++ taken_of piece.now result) self.new.took }
-        ensures tells { Tells self.new piece.now result }
+        ensures tells { FeederTells self.new piece.now result }
         ensures schema { self.new.took.schema ≡ self.old.took.schema }
         // Behind a faulty line nothing more is taken.
         ensures stays { IfSome self.old.took.fed.fault (λ kind. self.new.took ≡ self.old.took) }
@@ -85,7 +85,7 @@ impl<T: Sheet<J>, J: Naming> Feeder<T, J> {
 
     // Takes a piece in parts. What they bring may be published or not.
     fn take<R: Threads + Wait>(&mut self, rt: &R, piece: &[u8]) -> Result<(), FeedFault>
-        ensures { Takes self.old.took self.new.took piece.now result }
+        ensures { TakesPiece self.old.took self.new.took piece.now result }
     {
         if piece.len() <= PART_BYTES {
             return self.take_part(rt, piece);
@@ -102,7 +102,7 @@ impl<T: Sheet<J>, J: Naming> Feeder<T, J> {
 
     // Takes a part, while the press shows what it lacks of those before.
     fn take_part<R: Threads + Wait>(&mut self, rt: &R, part: &[u8]) -> Result<(), FeedFault>
-        ensures { Takes self.old.took self.new.took part.now result }
+        ensures { TakesPiece self.old.took self.new.took part.now result }
     {
         match lacked(self.alloc, &self.ledger, &self.press) {
             Ok(changes) => feed_beside(rt, &mut self.ledger, part, &mut self.press, changes),
@@ -113,7 +113,7 @@ impl<T: Sheet<J>, J: Naming> Feeder<T, J> {
     // Publishes all of the list. It may wait for readers.
     fn publish<R: Wait>(&mut self, rt: &R) -> Result<(), NoMemory>
         ensures took { self.new.took ≡ self.old.took }
-        ensures shown { OnOk result (IsShown self.new) }
+        ensures shown { OnOk result (IsAllPublished self.new) }
     {
         let changes = lacked(self.alloc, &self.ledger, &self.press)?;
         self.press.print(rt, changes)

@@ -6,7 +6,7 @@ ghost use Rattle.be_io.specs.Outside.{source_state};
 ghost use Rattle.be_io.specs.Source.{SourceState};
 ghost use Rattle.be_follow.specs.Followers.{Follows};
 ghost use Rattle.be_protocol.specs.Conversation.{TakesWithin};
-ghost use Rattle.be_mirror.specs.Feeders.{new_feeder, IsShown};
+ghost use Rattle.be_mirror.specs.Feeders.{new_feeder, IsAllPublished};
 ghost use Rattle.be_mirror.specs.Feeding.{IsFed, GivesAtMost};
 ghost use Rattle.be_mirror.specs.Serving.{Feeds, FeedEnds};
 
@@ -48,7 +48,7 @@ pub(crate) fn take_feed<T: Sheet<J>, J: Naming, S: Source, R: Threads + Wait>(
 ) -> FeedEnd
     requires new { (feeder.old ≡ new_feeder J.schema) × Follows [] feeder.old.took }
     ensures feeds { result ≢ FeedEnd.NoMemory → Feeds J.schema (source_state S.Source source.old) (source_state S.Source source.new) result feeder.new.took.fed }
-    ensures shown { result ≢ FeedEnd.NoMemory → IsShown feeder.new }
+    ensures shown { result ≢ FeedEnd.NoMemory → IsAllPublished feeder.new }
     ensures within { TakesWithin (S.taken source.old) (S.taken source.new) }
     ensures beside { S.kept_by_read source.new ≡ S.kept_by_read source.old }
 {
@@ -78,12 +78,12 @@ fn take_piece<T: Sheet<J>, J: Naming, S: Source, R: Threads + Wait>(
 ) -> Result<usize, FeedEnd>
     requires some { 0 < length buffer.old }
     requires sound { feeder.old.took.fed.fault ≡ None }
-    requires shown { IsShown feeder.old }
+    requires shown { IsAllPublished feeder.old }
     ensures fed { result ≢ Err FeedEnd.NoMemory → (before : SourceState) → IsFed J.schema before (source_state S.Source source.old) feeder.old.took
         → IsFed J.schema before (source_state S.Source source.new) feeder.new.took }
     ensures taken { IfOk result (λ k. (0 < k) × (k ≤ length buffer.old) × RisesBy k (S.taken source.old) (S.taken source.new)) }
     ensures sound { OnOk result ((S.read_faults source.new ≡ S.read_faults source.old) × (feeder.new.took.fed.fault ≡ None)) }
-    ensures shown { result ≢ Err FeedEnd.NoMemory → IsShown feeder.new }
+    ensures shown { result ≢ Err FeedEnd.NoMemory → IsAllPublished feeder.new }
     ensures ends { IfErr result (λ end. end ≢ FeedEnd.NoMemory → FeedEnds (source_state S.Source source.old) (source_state S.Source source.new) end feeder.new.took.fed) }
     ensures stays { result ≢ Err FeedEnd.Left }
     ensures still { result ≡ Err FeedEnd.Ended → RisesBy 0 (S.taken source.old) (S.taken source.new) }

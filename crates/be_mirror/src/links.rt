@@ -6,7 +6,7 @@ ghost use Rattle.be_door.specs.Counts.{IsSound};
 ghost use Rattle.be_door.specs.Door.{IsOf, IsNew};
 ghost use Rattle.be_door.specs.Links.{IsUnused};
 ghost use Rattle.be_io.specs.Outside.{link_state};
-ghost use Rattle.be_mirror.specs.Links.{LinksServed, WorkerServed};
+ghost use Rattle.be_mirror.specs.Links.{ReadLinksServed, ReadWorkerServed};
 
 use crate::session::Session;
 use be_base::{NoMemory, SessionNo};
@@ -44,7 +44,7 @@ pub(crate) fn serve_links<T: Sheet<J>, J: Naming, L: Link + Drop, D: Door<L>, G:
 ) -> Result<WorkEnd<T, J, L>, NoMemory>
     requires few { (job.worker ≤ SEATS) × (workers ≤ SEATS) }
     requires new { IsNew (D.state door.now) job.count }
-    ensures { IfOk result (λ end. WorkerServed (link_state L.Source L.Sink) J.schema (D.state door.now) end.session end.count end.ends.items) }
+    ensures { IfOk result (λ end. ReadWorkerServed (link_state L.Source L.Sink) J.schema (D.state door.now) end.session end.count end.ends.items) }
 {
     let Job {
         session,
@@ -80,8 +80,8 @@ fn serve_next<T: Sheet<J>, J: Naming, L: Link + Drop, D: Door<L>, G: Gate>(
     requires out { (work.count.given ≡ work.count.back + 1) × IsSound work.count }
     requires room { vec_len work.ends < vec_capacity work.ends }
     requires unused { IsUnused (link_state L.Source L.Sink link) }
-    requires served { LinksServed (link_state L.Source L.Sink) J.schema work.session work.count work.ends.items }
-    ensures served { LinksServed (link_state L.Source L.Sink) J.schema result.session result.count result.ends.items }
+    requires served { ReadLinksServed (link_state L.Source L.Sink) J.schema work.session work.count work.ends.items }
+    ensures served { ReadLinksServed (link_state L.Source L.Sink) J.schema result.session result.count result.ends.items }
     ensures back { (result.count.given ≡ work.count.given) × (result.count.back ≡ work.count.given) × (result.count.failed ≡ work.count.failed) × (result.count.refused ≡ work.count.refused) }
     ensures same { IsOf (D.state door.now) result.count × (result.count.ended ≡ work.count.ended) × (result.count.links ≡ work.count.links) }
 {

@@ -5,7 +5,7 @@ ghost use Rattle.std.specs.Arc.{arc_value};
 ghost use Rattle.be_base.specs.Lists.{BeginsWith};
 ghost use Rattle.be_change.specs.Entries.{entry_of, entries_in};
 ghost use Rattle.be_change.specs.Sound.{MayAppend, Sound};
-ghost use Rattle.be_mirror.specs.Feeders.{Takes};
+ghost use Rattle.be_mirror.specs.Feeders.{TakesPiece};
 
 use be_base::NoMemory;
 use be_copy::Edit;
@@ -98,7 +98,7 @@ pub(crate) fn feed_beside<R: Threads + Wait, P: Printer>(
     changes: Vec<Arc<Change>>,
 ) -> Result<(), FeedFault>
     requires sound { Sound P.schema (P.list press.old ++ entries_in changes.items) }
-    ensures takes { Takes ledger.old ledger.new part.now result }
+    ensures takes { TakesPiece ledger.old ledger.new part.now result }
     ensures begins { BeginsWith (P.list press.old ++ entries_in changes.items) (P.list press.new) }
 {
     if changes.is_empty() {
@@ -108,7 +108,7 @@ pub(crate) fn feed_beside<R: Threads + Wait, P: Printer>(
     let (taken, _shown) = join_mut(
         rt,
         &mut || -> Result<(), FeedFault>
-            ensures { Takes ledger.entry.now ledger.exit.now part.entry.now result }
+            ensures { TakesPiece ledger.entry.now ledger.exit.now part.entry.now result }
         { ledger.feed(part) },
         &mut || -> Result<(), NoMemory>
             requires { IfSome changes (λ changes. Sound P.schema (P.list press.now ++ entries_in changes.items)) }

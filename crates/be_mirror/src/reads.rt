@@ -4,7 +4,7 @@ ghost use Rattle.std.specs.Prelude.{◌≡◌, true, OnOk, IfErr};
 ghost use Rattle.be_model.specs.Lies.{event_lies};
 ghost use Rattle.be_change.specs.Requests as asked;
 ghost use Rattle.be_protocol.specs.Short.{plain_reply, short_of};
-ghost use Rattle.be_mirror.specs.Sessions.{IsTold, Replies};
+ghost use Rattle.be_mirror.specs.Sessions.{SaysReply, ReadReplies};
 
 use be_base::{NoMemory, NoRead};
 use be_index::Hits;
@@ -20,8 +20,8 @@ pub fn hits<T: Sheet<J>, J: Naming>(
     event: &Event,
 ) -> Result<(), NoRead>
     requires { event_lies J.schema event.now ≡ true }
-    ensures told { OnOk result (IsTold J.schema (asked.publish event.now) room.new.reply.items glass.old glass.new) }
-    ensures refused { IfErr result (λ no. Replies J.schema (asked.publish event.now, plain_reply (short_of no)) glass.old glass.new) }
+    ensures told { OnOk result (SaysReply J.schema (asked.publish event.now) room.new.reply.items glass.old glass.new) }
+    ensures refused { IfErr result (λ no. ReadReplies J.schema (asked.publish event.now, plain_reply (short_of no)) glass.old glass.new) }
 {
     room.reply.clear();
     let n = glass.hits(event, &mut room.ids, &mut room.names)?;
@@ -39,8 +39,8 @@ pub fn dumped<T: Sheet<J>, J: Naming>(
     room: &mut Room,
 ) -> Result<(), NoRead>
     requires { schema.now ≡ J.schema }
-    ensures told { OnOk result (IsTold J.schema asked.dumping room.new.reply.items glass.old glass.new) }
-    ensures refused { IfErr result (λ no. Replies J.schema (asked.dumping, plain_reply (short_of no)) glass.old glass.new) }
+    ensures told { OnOk result (SaysReply J.schema asked.dumping room.new.reply.items glass.old glass.new) }
+    ensures refused { IfErr result (λ no. ReadReplies J.schema (asked.dumping, plain_reply (short_of no)) glass.old glass.new) }
 {
     room.reply.clear();
     let n = glass.all(&mut room.found)?;
@@ -61,8 +61,8 @@ pub fn tail<T: Sheet<J>, J: Naming>(
     max: u64,
 ) -> Result<(), NoRead>
     requires { schema.now ≡ J.schema }
-    ensures told { OnOk result (IsTold J.schema (asked.tailing place max) room.new.reply.items glass.old glass.new) }
-    ensures refused { IfErr result (λ no. Replies J.schema (asked.tailing place max, plain_reply (short_of no)) glass.old glass.new) }
+    ensures told { OnOk result (SaysReply J.schema (asked.tailing place max) room.new.reply.items glass.old glass.new) }
+    ensures refused { IfErr result (λ no. ReadReplies J.schema (asked.tailing place max, plain_reply (short_of no)) glass.old glass.new) }
 {
     room.reply.clear();
     room.changes.clear();
@@ -77,7 +77,7 @@ pub fn tail<T: Sheet<J>, J: Naming>(
 
 /// The length of the published list, or of what is known where the reader is refused an entry.
 pub fn length<T: Sheet<J>, J: Naming>(glass: &mut Glass<T, J>) -> u64
-    ensures { Replies J.schema (asked.quit, asked.bye result) glass.old glass.new }
+    ensures { ReadReplies J.schema (asked.quit, asked.bye result) glass.old glass.new }
 {
     match glass.look() {
         Some(n) => n,
@@ -88,7 +88,7 @@ pub fn length<T: Sheet<J>, J: Naming>(glass: &mut Glass<T, J>) -> u64
 /// What a search for the event costs.
 pub fn cost<T: Sheet<J>, J: Naming>(glass: &mut Glass<T, J>, event: &Event) -> Short
     requires { event_lies J.schema event.now ≡ true }
-    ensures { Replies J.schema (asked.costing event.now, plain_reply result) glass.old glass.new }
+    ensures { ReadReplies J.schema (asked.costing event.now, plain_reply result) glass.old glass.new }
 {
     match glass.cost(event) {
         Ok((n, cost)) => Short::Costs { n, cost },

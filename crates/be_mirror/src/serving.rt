@@ -11,9 +11,10 @@ ghost use Rattle.be_hub.specs.Serving.{served_door};
 ghost use Rattle.be_io.specs.Outside.{link_state, source_state};
 ghost use Rattle.be_protocol.specs.Conversation.{TakesWithin};
 ghost use Rattle.be_published.specs.States.{new_glass};
+ghost use Rattle.be_published.specs.declared.beyond.Beyond.{Beyond};
 ghost use Rattle.be_mirror.specs.Feeders.{new_feeder};
-ghost use Rattle.be_mirror.specs.Links.{Listened, WorkerServed};
-ghost use Rattle.be_mirror.specs.Serving.{Feeds, Mirrors, LeavesDoor, IsSomeBeyond, fault_of_listen};
+ghost use Rattle.be_mirror.specs.Links.{Listened, ReadWorkerServed};
+ghost use Rattle.be_mirror.specs.Serving.{Feeds, Mirrors, IsAhead, DoorAfterMirrorFault, IsSomeBeyond, mirror_fault_of_listen};
 
 use crate::feeder::Feeder;
 use crate::feeding::{FeedEnd, take_feed};
@@ -55,7 +56,7 @@ pub enum MirrorFault {
 }
 
 impl From<ListenFault> for MirrorFault {
-    ghost from_gives = { λ fault given. given ≡ fault_of_listen fault };
+    ghost from_gives = { λ fault given. given ≡ mirror_fault_of_listen fault };
 
     fn from(fault: ListenFault) -> MirrorFault {
         match fault {
@@ -117,7 +118,8 @@ pub fn run_mirror<
     ensures mirrored { IfOk result (λ m. Mirrors (link_state L.Source L.Sink) J.schema (source_state S.Source source.old) (source_state S.Source source.new) m.feed m.len links
         (is_some m.shade) m.sums (D.state door.new).keeps (D.state door.new).kept) }
     ensures door { IfOk result (λ m. D.state door.new ≡ served_door (D.state door.old) port links (length glasses.items) m.sums (D.state door.new).kept) }
-    ensures fault { IfErr result (λ fault. LeavesDoor (D.state door.old) (D.state door.new) port links (length glasses.items) fault) }
+    ensures fault { IfErr result (λ fault. DoorAfterMirrorFault (D.state door.old) (D.state door.new) port links (length glasses.items) fault) }
+    ensures ahead { (beyond : Beyond) → result ≡ Err (MirrorFault.Ahead beyond) → IsAhead J.schema (source_state S.Source source.old) (source_state S.Source source.new) beyond }
     ensures failed { result ≡ Err MirrorFault.Failed → source.new ≡ source.old }
     ensures within { TakesWithin (S.taken source.old) (S.taken source.new) }
     ensures kept { S.kept_by_read source.new ≡ S.kept_by_read source.old }
@@ -177,7 +179,8 @@ fn mirror<
     ensures door { (before : DoorState L) (port links : ℕ) → Listened before (D.state door.old) port links (length glasses.items)
         → IfOk result (λ m. D.state door.new ≡ served_door before port links (length glasses.items) m.sums (D.state door.new).kept) }
     ensures fault { (before : DoorState L) (port links : ℕ) → Listened before (D.state door.old) port links (length glasses.items)
-        → IfErr result (λ fault. LeavesDoor before (D.state door.new) port links (length glasses.items) fault) }
+        → IfErr result (λ fault. DoorAfterMirrorFault before (D.state door.new) port links (length glasses.items) fault) }
+    ensures ahead { (beyond : Beyond) → result ≡ Err (MirrorFault.Ahead beyond) → IsAhead J.schema (source_state S.Source source.old) (source_state S.Source source.new) beyond }
     ensures listened { result ≢ Err MirrorFault.Failed }
     ensures within { TakesWithin (S.taken source.old) (S.taken source.new) }
     ensures kept { S.kept_by_read source.new ≡ S.kept_by_read source.old }
@@ -204,6 +207,8 @@ fn mirror<
 // A list that a feed is put into. A closure captures one behind a type parameter: the borrow checker covers none that captures a
 // reference to a type that names an associated one.
 trait FeedTaker {
+    ghost use Rattle.std.specs.Prelude.{List};
+    ghost use Rattle.be_change.specs.History.{Entry};
     ghost use Rattle.be_model.specs.Schemas.{Attributes};
     ghost use Rattle.be_follow.specs.Feeds.{Fed};
 
@@ -212,6 +217,8 @@ trait FeedTaker {
     ghost is_new: { Self → Type 0 };
 
     ghost fed: { Self → Fed };
+
+    ghost published: { Self → List Entry };
 
     // Takes a feed from the input, until it ends or all links are served.
     fn take<S: Source, R: Threads + Wait>(
@@ -223,6 +230,7 @@ trait FeedTaker {
     ) -> FeedEnd
         requires new { is_new self.old }
         ensures feeds { result ≢ FeedEnd.NoMemory → Feeds of (source_state S.Source source.old) (source_state S.Source source.new) result (fed self.new) }
+        ensures shown { result ≢ FeedEnd.NoMemory → published self.new ≡ (fed self.new).list }
         ensures within { TakesWithin (S.taken source.old) (S.taken source.new) }
         ensures beside { S.kept_by_read source.new ≡ S.kept_by_read source.old };
 }
@@ -237,6 +245,8 @@ impl<T: Sheet<J>, J: Naming> FeedTaker for Feeder<T, J> {
     ghost is_new = { λ f. (f ≡ new_feeder J.schema) × Follows [] f.took };
 
     ghost fed = { λ f. f.took.fed };
+
+    ghost published = { λ f. f.published };
 
     fn take<S: Source, R: Threads + Wait>(
         &mut self,
@@ -272,10 +282,11 @@ fn run_beside<
     requires few { length jobs.items ≤ SEATS }
     requires jobs { All (λ job. (job.worker ≤ SEATS) × IsNew (D.state door.now) job.count) jobs.items }
     ensures feeds { result.1 ≢ FeedEnd.NoMemory → Feeds F.of (source_state S.Source source.old) (source_state S.Source source.new) result.1 (F.fed feeder.new) }
+    ensures shown { result.1 ≢ FeedEnd.NoMemory → F.published feeder.new ≡ (F.fed feeder.new).list }
     ensures within { TakesWithin (S.taken source.old) (S.taken source.new) }
     ensures beside { S.kept_by_read source.new ≡ S.kept_by_read source.old }
     ensures count { IfOk result.0 (λ ends. length ends.items ≡ length jobs.items) }
-    ensures ends { IfOk result.0 (λ ends. All (λ end. WorkerServed (link_state L.Source L.Sink) J.schema (D.state door.now) end.session end.count end.ends.items) ends.items) }
+    ensures ends { IfOk result.0 (λ ends. All (λ end. ReadWorkerServed (link_state L.Source L.Sink) J.schema (D.state door.now) end.session end.count end.ends.items) ends.items) }
 {
     let over = AtomicBool::new(false);
     let over = &over;
@@ -286,7 +297,7 @@ fn run_beside<
         &mut move || -> Result<Vec<WorkEnd<T, J, L>>, NoMemory>
             requires { IfSome jobs (λ jobs. (length jobs.items ≤ SEATS) × All (λ job. (job.worker ≤ SEATS) × IsNew (D.state door.now) job.count) jobs.items) }
             ensures { IfSome jobs.entry (λ jobs. IfOk result (λ ends. (length ends.items ≡ length jobs.items)
-                × All (λ end. WorkerServed (link_state L.Source L.Sink) J.schema (D.state door.entry.now) end.session end.count end.ends.items) ends.items)) }
+                × All (λ end. ReadWorkerServed (link_state L.Source L.Sink) J.schema (D.state door.entry.now) end.session end.count end.ends.items) ends.items)) }
         {
             let ends = match jobs.take() {
                 Some(jobs) => serve_jobs(rt, alloc, door, jobs, gate),
@@ -314,6 +325,7 @@ fn take_beside<R: Threads + Wait + Sync, W: FnMut() -> A + Send, A: Send, F: Fee
     requires feeder { F.is_new feeder.old }
     ensures works { W.step work.old result.0 work.new }
     ensures feeds { result.1 ≢ FeedEnd.NoMemory → Feeds F.of (source_state S.Source source.old) (source_state S.Source source.new) result.1 (F.fed feeder.new) }
+    ensures shown { result.1 ≢ FeedEnd.NoMemory → F.published feeder.new ≡ (F.fed feeder.new).list }
     ensures within { TakesWithin (S.taken source.old) (S.taken source.new) }
     ensures beside { S.kept_by_read source.new ≡ S.kept_by_read source.old }
 {
@@ -323,6 +335,7 @@ fn take_beside<R: Threads + Wait + Sync, W: FnMut() -> A + Send, A: Send, F: Fee
         &mut || -> FeedEnd
             requires { F.is_new feeder.now }
             ensures feeds { result ≢ FeedEnd.NoMemory → Feeds F.of (source_state S.Source source.entry.now) (source_state S.Source source.exit.now) result (F.fed feeder.exit.now) }
+            ensures shown { result ≢ FeedEnd.NoMemory → F.published feeder.exit.now ≡ (F.fed feeder.exit.now).list }
             ensures within { TakesWithin (S.taken source.entry.now) (S.taken source.exit.now) }
             ensures beside { S.kept_by_read source.exit.now ≡ S.kept_by_read source.entry.now }
         { feeder.take(rt, alloc, source, over) },

@@ -11,7 +11,7 @@ ghost use Rattle.be_protocol.specs.Conversation.{TakesWithin, KeepsBeside};
 ghost use Rattle.be_protocol.specs.Short.{plain_reply, short_of};
 ghost use Rattle.be_published.specs.Reads.{Learns, IsBeyond};
 ghost use Rattle.be_session.specs.Saying.{Says, SaysText};
-ghost use Rattle.be_mirror.specs.Asked.{plain_ask, ask_lies};
+ghost use Rattle.be_mirror.specs.Asked.{plain_mirror_ask, mirror_ask_lies};
 ghost use Rattle.be_mirror.specs.Reading.{MirrorSessionEnds};
 ghost use Rattle.be_mirror.specs.Sessions.{mirror_conduct};
 
@@ -124,8 +124,8 @@ impl<T: Sheet<J>, J: Naming> Session<T, J> {
 
     // Answers what was asked.
     fn reply<K: Sink>(&mut self, ask: Ask, out: &mut K) -> Turn
-        requires { ask_lies J.schema ask ≡ true }
-        ensures gives { GivesReply (mirror_conduct J.schema) (plain_ask ask) self.old self.new
+        requires { mirror_ask_lies J.schema ask ≡ true }
+        ensures gives { GivesReply (mirror_conduct J.schema) (plain_mirror_ask ask) self.old self.new
             (sink_state K.Sink out.old) (sink_state K.Sink out.new) result.by result.written }
         ensures beside { K.kept_by_write out.new ≡ K.kept_by_write out.old }
     {

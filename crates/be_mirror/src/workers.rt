@@ -5,7 +5,7 @@ ghost use Rattle.std.specs.Arc.{arc_value};
 ghost use Rattle.be_base.specs.declared.limits.TheConstants.{SEATS};
 ghost use Rattle.be_door.specs.Door.{IsNew};
 ghost use Rattle.be_io.specs.Outside.{link_state};
-ghost use Rattle.be_mirror.specs.Links.{WorkerServed};
+ghost use Rattle.be_mirror.specs.Links.{ReadWorkerServed};
 
 use crate::links::{Job, WorkEnd, serve_links};
 use crate::session::Session;
@@ -37,7 +37,7 @@ pub(crate) fn serve_jobs<
     requires few { length jobs.items ≤ SEATS }
     requires jobs { All (λ job. (job.worker ≤ SEATS) × IsNew (D.state door.now) job.count) jobs.items }
     ensures count { IfOk result (λ ends. length ends.items ≡ length jobs.items) }
-    ensures ends { IfOk result (λ ends. All (λ end. WorkerServed (link_state L.Source L.Sink) J.schema (D.state door.now) end.session end.count end.ends.items) ends.items) }
+    ensures ends { IfOk result (λ ends. All (λ end. ReadWorkerServed (link_state L.Source L.Sink) J.schema (D.state door.now) end.session end.count end.ends.items) ends.items) }
 {
     let results = serve_each(rt, alloc, door, jobs, gate)?;
     all_done(alloc, results)
@@ -60,7 +60,7 @@ fn serve_each<
     requires few { length jobs.items ≤ SEATS }
     requires jobs { All (λ job. (job.worker ≤ SEATS) × IsNew (D.state door.now) job.count) jobs.items }
     ensures count { IfOk result (λ ends. length ends.items ≡ length jobs.items) }
-    ensures ends { IfOk result (λ ends. All (λ end. IfOk end (λ end. WorkerServed (link_state L.Source L.Sink) J.schema (D.state door.now) end.session end.count end.ends.items)) ends.items) }
+    ensures ends { IfOk result (λ ends. All (λ end. IfOk end (λ end. ReadWorkerServed (link_state L.Source L.Sink) J.schema (D.state door.now) end.session end.count end.ends.items)) ends.items) }
 {
     let workers = jobs.len() as u32;
     thread::map_vec(
@@ -68,7 +68,7 @@ fn serve_each<
         jobs,
         &|job: Job<T, J, L>| -> Result<WorkEnd<T, J, L>, NoMemory>
             requires { (workers ≤ SEATS) × (job.worker ≤ SEATS) × IsNew (D.state door.now) job.count }
-            ensures { IfOk result (λ end. WorkerServed (link_state L.Source L.Sink) J.schema (D.state door.entry.now) end.session end.count end.ends.items) }
+            ensures { IfOk result (λ end. ReadWorkerServed (link_state L.Source L.Sink) J.schema (D.state door.entry.now) end.session end.count end.ends.items) }
         { serve_links(alloc, door, gate, workers, job) },
     )
 }

@@ -33,7 +33,7 @@ use Rattle.be_server.specs.declared.status.Status.{Status}
 use Rattle.be_server.specs.declared.status.Status.TheVariants.{Done, SchemaBad, LoadBad, NoMemory, ReadFault, LongFile, WriteFault, Split, Stray, Shut}
 use Rattle.be_server.specs.Asked.{MayAsk, AsksInOrder}
 use Rattle.be_server.specs.Files.{ToldFile, FileReads, FileIsLong, IsSchemaOf, AreRowsOf}
-use Rattle.be_server.specs.Drill.{ToldFiles, AreScripts, FirstIsLong, LoadsScripts, LoadsDrill, under, headed, log_lines, drill_text, Holds, Printed, EndsAfter, SessionsEnd, Printing, Ran, FilesEnd, RunsDrill}
+use Rattle.be_server.specs.Drill.{ToldFiles, AreScripts, FirstIsLong, LoadsScripts, LoadsDrill, under, headed, log_lines, drill_text, FilesHold, Printed, EndsAfter, SessionsEnd, Printing, Ran, FilesEnd, RunsDrill}
 use Rattle.be_server.specs.Outside.{Passage}
 
 -- the sessions' files were refused, behind good ones
@@ -145,7 +145,7 @@ module _ {L : Type 0} (p : Passage L) (Prints : Printing) (files : ToldFiles) wh
   files_refused _ k l = absurd l
 
   -- the sessions were served
-  pub files_served : (s : Attributes) (rows : List Row) (scripts : List Text) (status : Status) → p.after.shelf ≡ p.before.shelf → Holds files s rows scripts
+  pub files_served : (s : Attributes) (rows : List Row) (scripts : List Text) (status : Status) → p.after.shelf ≡ p.before.shelf → FilesHold files s rows scripts
       → SessionsEnd p.OutKept (Prints s rows scripts) status → FilesEnd p Prints files status
   files_served s rows scripts status quiet good runs = go status runs
     where

@@ -12,20 +12,20 @@ use Rattle.be_model.specs.Schemas.{Attributes}
 use Rattle.be_load_files.specs.declared.faults.TableFault.TheVariants as table
 use Rattle.be_load_files.specs.declared.faults.TableKind.{TableKind}
 use Rattle.be_load_files.specs.Tables.{table_of}
-use Rattle.be_command_line.specs.Words.{Request, run, gen, cover, drill, serve, heat, follow, mirror}
+use Rattle.be_command_line.specs.Words.{ProgramRequest, run, gen, cover, drill, serve, heat, follow, mirror}
 use Rattle.be_server.specs.declared.status.Status.{Status}
 use Rattle.be_server.specs.declared.status.Status.TheVariants.{Done, Words, SchemaBad, LoadBad, FeedBad, NoMemory, ReadFault, LongFile, WriteFault, Spent, Split, Ahead, Stray, Shut}
-use Rattle.be_server.specs.Exact.{IsFaultless, FileIsRefused, ToldAs, LoadIsGood, SchemaDecides, LoadDecides, AllIsDone, EndsDrill, ScriptDecides, ScriptsDecide, IsExact, IsQuiet, EndsExactly}
+use Rattle.be_server.specs.Exact.{IsFaultless, FileIsRefused, ToldAs, LoadIsGood, SchemaDecides, LoadDecides, AllIsDone, EndsDrill, ScriptDecides, ScriptsDecide, RunIsExact, LinksAreQuiet, EndsExactly}
 use Rattle.be_server.specs.Files.{ToldFile, RunFiles, run_files, FileReads, FileIsLong, IsSchemaOf, IfLoads, TableReads, AreRowsOf, SchemaIsBad, LoadIsBad, OneIsLong}
 use Rattle.be_server.specs.Cover.{CoverEnds}
-use Rattle.be_server.specs.Drill.{ToldFiles, AreScripts, FirstIsLong, SomeIsLong, Holds, Printing, Ran, FilesEnd, drill_files, prints_drill}
+use Rattle.be_server.specs.Drill.{ToldFiles, AreScripts, FirstIsLong, SomeIsLong, FilesHold, Printing, Ran, FilesEnd, drill_files, prints_drill}
 use Rattle.be_server.specs.Gen.{GenEnds}
 use Rattle.be_server.specs.Outside.{Passage}
 use Rattle.be_server.specs.Run.{RunEnds}
 use Rattle.be_server.specs.Commands.{Ends}
 use Rattle.be_server.specs.Follow.{follow_files}
 use Rattle.be_server.specs.Heat.{prints_heat}
-use Rattle.be_server.specs.Mirror.{EndsMirror, MirrorEnds, Runs}
+use Rattle.be_server.specs.Mirror.{EndsMirror, MirrorEnds, MirrorRuns}
 use Rattle.be_server.specs.Serve.{EndsServe, RanServe, ServeEnds}
 use Rattle.be_server.proofs.ServeEnds.{serve_quiet}
 use Rattle.be_server.proofs.FollowExactly.{exact_follow}
@@ -44,7 +44,7 @@ good_named s None P is good = absurd is
 good_named s (Some file) P is good = (file, is, good.0, good.1)
 
 -- a session was served with the files, so they are as they should be, and where no call failed all is done
-exact_served : {Due : Type 0} (files : RunFiles) {L : Type 0} (p : Passage L) (status : Status) (s : Attributes) (rows : List Row) → IsSchemaOf files.schema s → AreRowsOf s files.load rows → Due → IsExact files p status Due
+exact_served : {Due : Type 0} (files : RunFiles) {L : Type 0} (p : Passage L) (status : Status) (s : Attributes) (rows : List Row) → IsSchemaOf files.schema s → AreRowsOf s files.load rows → Due → RunIsExact files p status Due
 exact_served files p status s rows is_schema are due = record {
   schema = schema_good files.schema s p status is_schema.1;
   load = λ t file good named.
@@ -54,7 +54,7 @@ exact_served files p status s rows is_schema are due = record {
 }
 
 -- memory was wanting, or the shelf failed
-exact_refused : {Due : Type 0} (files : RunFiles) {L : Type 0} (p : Passage L) (status : Status) → FileIsRefused p status → Due → IsExact files p status Due
+exact_refused : {Due : Type 0} (files : RunFiles) {L : Type 0} (p : Passage L) (status : Status) → FileIsRefused p status → Due → RunIsExact files p status Due
 exact_refused files p status refused due = record {
   schema = record { bad = λ line kind t. inr refused; long = λ t. inr refused; missing = λ none. refused };
   load = λ s file good named. record { bad = λ line kind t. inr refused; long = λ t. inr refused; missing = λ none. refused };
@@ -63,14 +63,14 @@ exact_refused files p status refused due = record {
 
 -- the schema is faulty
 exact_schema : {Due : Type 0} (files : RunFiles) {L : Type 0} (p : Passage L) (status : Status) (read : Result Attributes SchemaFault) → FileReads schema_of files.schema read
-    → ((s : Attributes) → read ≡ Ok s → ⊥) → SchemaDecides files.schema p status → IsExact files p status Due
+    → ((s : Attributes) → read ≡ Ok s → ⊥) → SchemaDecides files.schema p status → RunIsExact files p status Due
 exact_schema files p status read f none decides = record {
   schema = decides;
   load = λ s file good named. absurd (none s (one_reading schema_of files.schema read (Ok s) f good));
   good = λ s good loads. absurd (none s (one_reading schema_of files.schema read (Ok s) f good));
 }
 
-exact_schema_bad : {Due : Type 0} (files : RunFiles) {L : Type 0} (p : Passage L) (l : ℕ) (k : SchemaKind) → SchemaIsBad files l k → IsExact files p (SchemaBad l k) Due
+exact_schema_bad : {Due : Type 0} (files : RunFiles) {L : Type 0} (p : Passage L) (l : ℕ) (k : SchemaKind) → SchemaIsBad files l k → RunIsExact files p (SchemaBad l k) Due
 exact_schema_bad files p l k f = exact_schema files p (SchemaBad l k) (Err (schema.Line l k)) f (λ s e. absurd cc) (record {
   bad = λ line kind t. let same : Err (schema.Line l k) ≡ Err (schema.Line line kind) = one_reading schema_of files.schema (Err (schema.Line l k)) (Err (schema.Line line kind)) f t in inl cc;
   long = λ t. absurd (not_long schema_of files.schema (Err (schema.Line l k)) f t);
@@ -78,7 +78,7 @@ exact_schema_bad files p l k f = exact_schema files p (SchemaBad l k) (Err (sche
 })
 
 -- the load file is faulty
-exact_load_bad : {Due : Type 0} (files : RunFiles) {L : Type 0} (p : Passage L) (l : ℕ) (k : TableKind) → LoadIsBad files l k → IsExact files p (LoadBad l k) Due
+exact_load_bad : {Due : Type 0} (files : RunFiles) {L : Type 0} (p : Passage L) (l : ℕ) (k : TableKind) → LoadIsBad files l k → RunIsExact files p (LoadBad l k) Due
 exact_load_bad files p l k f =
     let s = f.0 in
     let P = λ (file : ToldFile). FileReads (table_of s) file (Err (table.Line l k)) in
@@ -98,7 +98,7 @@ exact_load_bad files p l k f =
     }
 
 -- a file is over the limit
-exact_long : {Due : Type 0} (files : RunFiles) {L : Type 0} (p : Passage L) → OneIsLong files → IsExact files p LongFile Due
+exact_long : {Due : Type 0} (files : RunFiles) {L : Type 0} (p : Passage L) → OneIsLong files → RunIsExact files p LongFile Due
 exact_long files p (inl f) = record {
   schema = record {
     bad = λ line kind t. absurd (not_short schema_of files.schema (Err (schema.Line line kind)) f t);
@@ -124,7 +124,7 @@ exact_long files p (inr f) =
           absurd (not_short (table_of t) named.0 (Ok named.2) named.1 named.3);
     }
 
-exact_run : {L : Type 0} (p : Passage L) (files : RunFiles) (status : Status) → RunEnds p files status → IsExact files p status (AllIsDone p status)
+exact_run : {L : Type 0} (p : Passage L) (files : RunFiles) (status : Status) → RunEnds p files status → RunIsExact files p status (AllIsDone p status)
 exact_run p files Done (_, inl r) = exact_served files p Done r.schema r.rows r.is_schema r.are_rows (λ quiet. inl refl)
 exact_run p files Done (_, inr r) = exact_served files p Done r.schema r.rows r.is_schema r.are_rows (λ quiet. inl refl)
 exact_run p files Words r = absurd r
@@ -149,7 +149,7 @@ exact_gen p number subs events WriteFault e quiet = absurd (quiet e.2.1)
 exact_gen p number subs events NoMemory e quiet = inr refl
 exact_gen p number subs events _ e quiet = absurd e
 
-exact_cover : {L : Type 0} (p : Passage L) (files : RunFiles) (name : Text) (status : Status) → CoverEnds p files name status → IsExact files p status (AllIsDone p status)
+exact_cover : {L : Type 0} (p : Passage L) (files : RunFiles) (name : Text) (status : Status) → CoverEnds p files name status → RunIsExact files p status (AllIsDone p status)
 exact_cover p files name Done r = exact_served files p Done r.1.schema r.1.rows r.1.is_schema r.1.are_rows (λ quiet. inl refl)
 exact_cover p files name (SchemaBad l k) r = exact_schema_bad files p l k r.2
 exact_cover p files name (LoadBad l k) r = exact_load_bad files p l k r.2
@@ -189,19 +189,19 @@ scripts_long (file ∷ files) p (inr f) =
     (script_good file f.0 p LongFile f.1, λ text told_as. scripts_long files p f.2)
 
 -- where the files are good
-exact_held : (files : ToldFiles) {L : Type 0} (p : Passage L) (status : Status) (s : Attributes) (rows : List Row) (scripts : List (List ℕ)) → Holds files s rows scripts → (IsFaultless p → EndsDrill status)
-    → IsExact files.run p status (ScriptsDecide files.scripts p status)
+exact_held : (files : ToldFiles) {L : Type 0} (p : Passage L) (status : Status) (s : Attributes) (rows : List Row) (scripts : List (List ℕ)) → FilesHold files s rows scripts → (IsFaultless p → EndsDrill status)
+    → RunIsExact files.run p status (ScriptsDecide files.scripts p status)
 exact_held files p status s rows scripts good ends =
     exact_served files.run p status s rows good.is_schema good.are_rows (scripts_good files.scripts scripts p status good.are_scripts ends)
 
-exact_drill_long : (files : ToldFiles) {L : Type 0} (p : Passage L) → SomeIsLong files → IsExact files.run p LongFile (ScriptsDecide files.scripts p LongFile)
+exact_drill_long : (files : ToldFiles) {L : Type 0} (p : Passage L) → SomeIsLong files → RunIsExact files.run p LongFile (ScriptsDecide files.scripts p LongFile)
 exact_drill_long files p (inl long) = exact_long files.run p long
 exact_drill_long files p (inr (s, rows, is_schema, are_rows, long)) = exact_served files.run p LongFile s rows is_schema are_rows (scripts_long files.scripts p long)
 
 module _ {L : Type 0} (p : Passage L) (Prints : Printing) (files : ToldFiles)
     (failed : (s : Attributes) (rows : List Row) (scripts : List (List ℕ)) (shuts : Bool) → Prints s rows scripts shuts (Err sink.Failed) → HasRisen p.before.link.sink.faults p.after.link.sink.faults) where
   abbrev Exactly : Status → Type 0
-  Exactly status = IsExact files.run p status (ScriptsDecide files.scripts p status)
+  Exactly status = RunIsExact files.run p status (ScriptsDecide files.scripts p status)
 
   exact_ran : (status : Status) → Ran p.OutKept Prints files status → (IsFaultless p → EndsDrill status) → Exactly status
   exact_ran status r ends = exact_held files p status r.schema r.rows r.scripts r.good ends
@@ -224,7 +224,7 @@ module _ {L : Type 0} (p : Passage L) (Prints : Printing) (files : ToldFiles)
 
 module _ {L : Type 0} (p : Passage L) (port seats links : ℕ) (files : RunFiles) where
   abbrev Served : Status → Type 0
-  Served status = IsExact files p status (IsFaultless p → IsQuiet p → EndsServe status)
+  Served status = RunIsExact files p status (IsFaultless p → LinksAreQuiet p → EndsServe status)
 
   exact_ran_serve : (status : Status) → RanServe p.told p.OutKept files port seats links p.before.door p.after.door p.before.link.sink p.after.link.sink status → Served status
   exact_ran_serve status r =
@@ -253,9 +253,9 @@ module _ {L : Type 0} (p : Passage L) (port seats links : ℕ) (name : Text) whe
   files = run_files p.before.content name None
 
   abbrev IsMirrored : Status → Type 0
-  IsMirrored status = IsExact files p status (IsFaultless p → IsQuiet p → EndsMirror status)
+  IsMirrored status = RunIsExact files p status (IsFaultless p → LinksAreQuiet p → EndsMirror status)
 
-  exact_ran_mirror : (status : Status) → Runs p port seats links files.schema status → IsMirrored status
+  exact_ran_mirror : (status : Status) → MirrorRuns p port seats links files.schema status → IsMirrored status
   exact_ran_mirror status r = record {
     schema = schema_good files.schema r.0 p status r.1.1;
     load = λ s file good named. absurd cc;
@@ -280,7 +280,7 @@ module _ {L : Type 0} (p : Passage L) (port seats links : ℕ) (name : Text) whe
   exact_mirror (Stray stray) r = exact_ran_mirror (Stray stray) r.1
   exact_mirror (Shut shade) r = exact_ran_mirror (Shut shade) r.1
 
-pub exact_ends : {L : Type 0} (p : Passage L) (request : Option Request) (status : Status) → Ends p request status → EndsExactly p request status
+pub exact_ends : {L : Type 0} (p : Passage L) (request : Option ProgramRequest) (status : Status) → Ends p request status → EndsExactly p request status
 exact_ends p None status e = tt
 exact_ends p (Some (run schema load)) status e = exact_run p (run_files p.before.content schema load) status e
 exact_ends p (Some (gen number subs events)) status e = exact_gen p number subs events status e.2

@@ -18,7 +18,7 @@ use Rattle.be_protocol.specs.declared.ends.SessionEnd.TheVariants as ends
 use Rattle.be_server.specs.declared.status.Status.{Status}
 use Rattle.be_server.specs.declared.status.Status.TheVariants.{Done, SchemaBad, FeedBad, NoMemory, ReadFault, LongFile, WriteFault, Spent}
 use Rattle.be_server.specs.Files.{ToldFile, FileIsLong, IsSchemaOf, LoadsSchema}
-use Rattle.be_server.specs.Follow.{FollowFiles, follow_files, HasCome, IsListOf, Serves, FollowEnds, LoadsFeed, LoadsFollower, HasFed}
+use Rattle.be_server.specs.Follow.{FollowFiles, follow_files, HasCome, IsListOf, FollowServes, FollowEnds, LoadsFeed, LoadsFollower, HasFed}
 use Rattle.be_server.specs.Outside.{Passage}
 use Rattle.be_server.specs.Status.{status_of, status_of_shelf, status_of_feed}
 
@@ -38,7 +38,7 @@ module _ {L : Type 0} (p : Passage L) (files : FollowFiles) where
       → ReadsEnd (p.InputKept × p.OutKept) s h p.before.link p.after.link end → status_of end ≡ Some status → FollowEnds p files status
   follow_ended s h end status quiet is_schema is_list r is = by_end end r is
     where
-      followed_so : (e : SessionEnd) → ReadsEnd (p.InputKept × p.OutKept) s h p.before.link p.after.link e → Serves p files e
+      followed_so : (e : SessionEnd) → ReadsEnd (p.InputKept × p.OutKept) s h p.before.link p.after.link e → FollowServes p files e
       followed_so e k = record { schema = s; is_schema = is_schema; list = h; is_list = is_list; ends = k }
 
       so : (t : Status) → Some t ≡ Some status → FollowEnds p files t → FollowEnds p files status

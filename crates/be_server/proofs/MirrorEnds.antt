@@ -1,5 +1,5 @@
 -- How `mirror` ends: its schema is read, its links are served beside the feed, and what came of it is written.
-use Rattle.std.proofs.Common.{◌≡◌, ◌⊎◌, inl, inr, ℕ, zero, suc, ◌+◌, ◌<◌, Bool, List, Ok, Err, sym, ap, subst, ◌∙◌, arith}
+use Rattle.std.proofs.Common.{◌≡◌, ◌⊎◌, inl, inr, ℕ, zero, suc, ◌+◌, ◌<◌, Bool, List, Ok, Err, refl, sym, ap, subst, ◌∙◌, arith}
 use Rattle.std.proofs.lemmas.List.Elements.{All-weaker}
 use Rattle.be_base.specs.Counts.{raised}
 use Rattle.be_base.specs.declared.limits.TheConstants.{SOURCE_BYTES}
@@ -13,18 +13,19 @@ use Rattle.be_hub.specs.Serving.{AreFaultless, served_door}
 use Rattle.be_hub.proofs.WereRead.{served_tried}
 use Rattle.be_io.specs.Counts.{HasRisen, HasRisenBy}
 use Rattle.be_io.specs.Outside.{LinkState}
-use Rattle.be_mirror.specs.Serving.{FeedEnds, Mirrors, LinksAreRead, ReadLink, IsReadLink, LinkEnds, list_terms}
+use Rattle.be_mirror.specs.Serving.{FeedEnds, Mirrors, IsAhead, LinksAreRead, ReadLink, IsReadLink, LinkEnds, list_terms}
 use Rattle.be_mirror.specs.declared.feeding.FeedEnd.{FeedEnd}
 use Rattle.be_mirror.specs.declared.feeding.FeedEnd.TheVariants as feed
 use Rattle.be_mirror.specs.declared.serving.MirrorFault.{MirrorFault}
 use Rattle.be_mirror.specs.declared.serving.MirrorFault.TheVariants as fault
 use Rattle.be_model.specs.Schemas.{Attributes}
+use Rattle.be_published.specs.declared.beyond.Beyond.{Beyond}
 use Rattle.be_protocol.specs.declared.ends.SessionEnd.{SessionEnd}
 use Rattle.be_protocol.specs.declared.ends.SessionEnd.TheVariants as ends
 use Rattle.be_server.specs.declared.status.Status.{Status}
 use Rattle.be_server.specs.declared.status.Status.TheVariants.{Done, Words, SchemaBad, LoadBad, FeedBad, NoMemory, ReadFault, LongFile, WriteFault, Spent, Split, Ahead, Stray, Shut}
 use Rattle.be_server.specs.Files.{ToldFile, IsSchemaOf, LoadsSchema}
-use Rattle.be_server.specs.Mirror.{mirror_text, Fails, Reflects, WereRead, Mirrored, RunsMirror, Runs, IsUntouched, MirrorEnds, EndsMirror}
+use Rattle.be_server.specs.Mirror.{mirror_text, Fails, Reflects, MirrorLinksWereRead, Mirrored, RunsMirror, MirrorRuns, AllKept, MirrorEnds, EndsMirror}
 use Rattle.be_server.specs.Outside.{Passage}
 use Rattle.be_server.specs.Serve.{AreQuiet}
 use Rattle.be_server.specs.Status.{status_of_mirror}
@@ -41,7 +42,7 @@ read_by s h shuts sums before after ends.NoMemory l c none = absurd l
 
 module _ {L : Type 0} (told : L → LinkState) where
   were_read : (s : Attributes) (h : List Entry) (shuts : Bool) (links : ℕ) (sums : Sums) (keeps : Bool) (kept : List (SessionNo × L)) → (l : LinksAreRead told s h shuts links sums keeps kept) → AreFaultless sums
-      → WereRead links sums l.served
+      → MirrorLinksWereRead links sums l.served
   were_read s h shuts links sums keeps kept l none =
       let all : sums.given ≡ links = none_failed sums.given sums.failed links l.all (λ some. absurd (omega (arith, l.failed some, none.0))) in
       record {
@@ -63,7 +64,7 @@ module _ {L : Type 0} (told : L → LinkState) where
         subst (RunsMirror told InputKept OutKept s port seats links before after door door') (sym kept.1) (inl (kept.0, inr (served_tried door door' port links seats sums door'.kept is)))
     mirror_printed end len sums shuts status m is (inr r) = go status r
       where
-        made : (x : Status) → Reflects end sums shuts (mirror_text sums.given len) before.sink after.sink x → (x ≡ Done → WereRead links sums m.served.served) → Mirrored told s port seats links before after door door' x
+        made : (x : Status) → Reflects end sums shuts (mirror_text sums.given len) before.sink after.sink x → (x ≡ Done → MirrorLinksWereRead links sums m.served.served) → Mirrored told s port seats links before after door door' x
         made x r done = record { end = end; len = len; sums = sums; shuts = shuts; mirrors = m; door_is = is; reflects = r; done = done }
 
         go : (x : Status) → Reflects end sums shuts (mirror_text sums.given len) before.sink after.sink x → RunsMirror told InputKept OutKept s port seats links before after door door' x
@@ -83,10 +84,10 @@ module _ {L : Type 0} (told : L → LinkState) where
         go LongFile r = absurd r
 
     -- nothing is printed
-    pub mirror_failed : (x : MirrorFault) → OutKept → Fails InputKept door door' port links seats x → RunsMirror told InputKept OutKept s port seats links before after door door' (status_of_mirror x)
-    mirror_failed fault.Failed kept f = inl (kept, f)
-    mirror_failed (fault.Ahead beyond) kept f = (kept, f)
-    mirror_failed fault.NoMemory kept f = inl (kept, f)
+    pub mirror_failed : (x : MirrorFault) → OutKept → ((beyond : Beyond) → x ≡ fault.Ahead beyond → IsAhead s before.source after.source beyond) → Fails InputKept door door' port links seats x → RunsMirror told InputKept OutKept s port seats links before after door door' (status_of_mirror x)
+    mirror_failed fault.Failed kept ahead f = inl (kept, f)
+    mirror_failed (fault.Ahead beyond) kept ahead f = (kept, ahead beyond refl, f)
+    mirror_failed fault.NoMemory kept ahead f = inl (kept, f)
 
     -- where no fault was counted, the run ended so
     pub mirror_quiet : (status : Status) → RunsMirror told InputKept OutKept s port seats links before after door door' status → (HasRisen before.source.faults after.source.faults → ⊥)
@@ -142,7 +143,7 @@ module _ {L : Type 0} (told : L → LinkState) where
 
 module _ {L : Type 0} (p : Passage L) (port seats links : ℕ) (file : ToldFile) where
   -- the schema was refused
-  pub mirror_refused : (status : Status) → IsUntouched p port seats links file → LoadsSchema file p.before.shelf p.after.shelf (Err status) → MirrorEnds p port seats links file status
+  pub mirror_refused : (status : Status) → AllKept p port seats links file → LoadsSchema file p.before.shelf p.after.shelf (Err status) → MirrorEnds p port seats links file status
   mirror_refused ReadFault k l = inl (l, k)
   mirror_refused LongFile k l = (l.0, k, l.1)
   mirror_refused NoMemory k l = (l, inl k)

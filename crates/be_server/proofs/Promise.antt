@@ -10,11 +10,11 @@ use Rattle.be_model.specs.Schemas.{Attributes}
 use Rattle.be_follow.specs.Reads.{ReadsEnd}
 use Rattle.be_protocol.specs.declared.ends.SessionEnd.TheVariants as ends
 use Rattle.be_protocol.specs.Conversation.{TakesWithin}
-use Rattle.be_command_line.specs.Words.{Request, run, gen, cover, drill, serve, heat, follow, mirror}
+use Rattle.be_command_line.specs.Words.{ProgramRequest, run, gen, cover, drill, serve, heat, follow, mirror}
 use Rattle.be_server.specs.declared.status.Status.{Status}
 use Rattle.be_server.specs.declared.status.Status.TheVariants.{Words, NoMemory}
 use Rattle.be_server.specs.Asked.{AsksFor}
-use Rattle.be_server.specs.Commands.{Ends, LeavesDoor}
+use Rattle.be_server.specs.Commands.{Ends, LeavesDoorAlone}
 use Rattle.be_server.specs.Cover.{WroteCover}
 use Rattle.be_server.specs.Drill.{ToldFiles, Printing, Ran, SessionsEnd, drill_files, prints_drill}
 use Rattle.be_server.specs.Files.{ToldFile, RunFiles, run_files}
@@ -25,7 +25,7 @@ use Rattle.be_server.specs.Mirror as mirrored
 use Rattle.be_server.specs.Outside.{Moment, Passage}
 use Rattle.be_server.specs.Promise.{RefusesWords, LeavesInput, WantsMemory, Promise}
 use Rattle.be_server.specs.Run.{SessionRuns, ServedWith}
-use Rattle.be_server.specs.Serve.{RunsServe, RanServe, IsUntouched}
+use Rattle.be_server.specs.Serve.{RunsServe, RanServe, OutAndDoorKept}
 use Rattle.be_server.proofs.EndsExactly.{exact_ends}
 
 -- an input that wasn't read
@@ -34,7 +34,7 @@ none_taken n = (0, omega arith, omega arith)
 
 -- words with a reading aren't refused
 module _ {L : Type 0} (p : Passage L) where
-  words_stand : (request : Request) → Ends p (Some request) Words → ⊥
+  words_stand : (request : ProgramRequest) → Ends p (Some request) Words → ⊥
   words_stand (run schema load) e = e
   words_stand (gen number subs events) e = e.2
   words_stand (cover schema file name) e = e.1
@@ -44,11 +44,11 @@ module _ {L : Type 0} (p : Passage L) where
   words_stand (follow schema file) e = e
   words_stand (mirror schema port seats links) e = e.1.2.reflects
 
-  refuses_words : (request : Option Request) (status : Status) → Ends p request status → RefusesWords request status
+  refuses_words : (request : Option ProgramRequest) (status : Status) → Ends p request status → RefusesWords request status
   refuses_words None status e = (λ is. refl, λ none. e.0)
   refuses_words (Some request) status e = (λ is. absurd (words_stand request (subst (Ends p (Some request)) is e)), λ none. absurd (some_is request none))
     where
-      some_is : (r : Request) → Some r ≡ None → ⊥
+      some_is : (r : ProgramRequest) → Some r ≡ None → ⊥
       some_is r is = cc
 
   -- memory was wanting, and no write was refused for it
@@ -80,7 +80,7 @@ module _ {L : Type 0} (p : Passage L) where
         by_end (inr printed) = absurd (quiet (refused r.schema r.rows r.scripts printed.0 printed.1))
 
     serve_kept : (port seats links : ℕ) (files : RunFiles)
-        → IsUntouched p port seats links files ⊎ RanServe p.told p.OutKept files port seats links p.before.door p.after.door p.before.link.sink p.after.link.sink NoMemory → p.OutKept
+        → OutAndDoorKept p port seats links files ⊎ RanServe p.told p.OutKept files port seats links p.before.door p.after.door p.before.link.sink p.after.link.sink NoMemory → p.OutKept
     serve_kept port seats links files (inl kept) = kept.0
     serve_kept port seats links files (inr r) = by_end r.runs
       where
@@ -96,7 +96,7 @@ module _ {L : Type 0} (p : Passage L) where
     cover_kept files name (inl kept) = kept
     cover_kept files name (inr w) = absurd (quiet w.written.1)
 
-    mirror_kept : (port seats links : ℕ) (file : ToldFile) → mirrored.IsUntouched p port seats links file ⊎ mirrored.Runs p port seats links file NoMemory → p.OutKept
+    mirror_kept : (port seats links : ℕ) (file : ToldFile) → mirrored.AllKept p port seats links file ⊎ mirrored.MirrorRuns p port seats links file NoMemory → p.OutKept
     mirror_kept port seats links file (inl kept) = kept.1
     mirror_kept port seats links file (inr r) = by_end r.2
       where
@@ -104,7 +104,7 @@ module _ {L : Type 0} (p : Passage L) where
         by_end (inl kept) = kept.0
         by_end (inr printed) = absurd (quiet printed.reflects.1)
 
-    kept : (request : Option Request) → Ends p request NoMemory → LeavesInput p request × p.OutKept
+    kept : (request : Option ProgramRequest) → Ends p request NoMemory → LeavesInput p request × p.OutKept
     kept None e = (e.2, e.3)
     kept (Some (run schema load)) e = run_kept (run_files p.before.content schema load) e.1
     kept (Some (gen number subs events)) e = (e.1, gen_kept number subs events e.2)
@@ -117,11 +117,11 @@ module _ {L : Type 0} (p : Passage L) where
     kept (Some (follow schema file)) e = follow_kept (follow_files p.before.content schema file) e.1
     kept (Some (mirror schema port seats links)) e = (tt, mirror_kept port seats links (p.before.content schema) e.1)
 
-  wants_memory : (request : Option Request) (status : Status) → Ends p request status → WantsMemory p request status
+  wants_memory : (request : Option ProgramRequest) (status : Status) → Ends p request status → WantsMemory p request status
   wants_memory request status e is quiet = kept quiet request (subst (Ends p request) is e)
 
   -- all but four things follow from how a command ends
-  pub promised : (request : Option Request) (status : Status) → Ends p request status → TakesWithin p.before.link.source.taken p.after.link.source.taken → AsksFor p request → LeavesDoor p request
+  pub promised : (request : Option ProgramRequest) (status : Status) → Ends p request status → TakesWithin p.before.link.source.taken p.after.link.source.taken → AsksFor p request → LeavesDoorAlone p request
       → Promise p request status
   promised request status e within asked door = record {
     ends = e;
@@ -133,7 +133,7 @@ module _ {L : Type 0} (p : Passage L) where
     door = door;
   }
 
-  nothing_asked : (request : Option Request) → p.after.asked ≡ p.before.asked → AsksFor p request
+  nothing_asked : (request : Option ProgramRequest) → p.after.asked ≡ p.before.asked → AsksFor p request
   nothing_asked None same = same
   nothing_asked (Some (run schema load)) same = inl (inl same)
   nothing_asked (Some (gen number subs events)) same = same
@@ -144,7 +144,7 @@ module _ {L : Type 0} (p : Passage L) where
   nothing_asked (Some (follow schema file)) same = inl (inl same)
   nothing_asked (Some (mirror schema port seats links)) same = inl (inl same)
 
-  door_left : (request : Option Request) → p.DoorKept → LeavesDoor p request
+  door_left : (request : Option ProgramRequest) → p.DoorKept → LeavesDoorAlone p request
   door_left None kept = kept
   door_left (Some (run schema load)) kept = kept
   door_left (Some (gen number subs events)) kept = kept
@@ -155,7 +155,7 @@ module _ {L : Type 0} (p : Passage L) where
   door_left (Some (follow schema file)) kept = kept
   door_left (Some (mirror schema port seats links)) kept = tt
 
-  nothing_ends : (request : Option Request) → p.after.shelf ≡ p.before.shelf → p.InputKept → p.OutKept → p.after.door ≡ p.before.door → Ends p request NoMemory
+  nothing_ends : (request : Option ProgramRequest) → p.after.shelf ≡ p.before.shelf → p.InputKept → p.OutKept → p.after.door ≡ p.before.door → Ends p request NoMemory
   nothing_ends None quiet input out door = (inr refl, quiet, input, out)
   nothing_ends (Some (run schema load)) quiet input out door = (quiet, inl (input, out))
   nothing_ends (Some (gen number subs events)) quiet input out door = (quiet, input, inl out)
@@ -171,7 +171,7 @@ abbrev still : {L : Type 0} → Moment L → (L → LinkState) → (InputKept Ou
 still m told I O D = record { before = m; after = m; told = told; InputKept = I; OutKept = O; DoorKept = D }
 
 -- nothing was done, for want of memory
-pub nothing_done : {L : Type 0} (m : Moment L) (told : L → LinkState) (I O D : Type 0) (request : Option Request) → I → O → D → Promise (still m told I O D) request NoMemory
+pub nothing_done : {L : Type 0} (m : Moment L) (told : L → LinkState) (I O D : Type 0) (request : Option ProgramRequest) → I → O → D → Promise (still m told I O D) request NoMemory
 nothing_done m told I O D request i o d =
     let p = still m told I O D in
     promised p request NoMemory (nothing_ends p request refl i o refl) (none_taken m.link.source.taken) (nothing_asked p request refl) (door_left p request d)

@@ -11,7 +11,7 @@ use Rattle.be_server.specs.declared.status.Status.{Status}
 use Rattle.be_server.specs.declared.status.Status.TheVariants.{Done, SchemaBad, LoadBad, NoMemory, ReadFault, LongFile, WriteFault, Spent}
 use Rattle.be_server.specs.Files.{RunFiles, IsSchemaOf, AreRowsOf, LoadsRun}
 use Rattle.be_server.specs.Outside.{Passage}
-use Rattle.be_server.specs.Run.{SessionRuns, RunEnds, Serves}
+use Rattle.be_server.specs.Run.{SessionRuns, RunEnds, RunServes}
 use Rattle.be_server.specs.Status.{status_of}
 
 -- it has a status
@@ -30,7 +30,7 @@ module _ {L : Type 0} (p : Passage L) (files : RunFiles) where
       → SessionRuns (p.InputKept × p.OutKept) s (opening_of rows) p.before.link p.after.link end → status_of end ≡ Some status → RunEnds p files status
   run_ended s rows end status quiet is_schema are r is = by_end end r is
     where
-      served_so : (e : SessionEnd) → SessionRuns (p.InputKept × p.OutKept) s (opening_of rows) p.before.link p.after.link e → Serves p files e
+      served_so : (e : SessionEnd) → SessionRuns (p.InputKept × p.OutKept) s (opening_of rows) p.before.link p.after.link e → RunServes p files e
       served_so e k = record { schema = s; is_schema = is_schema; rows = rows; are_rows = are; ends = k }
 
       so : (t : Status) → Some t ≡ Some status → RunEnds p files t → RunEnds p files status

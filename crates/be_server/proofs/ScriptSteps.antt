@@ -19,7 +19,7 @@ use Rattle.be_board.specs.LocalCopy.{local_word}
 use Rattle.be_board.specs.Word.{own_in}
 use Rattle.be_workload.specs.Asked.{schema, asked_by_lines, name_of_sub, subscribing, publishing, IsOfSchema, AreRequests}
 use Rattle.be_server.specs.declared.sums.Sums.{Sums}
-use Rattle.be_server.specs.Sums.{published, costed, no_sums, MayCount, Counts, AreSums, AreCountable, rows_subscribed}
+use Rattle.be_server.specs.Sums.{published, costed, no_script_sums, MayCount, CountsRequest, AreScriptSums, IsCountableScript, rows_subscribed}
 use Rattle.be_server.proofs.ScriptLists.{list_of, rows_made, length-list_of, length-rows_made, list_of-snoc, live_rows-list_of, name_is_new, list_goes_on, serial-list_of, rows-script, published-events, costed-events, published-script, costed-script}
 use Rattle.be_server.proofs.Tallies.{Tallies, few_satisfied, small_cost, tally_none, tally_hits, tally_cost}
 
@@ -58,7 +58,7 @@ all_events : (es : List Assignments) → All IsOfSchema es → AreEventRequests 
 all_events [] h = tt
 all_events (e ∷ es) h = (All-head IsOfSchema e es h, (All-head IsOfSchema e es h, all_events es (All-tail IsOfSchema e es h)))
 
-pub serve_begin : (requests : List Request) (k : AreCountable requests) → Serving requests [] requests no_sums
+pub serve_begin : (requests : List Request) (k : IsCountableScript requests) → Serving requests [] requests no_script_sums
 serve_begin requests k = record {
   conjs = k.are.conjs;
   events = k.are.events;
@@ -172,7 +172,7 @@ zero_left n = omega arith
 -- a subscription was made
 sub_step : (requests : List Request) (list : List Entry) (sums : Sums) (r : Request) (rest : List Request) (k : Serving requests list (r ∷ rest) sums) (after : List Entry) (counted : Sums)
     (conj : List Pred) (conjs : List (List Pred)) → k.unsubbed ≡ conj ∷ conjs → k.done ≡ [] → rest ≡ subscribing (length k.subbed + 1) conjs ++ k.todo
-    → Counts schema (subscribe (name_of_sub (length k.subbed)) conj) list sums after counted → Serving requests after rest counted
+    → CountsRequest schema (subscribe (name_of_sub (length k.subbed)) conj) list sums after counted → Serving requests after rest counted
 sub_step requests list sums r rest k after counted conj conjs some none later c =
     let n = length k.subbed in
     record {
@@ -206,7 +206,7 @@ record Told (rows : List Row) (list after : List Entry) (done : List Request) (r
   tally : Tallies rows (published (done ++ r ∷ [])) (costed (done ++ r ∷ [])) counted
 
 event_step : (rows : List Row) (list : List Entry) (sums : Sums) (after : List Entry) (counted : Sums) (done : List Request) → live_rows list ≡ rows → length rows ≤ 100000
-    → Tallies rows (published done) (costed done) sums → (r : Request) → IsEventRequest r → Counts schema r list sums after counted → Told rows list after done r counted
+    → Tallies rows (published done) (costed done) sums → (r : Request) → IsEventRequest r → CountsRequest schema r list sums after counted → Told rows list after done r counted
 event_step rows list sums after counted done live few t (publish e) h c = record {
   kept = c.0;
   tally = rw (published-append done (publish e ∷ []), costed-append done (publish e ∷ []), append-nil (costed done), c.1, live) (tally_hits rows (published done) (costed done) sums e few t);
@@ -222,12 +222,12 @@ event_step rows list sums after counted done live few t _ h c = absurd h
 
 -- the next request was answered
 pub serve_step : (requests : List Request) (list : List Entry) (sums : Sums) (r : Request) (rest : List Request) (after : List Entry) (counted : Sums)
-    → Serving requests list (r ∷ rest) sums → Counts schema r list sums after counted → Serving requests after rest counted
+    → Serving requests list (r ∷ rest) sums → CountsRequest schema r list sums after counted → Serving requests after rest counted
 serve_step requests list sums r rest after counted k c = by_next (next_of requests list sums r rest k)
   where
     by_next : Next requests list sums r rest k → Serving requests after rest counted
     by_next (next_sub conj conjs some none is later) =
-        sub_step requests list sums r rest k after counted conj conjs some none later (subst (λ (q : Request). Counts schema q list sums after counted) is c)
+        sub_step requests list sums r rest k after counted conj conjs some none later (subst (λ (q : Request). CountsRequest schema q list sums after counted) is c)
     by_next (next_event none todo is are) =
         let t = event_step (rows_made 0 k.conjs) list sums after counted k.done (rows_live requests (r ∷ rest) list sums k none) (few_rows requests (r ∷ rest) list sums k) k.tally r is c in
         record {
@@ -250,7 +250,7 @@ serve_step requests list sums r rest after counted k c = by_next (next_of reques
         }
 
 ended : (requests : List Request) (rows : List Row) (events : List Assignments) (sums : Sums) → rows_subscribed 0 requests ≡ rows → published requests ≡ events → costed requests ≡ events
-    → Tallies rows events events sums → AreSums schema requests (length (published requests)) sums
+    → Tallies rows events events sums → AreScriptSums schema requests (length (published requests)) sums
 ended requests rows events sums r p c t = record {
   hits = rw (r, p) t.hits;
   some = rw p t.some;
@@ -264,7 +264,7 @@ nothing_left : (n : ℕ) (unsubbed : List (List Pred)) (todo : List Request) →
 nothing_left n [] todo e = sym e
 nothing_left n (conj ∷ conjs) todo e = absurd cc
 
-pub serve_end : (requests : List Request) (list : List Entry) (sums : Sums) → Serving requests list [] sums → AreSums schema requests (length (published requests)) sums
+pub serve_end : (requests : List Request) (list : List Entry) (sums : Sums) → Serving requests list [] sums → AreScriptSums schema requests (length (published requests)) sums
 serve_end requests list sums k =
     let none = nothing_left (length k.subbed) k.unsubbed k.todo k.left_is in
     let all : publishing k.events ≡ k.done = k.lines_are ∙ ap (λ (rs : List Request). k.done ++ rs) none ∙ append-nil k.done in

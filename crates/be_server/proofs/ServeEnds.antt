@@ -16,7 +16,7 @@ use Rattle.be_model.specs.Schemas.{Attributes}
 use Rattle.be_server.specs.Output.{WroteOut}
 use Rattle.be_server.specs.declared.status.Status.{Status}
 use Rattle.be_server.specs.declared.status.Status.TheVariants.{Done, Words, SchemaBad, LoadBad, FeedBad, NoMemory, ReadFault, LongFile, WriteFault, Spent, Split, Ahead, Stray, Shut}
-use Rattle.be_server.specs.Serve.{Logs, Served, RunsServe, Runs, IsUntouched, ServeEnds, serve_text, AreQuiet, EndsServe}
+use Rattle.be_server.specs.Serve.{Logs, Served, RunsServe, ServeRuns, OutAndDoorKept, ServeEnds, serve_text, AreQuiet, EndsServe}
 use Rattle.be_server.specs.Files.{RunFiles, IsSchemaOf, AreRowsOf, LoadsRun}
 use Rattle.be_server.specs.Outside.{Passage}
 
@@ -50,7 +50,7 @@ module _ {L : Type 0} (told : L → LinkState) (Kept : Type 0) (port seats links
 
 module _ {L : Type 0} (p : Passage L) (port seats links : ℕ) (files : RunFiles) where
   -- the files were refused
-  pub serve_refused : (status : Status) → IsUntouched p port seats links files → LoadsRun files p.before.shelf p.after.shelf (Err status) → ServeEnds p port seats links files status
+  pub serve_refused : (status : Status) → OutAndDoorKept p port seats links files → LoadsRun files p.before.shelf p.after.shelf (Err status) → ServeEnds p port seats links files status
   serve_refused ReadFault k l = inl (l, k)
   serve_refused LongFile k l = (l.0, k, l.1)
   serve_refused NoMemory k l = (l, inl k)
@@ -63,7 +63,7 @@ module _ {L : Type 0} (p : Passage L) (port seats links : ℕ) (files : RunFiles
       → RunsServe p.told p.OutKept s rows port seats links p.before.door p.after.door p.before.link.sink p.after.link.sink status → ServeEnds p port seats links files status
   links_served s rows status quiet is are runs = go status runs
     where
-      ran : (x : Status) → RunsServe p.told p.OutKept s rows port seats links p.before.door p.after.door p.before.link.sink p.after.link.sink x → Runs p port seats links files x
+      ran : (x : Status) → RunsServe p.told p.OutKept s rows port seats links p.before.door p.after.door p.before.link.sink p.after.link.sink x → ServeRuns p port seats links files x
       ran x r = record { schema = s; rows = rows; is_schema = is; are_rows = are; runs = r }
 
       go : (x : Status) → RunsServe p.told p.OutKept s rows port seats links p.before.door p.after.door p.before.link.sink p.after.link.sink x → ServeEnds p port seats links files x

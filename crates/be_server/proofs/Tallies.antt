@@ -13,7 +13,7 @@ use Rattle.be_model.proofs.RangeBits.{bits_few}
 use Rattle.be_workload.specs.Asked.{schema, IsOfSchema}
 use Rattle.be_workload.proofs.Attributes.{schema_is_schema}
 use Rattle.be_server.specs.declared.sums.Sums.{Sums}
-use Rattle.be_server.specs.Sums.{hits_among, visits_bounds, tested_bounds, no_sums, with_hits, with_cost}
+use Rattle.be_server.specs.Sums.{hits_among, visits_bounds, tested_bounds, no_script_sums, with_hits, with_cost}
 
 -- events were told of and events were costed, over these rows
 pub record Tallies (rows : List Row) (told costs : List Assignments) (sums : Sums) : Type 0 where
@@ -26,7 +26,7 @@ pub record Tallies (rows : List Row) (told costs : List Assignments) (sums : Sum
   pub few_visits : sums.cost.visits ≤ length costs * 40000000
   pub few_tested : sums.cost.tested ≤ length costs * 700000000
 
-pub tally_none : (rows : List Row) → Tallies rows [] [] no_sums
+pub tally_none : (rows : List Row) → Tallies rows [] [] no_script_sums
 tally_none rows = record {
   hits = refl;
   some = omega arith;

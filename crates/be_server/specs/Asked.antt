@@ -4,7 +4,7 @@ use Rattle.be_base.specs.Text.{Text}
 use Rattle.be_model.specs.declared.changes.Row.{Row}
 use Rattle.be_model.specs.Schemas.{Attributes}
 use Rattle.be_load_files.specs.Tables.{table_of}
-use Rattle.be_command_line.specs.Words.{Request, run, gen, cover, drill, serve, heat, follow, mirror}
+use Rattle.be_command_line.specs.Words.{ProgramRequest, run, gen, cover, drill, serve, heat, follow, mirror}
 use Rattle.be_server.specs.Drill.{AreScripts}
 use Rattle.be_server.specs.Files.{ToldFile, FileReads, IsSchemaOf}
 use Rattle.be_server.specs.Outside.{Passage}
@@ -40,16 +40,16 @@ AsksInTurn content schema load names before after =
 
 -- what the shelf is asked for by what the words ask
 module _ {L : Type 0} (p : Passage L) where
-  abbrev pub Asks : Text → Option Text → List Text → Type 0
-  Asks schema load names = AsksInTurn p.before.content schema load names p.before.asked p.after.asked
+  abbrev pub AsksShelf : Text → Option Text → List Text → Type 0
+  AsksShelf schema load names = AsksInTurn p.before.content schema load names p.before.asked p.after.asked
 
-  abbrev pub AsksFor : Option Request → Type 0
+  abbrev pub AsksFor : Option ProgramRequest → Type 0
   AsksFor None = p.after.asked ≡ p.before.asked
-  AsksFor (Some (run schema load)) = Asks schema load []
+  AsksFor (Some (run schema load)) = AsksShelf schema load []
   AsksFor (Some (gen number subs events)) = p.after.asked ≡ p.before.asked
-  AsksFor (Some (cover schema file name)) = Asks schema (Some file) []
-  AsksFor (Some (drill schema load rounds files)) = Asks schema load files
-  AsksFor (Some (serve schema load port seats links)) = Asks schema load []
-  AsksFor (Some (heat schema rounds files)) = Asks schema None files
-  AsksFor (Some (follow schema file)) = Asks schema None (file ∷ [])
-  AsksFor (Some (mirror schema port seats links)) = Asks schema None []
+  AsksFor (Some (cover schema file name)) = AsksShelf schema (Some file) []
+  AsksFor (Some (drill schema load rounds files)) = AsksShelf schema load files
+  AsksFor (Some (serve schema load port seats links)) = AsksShelf schema load []
+  AsksFor (Some (heat schema rounds files)) = AsksShelf schema None files
+  AsksFor (Some (follow schema file)) = AsksShelf schema None (file ∷ [])
+  AsksFor (Some (mirror schema port seats links)) = AsksShelf schema None []

@@ -1,6 +1,6 @@
 -- How the program ends, by what its words ask for.
 use Rattle.std.specs.Prelude.{◌≡◌, ◌⊎◌, Option, Some, None}
-use Rattle.be_command_line.specs.Words.{Request, run, gen, cover, drill, serve, heat, follow, mirror}
+use Rattle.be_command_line.specs.Words.{ProgramRequest, run, gen, cover, drill, serve, heat, follow, mirror}
 use Rattle.be_server.specs.declared.status.Status.{Status}
 use Rattle.be_server.specs.declared.status.Status.TheVariants.{Words, NoMemory}
 use Rattle.be_server.specs.Cover.{CoverEnds}
@@ -16,7 +16,7 @@ use Rattle.be_server.specs.Serve.{ServeEnds}
 
 -- words without a reading touch nothing, and of the commands `run`, `follow` and `mirror` alone read the input
 module _ {L : Type 0} (p : Passage L) where
-  abbrev pub Ends : Option Request → Status → Type 0
+  abbrev pub Ends : Option ProgramRequest → Status → Type 0
   Ends None status = ((status ≡ Words) ⊎ (status ≡ NoMemory)) × (p.after.shelf ≡ p.before.shelf) × p.InputKept × p.OutKept
   Ends (Some (run schema load)) status = RunEnds p (run_files p.before.content schema load) status
   Ends (Some (gen number subs events)) status =
@@ -30,7 +30,7 @@ module _ {L : Type 0} (p : Passage L) where
   Ends (Some (mirror schema port seats links)) status = MirrorEnds p port seats links (p.before.content schema) status
 
   -- the door is as it was, but in `serve` and `mirror`
-  abbrev pub LeavesDoor : Option Request → Type 0
-  LeavesDoor (Some (serve schema load port seats links)) = Unit {0}
-  LeavesDoor (Some (mirror schema port seats links)) = Unit {0}
-  LeavesDoor request = p.DoorKept
+  abbrev pub LeavesDoorAlone : Option ProgramRequest → Type 0
+  LeavesDoorAlone (Some (serve schema load port seats links)) = Unit {0}
+  LeavesDoorAlone (Some (mirror schema port seats links)) = Unit {0}
+  LeavesDoorAlone request = p.DoorKept

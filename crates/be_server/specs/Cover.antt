@@ -26,14 +26,14 @@ abbrev pub is_named : Text → Row → Bool
 is_named name row = same_text row.name name
 
 -- the asked row has no line of its own
-abbrev pub line_of : Attributes → Row → Row → Text
-line_of s asked row =
+abbrev pub line_for : Attributes → Row → Row → Text
+line_for s asked row =
     if is_named asked.name row then [] else cover_line s row.name (apart_event s asked.conj row.conj)
 
 -- a line for each other row, in their order. There is no asked row where none has the name
 abbrev pub lines_for : Attributes → List Row → Option Row → Text
 lines_for s rows None = codes "UNKNOWN\n"
-lines_for s rows (Some asked) = flat_map (line_of s asked) rows
+lines_for s rows (Some asked) = flat_map (line_for s asked) rows
 
 abbrev pub cover_text : Attributes → List Row → Text → Text
 cover_text s rows name = lines_for s rows (find (is_named name) rows)
@@ -55,17 +55,17 @@ WritesLines Kept text before after NoMemory = Kept ⊎ WroteOut before after tex
 WritesLines Kept text before after _ = ⊥
 
 module _ {L : Type 0} (p : Passage L) (files : RunFiles) (name : Text) where
-  abbrev pub Writes : Result (Unit {0}) SinkFault → Type 0
-  Writes result = WroteCover files name p.before.link.sink p.after.link.sink result
+  abbrev pub CoverWrites : Result (Unit {0}) SinkFault → Type 0
+  CoverWrites result = WroteCover files name p.before.link.sink p.after.link.sink result
 
   -- how it may end
   abbrev pub CoverEnds : Status → Type 0
-  CoverEnds Done = (p.after.shelf ≡ p.before.shelf) × Writes (Ok tt)
+  CoverEnds Done = (p.after.shelf ≡ p.before.shelf) × CoverWrites (Ok tt)
   CoverEnds (SchemaBad line kind) = (p.after.shelf ≡ p.before.shelf) × p.OutKept × SchemaIsBad files line kind
   CoverEnds (LoadBad line kind) = (p.after.shelf ≡ p.before.shelf) × p.OutKept × LoadIsBad files line kind
   CoverEnds LongFile = (p.after.shelf ≡ p.before.shelf) × p.OutKept × OneIsLong files
   CoverEnds ReadFault = HasRisen p.before.shelf p.after.shelf × p.OutKept
-  CoverEnds WriteFault = (p.after.shelf ≡ p.before.shelf) × Writes (Err sink.Failed)
+  CoverEnds WriteFault = (p.after.shelf ≡ p.before.shelf) × CoverWrites (Err sink.Failed)
   -- before anything was written, or in the output
-  CoverEnds NoMemory = (p.after.shelf ≡ p.before.shelf) × (p.OutKept ⊎ Writes (Err sink.NoMemory))
+  CoverEnds NoMemory = (p.after.shelf ≡ p.before.shelf) × (p.OutKept ⊎ CoverWrites (Err sink.NoMemory))
   CoverEnds _ = ⊥

@@ -36,7 +36,7 @@ AreScripts (file ∷ files) (script ∷ scripts) = FileReads (λ text. text) fil
 AreScripts _ _ = ⊥
 
 -- what the files of a drill are
-pub record Holds (files : ToldFiles) (schema : Attributes) (rows : List Row) (scripts : List Text) : Type 0 where
+pub record FilesHold (files : ToldFiles) (schema : Attributes) (rows : List Row) (scripts : List Text) : Type 0 where
   pub is_schema : IsSchemaOf files.run.schema schema
   pub are_rows : AreRowsOf schema files.run.load rows
   pub are_scripts : AreScripts files.scripts scripts
@@ -62,7 +62,7 @@ LoadsScripts files faults faults' (Err _) = ⊥
 
 -- the files of a drill, each of which is read and judged before the next one, or why there are none
 abbrev pub LoadsDrill : ToldFiles → ℕ → ℕ → Result DrillFiles Status → Type 0
-LoadsDrill files faults faults' (Ok l) = (faults' ≡ faults) × Holds files l.schema l.rows.items (map (λ (script : Vec ℕ Global). script.items) l.scripts.items)
+LoadsDrill files faults faults' (Ok l) = (faults' ≡ faults) × FilesHold files l.schema l.rows.items (map (λ (script : Vec ℕ Global). script.items) l.scripts.items)
 LoadsDrill files faults faults' (Err ReadFault) = HasRisen faults faults'
 LoadsDrill files faults faults' (Err LongFile) = (faults' ≡ faults) × SomeIsLong files
 LoadsDrill files faults faults' (Err NoMemory) = faults' ≡ faults
@@ -128,7 +128,7 @@ pub record Ran (Kept : Type 0) (Prints : Printing) (files : ToldFiles) (status :
   pub schema : Attributes
   pub rows : List Row
   pub scripts : List Text
-  pub good : Holds files schema rows scripts
+  pub good : FilesHold files schema rows scripts
   pub runs : SessionsEnd Kept (Prints schema rows scripts) status
 
 -- how a command that serves files may end

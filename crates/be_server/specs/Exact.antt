@@ -14,7 +14,7 @@ use Rattle.be_model.specs.Schemas.{Attributes}
 use Rattle.be_load_files.specs.declared.faults.TableFault.TheVariants as table
 use Rattle.be_load_files.specs.declared.faults.TableKind.{TableKind}
 use Rattle.be_load_files.specs.Tables.{table_of}
-use Rattle.be_command_line.specs.Words.{Request, run, gen, cover, drill, serve, heat, follow, mirror}
+use Rattle.be_command_line.specs.Words.{ProgramRequest, run, gen, cover, drill, serve, heat, follow, mirror}
 use Rattle.be_server.specs.declared.status.Status.{Status}
 use Rattle.be_server.specs.declared.status.Status.TheVariants.{Done, SchemaBad, LoadBad, FeedBad, NoMemory, ReadFault, LongFile, Split, Stray, Shut}
 use Rattle.be_server.specs.Files.{ToldFile, RunFiles, run_files}
@@ -63,7 +63,7 @@ pub record LoadDecides {L : Type 0} (s : Attributes) (file : ToldFile) (p : Pass
   pub missing : file ≡ Some None → FileIsRefused p status
 
 -- what the files of a run hold decides the status, and this is so where they are good
-pub record IsExact {L : Type 0} (files : RunFiles) (p : Passage L) (status : Status) (Due : Type 0) : Type 0 where
+pub record RunIsExact {L : Type 0} (files : RunFiles) (p : Passage L) (status : Status) (Due : Type 0) : Type 0 where
   pub schema : SchemaDecides files.schema p status
   pub load : (s : Attributes) (file : ToldFile) → ToldAs schema_of files.schema (Ok s) → files.load ≡ Some file → LoadDecides s file p status
   pub good : (s : Attributes) → ToldAs schema_of files.schema (Ok s) → LoadIsGood s files.load → Due
@@ -112,12 +112,12 @@ pub record FollowIsExact {L : Type 0} (files : FollowFiles) (p : Passage L) (sta
 module _ {L : Type 0} (p : Passage L) where
   -- what is due of a run with these files
   abbrev pub RunsExactly : Text → Option Text → Status → Type 0 → Type 0
-  RunsExactly schema load status Due = IsExact (run_files p.before.content schema load) p status Due
+  RunsExactly schema load status Due = RunIsExact (run_files p.before.content schema load) p status Due
 
-  abbrev pub IsQuiet : Type 0
-  IsQuiet = AreQuiet p.before.door p.after.door p.before.link.sink p.after.link.sink
+  abbrev pub LinksAreQuiet : Type 0
+  LinksAreQuiet = AreQuiet p.before.door p.after.door p.before.link.sink p.after.link.sink
 
-  abbrev pub EndsExactly : Option Request → Status → Type 0
+  abbrev pub EndsExactly : Option ProgramRequest → Status → Type 0
   EndsExactly None status = Unit {0}
   EndsExactly (Some (run schema load)) status = RunsExactly schema load status (AllIsDone p status)
   EndsExactly (Some (gen number subs events)) status =
@@ -126,7 +126,7 @@ module _ {L : Type 0} (p : Passage L) where
   EndsExactly (Some (drill schema load rounds files)) status =
       RunsExactly schema load status (ScriptsDecide (map p.before.content files) p status)
   EndsExactly (Some (serve schema load port seats links)) status =
-      RunsExactly schema load status (IsFaultless p → IsQuiet → EndsServe status)
+      RunsExactly schema load status (IsFaultless p → LinksAreQuiet → EndsServe status)
   EndsExactly (Some (heat schema rounds files)) status = RunsExactly schema None status (ScriptsDecide (map p.before.content files) p status)
   EndsExactly (Some (follow schema file)) status = FollowIsExact (follow_files p.before.content schema file) p status (AllIsDone p status)
-  EndsExactly (Some (mirror schema port seats links)) status = RunsExactly schema None status (IsFaultless p → IsQuiet → EndsMirror status)
+  EndsExactly (Some (mirror schema port seats links)) status = RunsExactly schema None status (IsFaultless p → LinksAreQuiet → EndsMirror status)

@@ -55,19 +55,19 @@ pub record FollowedWith (Untouched : Type 0) (files : FollowFiles) (before after
 
 -- how it may end
 module _ {L : Type 0} (p : Passage L) (files : FollowFiles) where
-  abbrev pub Serves : SessionEnd → Type 0
-  Serves end = FollowedWith (p.InputKept × p.OutKept) files p.before.link p.after.link end
+  abbrev pub FollowServes : SessionEnd → Type 0
+  FollowServes end = FollowedWith (p.InputKept × p.OutKept) files p.before.link p.after.link end
 
   abbrev pub FollowEnds : Status → Type 0
-  FollowEnds Done = (p.after.shelf ≡ p.before.shelf) × (Serves ends.Eof ⊎ Serves ends.Quit)
+  FollowEnds Done = (p.after.shelf ≡ p.before.shelf) × (FollowServes ends.Eof ⊎ FollowServes ends.Quit)
   FollowEnds (SchemaBad line kind) =
       (p.after.shelf ≡ p.before.shelf) × (p.InputKept × p.OutKept) × FileReads schema_of files.schema (Err (schema.Line line kind))
   FollowEnds (FeedBad line kind) = (p.after.shelf ≡ p.before.shelf) × (p.InputKept × p.OutKept) × FeedIsBad files line kind
   FollowEnds LongFile = (p.after.shelf ≡ p.before.shelf) × (p.InputKept × p.OutKept) × FeedIsLong files
-  FollowEnds ReadFault = (HasRisen p.before.shelf p.after.shelf × p.InputKept × p.OutKept) ⊎ ((p.after.shelf ≡ p.before.shelf) × Serves ends.ReadFault)
-  FollowEnds WriteFault = (p.after.shelf ≡ p.before.shelf) × Serves ends.WriteFault
-  FollowEnds Spent = (p.after.shelf ≡ p.before.shelf) × Serves ends.Spent
-  FollowEnds NoMemory = (p.after.shelf ≡ p.before.shelf) × ((p.InputKept × p.OutKept) ⊎ Serves ends.NoMemory)
+  FollowEnds ReadFault = (HasRisen p.before.shelf p.after.shelf × p.InputKept × p.OutKept) ⊎ ((p.after.shelf ≡ p.before.shelf) × FollowServes ends.ReadFault)
+  FollowEnds WriteFault = (p.after.shelf ≡ p.before.shelf) × FollowServes ends.WriteFault
+  FollowEnds Spent = (p.after.shelf ≡ p.before.shelf) × FollowServes ends.Spent
+  FollowEnds NoMemory = (p.after.shelf ≡ p.before.shelf) × ((p.InputKept × p.OutKept) ⊎ FollowServes ends.NoMemory)
   FollowEnds _ = ⊥
 
 -- what came of the files, or why they are nothing: the schema is judged before the feed is asked for

@@ -10,12 +10,12 @@ use Rattle.be_server.specs.declared.status.Status.TheVariants.{Done, NoMemory, W
 use Rattle.be_server.specs.declared.sums.Sums.{Sums}
 use Rattle.be_server.specs.Outside.{Passage}
 use Rattle.be_server.specs.Output.{WroteOut}
-use Rattle.be_server.specs.Sums.{AreSums, sums_line}
+use Rattle.be_server.specs.Sums.{AreScriptSums, sums_line}
 
 -- the line tells sums over the script of the workload
 abbrev pub IsSumsLine : (number subs events : ℕ) → Text → Type 0
 IsSumsLine number subs events line =
-    (sums : Sums) × AreSums schema (script_requests number subs events) events sums × (line ≡ sums_line subs events sums)
+    (sums : Sums) × AreScriptSums schema (script_requests number subs events) events sums × (line ≡ sums_line subs events sums)
 
 -- such a line was written so: whole, or a beginning of it, or whole and not all handed on
 abbrev pub WroteSums : (number subs events : ℕ) → SinkState → SinkState → Result (Unit {0}) SinkFault → Type 0
@@ -29,13 +29,13 @@ status_written (Err sink.Failed) = WriteFault
 status_written (Err sink.NoMemory) = NoMemory
 
 module _ {L : Type 0} (p : Passage L) (number subs events : ℕ) where
-  abbrev pub Writes : Result (Unit {0}) SinkFault → Type 0
-  Writes result = WroteSums number subs events p.before.link.sink p.after.link.sink result
+  abbrev pub GenWrites : Result (Unit {0}) SinkFault → Type 0
+  GenWrites result = WroteSums number subs events p.before.link.sink p.after.link.sink result
 
   -- how it may end
   abbrev pub GenEnds : Status → Type 0
-  GenEnds Done = Writes (Ok tt)
-  GenEnds WriteFault = Writes (Err sink.Failed)
+  GenEnds Done = GenWrites (Ok tt)
+  GenEnds WriteFault = GenWrites (Err sink.Failed)
   -- before anything was written, or in the output
-  GenEnds NoMemory = p.OutKept ⊎ Writes (Err sink.NoMemory)
+  GenEnds NoMemory = p.OutKept ⊎ GenWrites (Err sink.NoMemory)
   GenEnds _ = ⊥

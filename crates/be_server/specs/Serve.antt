@@ -89,20 +89,20 @@ module _ {L : Type 0} (told : L → LinkState) where
     pub runs : RunsServe Kept schema rows port seats links door door' before after status
 
 module _ {L : Type 0} (p : Passage L) (port seats links : ℕ) (files : RunFiles) where
-  abbrev pub Runs : Status → Type 0
-  Runs status = RanServe p.told p.OutKept files port seats links p.before.door p.after.door p.before.link.sink p.after.link.sink status
+  abbrev pub ServeRuns : Status → Type 0
+  ServeRuns status = RanServe p.told p.OutKept files port seats links p.before.door p.after.door p.before.link.sink p.after.link.sink status
 
-  abbrev pub IsUntouched : Type 0
-  IsUntouched = p.OutKept × (p.after.door ≡ p.before.door)
+  abbrev pub OutAndDoorKept : Type 0
+  OutAndDoorKept = p.OutKept × (p.after.door ≡ p.before.door)
 
   -- how it may end
   abbrev pub ServeEnds : Status → Type 0
-  ServeEnds (SchemaBad line kind) = (p.after.shelf ≡ p.before.shelf) × IsUntouched × SchemaIsBad files line kind
-  ServeEnds (LoadBad line kind) = (p.after.shelf ≡ p.before.shelf) × IsUntouched × LoadIsBad files line kind
-  ServeEnds LongFile = (p.after.shelf ≡ p.before.shelf) × IsUntouched × OneIsLong files
-  ServeEnds ReadFault = (HasRisen p.before.shelf p.after.shelf × IsUntouched) ⊎ ((p.after.shelf ≡ p.before.shelf) × Runs ReadFault)
-  ServeEnds NoMemory = (p.after.shelf ≡ p.before.shelf) × (IsUntouched ⊎ Runs NoMemory)
-  ServeEnds status = (p.after.shelf ≡ p.before.shelf) × Runs status
+  ServeEnds (SchemaBad line kind) = (p.after.shelf ≡ p.before.shelf) × OutAndDoorKept × SchemaIsBad files line kind
+  ServeEnds (LoadBad line kind) = (p.after.shelf ≡ p.before.shelf) × OutAndDoorKept × LoadIsBad files line kind
+  ServeEnds LongFile = (p.after.shelf ≡ p.before.shelf) × OutAndDoorKept × OneIsLong files
+  ServeEnds ReadFault = (HasRisen p.before.shelf p.after.shelf × OutAndDoorKept) ⊎ ((p.after.shelf ≡ p.before.shelf) × ServeRuns ReadFault)
+  ServeEnds NoMemory = (p.after.shelf ≡ p.before.shelf) × (OutAndDoorKept ⊎ ServeRuns NoMemory)
+  ServeEnds status = (p.after.shelf ≡ p.before.shelf) × ServeRuns status
 
 -- no count of faults of the door or of the output rose, and no link gave 2^40 bytes
 pub record AreQuiet {L : Type 0} (door door' : DoorState L) (before after : SinkState) : Type 0 where

@@ -50,7 +50,7 @@ abbrev pub tested_bounds : List Row → List Assignments → ℕ → ℕ
 tested_bounds rows es visits = LEAF_ROWS * visits + sum_by (λ e. count_by (is_covered e) rows) es
 
 -- the sums over a script that asks for this, with so many events
-pub record AreSums (s : Attributes) (requests : List Request) (events : ℕ) (sums : Sums) : Type 0 where
+pub record AreScriptSums (s : Attributes) (requests : List Request) (events : ℕ) (sums : Sums) : Type 0 where
   pub hits : sums.hits ≡ hits_among (rows_subscribed 0 requests) (published requests)
   pub some : events ≤ sums.cost.visits
   pub visits : sums.cost.visits ≤ visits_bounds s (rows_subscribed 0 requests) (costed requests)
@@ -62,8 +62,8 @@ abbrev pub sums_line : ℕ → ℕ → Sums → Text
 sums_line subs events sums =
     with_lf (codes "GEN" ++ number subs ++ number events ++ number sums.hits ++ number sums.cost.visits ++ number sums.cost.tested)
 
-abbrev pub no_sums : Sums
-no_sums = record { hits = 0; cost = cost 0 0 }
+abbrev pub no_script_sums : Sums
+no_script_sums = record { hits = 0; cost = cost 0 0 }
 
 abbrev pub with_hits : ℕ → Sums → Sums
 with_hits n sums = record { hits = sums.hits + n; cost = sums.cost }
@@ -80,17 +80,17 @@ MayCount s (costing e) h sums =
 MayCount s _ h sums = Unit {0}
 
 -- a request was answered over the list, and its reply counted
-abbrev pub Counts : Attributes → Request → List Entry → Sums → List Entry → Sums → Type 0
-Counts s (subscribe name conj) h sums after counted =
+abbrev pub CountsRequest : Attributes → Request → List Entry → Sums → List Entry → Sums → Type 0
+CountsRequest s (subscribe name conj) h sums after counted =
     (after ≡ h ++ change_named 1 (length (own_in (local_word h))) (length h) (subscribe name conj)) × (counted ≡ sums)
-Counts s (publish e) h sums after counted = (after ≡ h) × (counted ≡ with_hits (length (satisfied e (live_rows h))) sums)
-Counts s (costing e) h sums after counted =
+CountsRequest s (publish e) h sums after counted = (after ≡ h) × (counted ≡ with_hits (length (satisfied e (live_rows h))) sums)
+CountsRequest s (costing e) h sums after counted =
     (after ≡ h) × (c : Cost) × IsWithinBound s e (live_rows h) c × (counted ≡ with_cost c sums)
 -- a workload asks for nothing else
-Counts s _ h sums after counted = (after ≡ h) × (counted ≡ sums)
+CountsRequest s _ h sums after counted = (after ≡ h) × (counted ≡ sums)
 
 -- a workload's script, within the limits of the command
-pub record AreCountable (requests : List Request) : Type 0 where
+pub record IsCountableScript (requests : List Request) : Type 0 where
   pub subs : ℕ
   pub events : ℕ
   pub few_subs : subs ≤ GENERATED_SUBSCRIPTIONS

@@ -6,7 +6,7 @@ ghost use Rattle.be_board.specs.Local.{local_state};
 ghost use Rattle.be_board.specs.State.{is_gone};
 ghost use Rattle.be_protocol.specs.Readings.{reading};
 ghost use Rattle.be_workload.specs.Asked as made;
-ghost use Rattle.be_server.specs.Sums.{published, MayCount, Counts, AreSums, AreCountable};
+ghost use Rattle.be_server.specs.Sums.{published, MayCount, CountsRequest, AreScriptSums, IsCountableScript};
 
 use crate::counted::CountedBoard;
 use crate::sums::Sums;
@@ -30,7 +30,7 @@ impl<I: Index> Counting<I> {
         requires present { is_gone (local_state (I.schema self.old.board.board.index) self.old.board.board) ≡ false }
         requires schema { I.schema self.old.board.board.index ≡ schema.now }
         requires may { MayCount schema.now (reading schema.now (line.text text.now)) self.old.board.board.list self.old.sums }
-        ensures counted { OnOk result (Counts schema.now (reading schema.now (line.text text.now))
+        ensures counted { OnOk result (CountsRequest schema.now (reading schema.now (line.text text.now))
             self.old.board.board.list self.old.sums self.new.board.board.list self.new.sums) }
         ensures schema { I.schema self.new.board.board.index ≡ I.schema self.old.board.board.index }
     {
@@ -63,8 +63,8 @@ pub fn count_script<I: Index>(
     requires empty { board.board.list ≡ [] }
     requires index { I.schema board.board.index ≡ schema.now }
     requires schema { schema.now ≡ made.schema }
-    requires countable { AreCountable (made.asked_by_lines script.now) }
-    ensures { IfOk result (AreSums made.schema (made.asked_by_lines script.now) (length (published (made.asked_by_lines script.now)))) }
+    requires countable { IsCountableScript (made.asked_by_lines script.now) }
+    ensures { IfOk result (AreScriptSums made.schema (made.asked_by_lines script.now) (length (published (made.asked_by_lines script.now)))) }
 {
     let mut counting = Counting {
         board,

@@ -4,7 +4,7 @@ ghost use Rattle.std.specs.Prelude.{◌≡◌, ◌++◌, [], true, find, option_
 ghost use Rattle.std.specs.List.{list_all};
 ghost use Rattle.be_io.specs.Outside.{sink_state, link_state};
 ghost use Rattle.be_model.specs.Lies.{row_lies, event_lies};
-ghost use Rattle.be_server.specs.Cover.{cover_line, is_named, line_of, lines_for, cover_text, WritesLines};
+ghost use Rattle.be_server.specs.Cover.{cover_line, is_named, line_for, lines_for, cover_text, WritesLines};
 ghost use Rattle.be_server.specs.Outside.{objects, passage};
 ghost use Rattle.be_server.specs.Promise.{Promise};
 ghost use Rattle.be_command_line.specs.Words.{cover};
@@ -104,7 +104,7 @@ fn put_line(
 ) -> Result<(), NoMemory>
     requires asked { row_lies schema.now asked.now ≡ true }
     requires lies { row_lies schema.now row.now ≡ true }
-    ensures { OnOk result (text.new.items ≡ text.old.items ++ line_of schema.now asked.now row.now) }
+    ensures { OnOk result (text.new.items ≡ text.old.items ++ line_for schema.now asked.now row.now) }
 {
     if row.name.same(&asked.name) {
         return Ok(());

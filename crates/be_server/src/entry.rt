@@ -3,7 +3,7 @@
 ghost use Rattle.be_io.specs.Outside.{link_state};
 ghost use Rattle.be_server.specs.Outside.{objects, passage};
 ghost use Rattle.be_server.specs.Promise.{Promise};
-ghost use Rattle.be_command_line.specs.Words.{reading, words_of};
+ghost use Rattle.be_command_line.specs.Words.{words_reading, word_texts};
 
 use crate::cover::cover;
 use crate::drill::drill;
@@ -50,7 +50,7 @@ where
     G: Gate + Sync,
     ensures { Promise (passage F.Shelf S.Source K.Sink D.state (link_state L.Source L.Sink)
         (objects shelf.old input.old out.old door.old) (objects shelf.new input.new out.new door.new))
-        (reading (words_of words.now)) result }
+        (words_reading (word_texts words.now)) result }
 {
     match read_words(alloc, words) {
         Ok(Request::Run { schema, load }) => {

@@ -8,7 +8,7 @@ ghost use Rattle.be_workload.specs.Workload.{schema_text};
 ghost use Rattle.be_server.specs.Gen.{IsSumsLine};
 ghost use Rattle.be_server.specs.Outside.{objects, passage};
 ghost use Rattle.be_server.specs.Promise.{Promise};
-ghost use Rattle.be_server.specs.Sums.{AreSums};
+ghost use Rattle.be_server.specs.Sums.{AreScriptSums};
 ghost use Rattle.be_command_line.specs.Words.{gen};
 
 use crate::counted::CountedBoard;
@@ -43,7 +43,7 @@ fn read_made_schema(alloc: Global, text: &[u8]) -> Result<Schema, NoMemory>
 fn sums_of(alloc: Global, number: u64, subs: u64, events: u64) -> Result<Sums, NoMemory>
     requires subs { subs ≤ GENERATED_SUBSCRIPTIONS }
     requires events { events ≤ GENERATED_EVENTS }
-    ensures { IfOk result (AreSums made.schema (made.script_requests number subs events) events) }
+    ensures { IfOk result (AreScriptSums made.schema (made.script_requests number subs events) events) }
 {
     workloads_are_read();
     let workload = workload(alloc, number, subs, events)?;

@@ -1,6 +1,6 @@
 //! The command `mirror`: the links of a door, each as a session of reads, over the list that the input gives meanwhile.
 
-ghost use Rattle.std.specs.Prelude.{◌≡◌, ◌≢◌, ◌≤◌, ◌<◌, ◌⊎◌, [], Some, length, All, IfOk, IfErr};
+ghost use Rattle.std.specs.Prelude.{◌≡◌, ◌≢◌, ◌≤◌, ◌<◌, ◌⊎◌, [], Some, length, All, IfOk, IfErr, Err};
 ghost use Rattle.std.specs.Arc.{arc_value};
 ghost use Rattle.std.specs.Option.{is_some};
 ghost use Rattle.be_base.specs.declared.limits.TheConstants.{LINKS, SEATS};
@@ -8,9 +8,10 @@ ghost use Rattle.be_follow.specs.Followers.{Follows};
 ghost use Rattle.be_hub.specs.Serving.{served_door};
 ghost use Rattle.be_io.specs.Outside.{link_state, sink_state, source_state};
 ghost use Rattle.be_mirror.specs.Feeders.{new_feeder};
-ghost use Rattle.be_mirror.specs.Serving.{Mirrors};
+ghost use Rattle.be_mirror.specs.Serving.{IsAhead, Mirrors};
 ghost use Rattle.be_protocol.specs.Conversation.{TakesWithin};
 ghost use Rattle.be_published.specs.States.{new_glass};
+ghost use Rattle.be_published.specs.declared.beyond.Beyond.{Beyond};
 ghost use Rattle.be_server.specs.Mirror.{Fails, Reflects, RunsMirror, mirror_text};
 ghost use Rattle.be_server.specs.Outside.{link, objects, passage};
 ghost use Rattle.be_server.specs.Output.{WroteOut};
@@ -141,6 +142,7 @@ fn run_pair<
         m.feed m.len links (is_some m.shade) m.sums (D.state door.new).keeps (D.state door.new).kept) }
     ensures door { IfOk result (λ m. D.state door.new ≡ served_door (D.state door.old) port links seats m.sums (D.state door.new).kept) }
     ensures fault { IfErr result (λ fault. Fails (input.new ≡ input.old) (D.state door.old) (D.state door.new) port links seats fault) }
+    ensures ahead { (beyond : Beyond) → result ≡ Err (MirrorFault.Ahead beyond) → IsAhead J.schema (source_state S.Source input.old) (source_state S.Source input.new) beyond }
     ensures within { TakesWithin (S.taken input.old) (S.taken input.new) }
 {
     let Ok((feeder, glasses)) = sides_of::<J, R>(rt, alloc, opened, &schema, seats) else {

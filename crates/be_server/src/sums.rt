@@ -1,7 +1,7 @@
 //! The sums of a generated run.
 
 ghost use Rattle.std.specs.Prelude.{◌≡◌, string_bytes, IfOk};
-ghost use Rattle.be_server.specs.Sums.{no_sums, sums_line};
+ghost use Rattle.be_server.specs.Sums.{no_script_sums, sums_line};
 
 use be_base::NoMemory;
 use be_model::Cost;
@@ -17,7 +17,7 @@ pub struct Sums {
 
 impl Sums {
     pub fn none() -> Sums
-        ensures { result ≡ no_sums }
+        ensures { result ≡ no_script_sums }
     {
         Sums {
             hits: 0,

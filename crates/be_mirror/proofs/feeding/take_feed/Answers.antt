@@ -2,7 +2,7 @@ use Rattle.std.proofs.Common.{◌+◌, ◌-◌, ◌≤◌, length, Err, refl, sy
 use Rattle.be_base.specs.declared.limits.TheConstants.{SOURCE_BYTES}
 use Rattle.be_io.specs.Outside.{source_state}
 use Rattle.be_protocol.proofs.LinesGoing.{rises-along, spent}
-use Rattle.be_mirror.specs.Feeders.{FeederState, IsShown}
+use Rattle.be_mirror.specs.Feeders.{FeederState, IsAllPublished}
 use Rattle.be_mirror.proofs.FeedGoing.{fed_none, rises_none, ends_on, feeds, few, short_on, within_all, err_one, ok_no_err, front_length, front_short, still_long}
 use Rattle.be_mirror.specs.declared.feeding.FeedEnd.{FeedEnd}
 use Rattle.be_mirror.specs.declared.feeding.FeedEnd.TheVariants as feed
@@ -19,7 +19,7 @@ loop-left-init g c =
       taken = rises_none (g.S.Source.taken c.args.source.now) (g.S.Source.taken c.args.source.now) refl;
       beside = refl;
       room = omega (arith, c.in-Ok.ensures.len, c.in-Ok.buffer.ok.0);
-      shown = subst IsShown (sym new.0) refl;
+      shown = subst IsAllPublished (sym new.0) refl;
     }
 
 pub returns-then-load-clause-feeds : goal.returns-then-load-clause-feeds

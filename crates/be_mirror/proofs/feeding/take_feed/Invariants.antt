@@ -3,7 +3,7 @@ use Rattle.std.proofs.Common.{◌≡◌, ◌-◌, ◌≤◌, None, length}
 use Rattle.be_base.specs.Counts.{RisesBy}
 use Rattle.be_base.specs.declared.limits.TheConstants.{READ_BYTES, SOURCE_BYTES}
 use Rattle.be_io.specs.Outside.{source_state}
-use Rattle.be_mirror.specs.Feeders.{IsShown}
+use Rattle.be_mirror.specs.Feeders.{IsAllPublished}
 use Rattle.be_mirror.specs.Feeding.{IsFed}
 use Rattle.be_mirror.proofs.feeding.take_feed.Given as goal
 
@@ -16,7 +16,7 @@ invariant-loop-left g l = record {
   taken : RisesBy (SOURCE_BYTES - l.left) (g.S.Source.taken l.fn.source) (g.S.Source.taken l.source);
   beside : g.S.Source.kept_by_read l.source ≡ g.S.Source.kept_by_read l.fn.source;
   room : length l.buffer.items ≡ READ_BYTES;
-  shown : IsShown l.feeder;
+  shown : IsAllPublished l.feeder;
 }
 
 abbrev pub decreases-loop-left : goal.decreases-loop-left

@@ -2,7 +2,7 @@ use Rattle.std.proofs.Common.{◌≡◌, sym, ap, ◌∙◌, subst, arith, rules
 use Rattle.std.specs.Prelude.{Some}
 use Rattle.be_door.specs.Counts.{CountState, after_given, after_end}
 use Rattle.be_io.specs.Outside.{link_state}
-use Rattle.be_mirror.specs.Links.{LinksServed}
+use Rattle.be_mirror.specs.Links.{ReadLinksServed}
 use Rattle.be_mirror.proofs.Accepts.{was_given, has_ended, none_given, one_less, some_said}
 use Rattle.be_mirror.proofs.ReadLinks.{none_served}
 use Rattle.be_mirror.proofs.links.serve_links.Goals as goal
@@ -41,7 +41,7 @@ serve_next-work-requires-clause-served g c =
     let is : c.accept.new.count ≡ after_given c.loop-work.work.count = some_said _ c.in-Ok-Some.field-0 c.in-Ok-Some.link c.in-Ok-Some.field-0-is c.in-Ok-Some.ensures.counted in
     let told = link_state g.L.Source g.L.Sink in
     let work = c.loop-work.work in
-    subst (λ es. LinksServed told g.J.Naming.schema work.session c.accept.new.count es) (sym c.reserve.ensures.items) (was_given told g.J.Naming.schema work.session work.count c.accept.new.count work.ends.items i.0 is)
+    subst (λ es. ReadLinksServed told g.J.Naming.schema work.session c.accept.new.count es) (sym c.reserve.ensures.items) (was_given told g.J.Naming.schema work.session work.count c.accept.new.count work.ends.items i.0 is)
 
 pub loop-work-smaller-in-Ok-Some : goal.loop-work-smaller-in-Ok-Some
 loop-work-smaller-in-Ok-Some g c =
@@ -65,7 +65,7 @@ returns-in-Ok-None g c =
     let told = link_state g.L.Source g.L.Sink in
     let work = c.loop-work.work in
     record {
-      links = subst (λ es. LinksServed told g.J.Naming.schema work.session c.accept.new.count es) (sym c.reserve.ensures.items) (has_ended told g.J.Naming.schema work.session work.count c.accept.new.count work.ends.items i.0 is);
+      links = subst (λ es. ReadLinksServed told g.J.Naming.schema work.session c.accept.new.count es) (sym c.reserve.ensures.items) (has_ended told g.J.Naming.schema work.session work.count c.accept.new.count work.ends.items i.0 is);
       all_back = ap (λ (x : CountState g.row.L.Denot). x.given) is ∙ (i.3 ∙ sym (ap (λ (x : CountState g.row.L.Denot). x.back) is));
       ended = ap (λ (x : CountState g.row.L.Denot). x.ended) is;
       is_of = (i.1.0 ∙ ap (λ (x : CountState g.row.L.Denot). Some x.of) (sym is), ap (λ (x : CountState g.row.L.Denot). x.keeps) is ∙ i.1.1);
@@ -84,7 +84,7 @@ loop-work-preserved g c =
     let told = link_state g.L.Source g.L.Sink in
     let work = c.loop-work.work in
     let less = one_less work.count c.accept.new.count c.accept.result c.in-Err.field-0 c.in-Err.is c.accept.ensures.failed c.accept.ensures.no_memory in (
-      subst (λ es. LinksServed told g.J.Naming.schema work.session c.accept.new.count es) (sym c.reserve.ensures.items)
+      subst (λ es. ReadLinksServed told g.J.Naming.schema work.session c.accept.new.count es) (sym c.reserve.ensures.items)
           (none_given told g.J.Naming.schema work.session work.count c.accept.new.count work.ends.items i.0 c.accept.result c.in-Err.field-0 c.in-Err.is c.accept.ensures.failed c.accept.ensures.no_memory),
       (i.1.0 ∙ ap (λ o. Some o) (sym less.0), less.1 ∙ i.1.1),
       less.2 ∙ i.2,

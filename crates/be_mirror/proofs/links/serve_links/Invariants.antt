@@ -2,12 +2,12 @@
 use Rattle.std.proofs.Common.{◌≡◌, ◌+◌, ◌-◌, false}
 use Rattle.be_door.specs.Door.{IsOf}
 use Rattle.be_io.specs.Outside.{link_state}
-use Rattle.be_mirror.specs.Links.{LinksServed}
+use Rattle.be_mirror.specs.Links.{ReadLinksServed}
 use Rattle.be_mirror.proofs.links.serve_links.Given as goal
 
 abbrev pub invariant-loop-work : goal.invariant-loop-work
 invariant-loop-work g l =
-    LinksServed (link_state g.L.Source g.L.Sink) g.J.Naming.schema l.work.session l.work.count l.work.ends.items
+    ReadLinksServed (link_state g.L.Source g.L.Sink) g.J.Naming.schema l.work.session l.work.count l.work.ends.items
     × IsOf (g.D.Door.state l.door) l.work.count
     × (l.work.count.ended ≡ false)
     × (l.work.count.given ≡ l.work.count.back)

@@ -3,7 +3,7 @@ use Rattle.std.specs.Option.{is_some}
 use Rattle.be_hub.proofs.Pairs.{ok_said}
 use Rattle.be_io.specs.Outside.{link_state}
 use Rattle.be_mirror.specs.declared.feeding.FeedEnd.TheVariants as feed
-use Rattle.be_mirror.specs.Serving.{LeavesDoor}
+use Rattle.be_mirror.specs.Serving.{DoorAfterMirrorFault, IsSomeBeyond}
 use Rattle.be_mirror.specs.declared.serving.MirrorFault.TheVariants as fault
 use Rattle.be_mirror.proofs.AllRead.{counts_are}
 use Rattle.be_mirror.proofs.MirrorServed.{links_read, no_shade, door_left}
@@ -43,6 +43,19 @@ returns-in_err-show_all-clause-fault g c before port links is =
     let served = ok_said _ c.run_beside-ends.result.0 ends c.in_ok-ends.was c.run_beside-ends.ensures.ends in
     let after = g.D.Door.state c.settle_links.new.door in
     let gives : c.from_residual-in_err-show_all.result ≡ Err (fault.Ahead beyond) = search rules in
-    subst (λ r. IfErr r (λ x. LeavesDoor before after port links (length c.args.glasses.items) x)) (sym gives)
+    subst (λ r. IfErr r (λ x. DoorAfterMirrorFault before after port links (length c.args.glasses.items) x)) (sym gives)
     (door_left before (g.D.Door.state c.args.door.now) after port links (length c.args.glasses.items) is (link_state g.L.Source g.L.Sink) (λ end. end.session) (λ end. end.count) (λ end. end.ends.items)
-    g.J.Naming.schema c.run_beside-ends.new.feeder.published beyond c.in_err-show_all.ensures.beyond ends.items served left.sums said.sums said.none_refused said.settled said.links)
+    g.J.Naming.schema beyond ends.items served left.sums said.sums said.none_refused said.settled said.links)
+
+pub returns-in_err-show_all-clause-ahead : goal.returns-in_err-show_all-clause-ahead
+returns-in_err-show_all-clause-ahead g c beyond is =
+    let gives : c.from_residual-in_err-show_all.result ≡ Err (fault.Ahead c.in_err-show_all.field-0.0) = search rules in
+    let same : c.in_err-show_all.field-0.0 ≡ beyond = cc in
+    let some : c.run_beside-ends.result.1 ≢ feed.NoMemory = search (rules, c.eq.ensures, c.if-eq.false) in
+    record {
+      end = c.run_beside-ends.result.1;
+      fed = c.run_beside-ends.new.feeder.took.fed;
+      feeds = c.run_beside-ends.ensures.feeds some;
+      knows = subst (λ h. IsSomeBeyond h beyond) (c.run_beside-ends.ensures.shown some)
+          (subst (IsSomeBeyond c.run_beside-ends.new.feeder.published) same c.in_err-show_all.ensures.beyond);
+    }

@@ -7,14 +7,14 @@ use Rattle.be_change.specs.History.{Entry}
 use Rattle.be_change.specs.Requests.{Request}
 use Rattle.be_protocol.specs.Readings.{reading}
 use Rattle.be_workload.specs.Asked as made
-use Rattle.be_server.specs.Sums.{no_sums, MayCount, Counts}
+use Rattle.be_server.specs.Sums.{no_script_sums, MayCount, CountsRequest}
 use Rattle.be_server.proofs.ScriptSteps.{Serving, serve_begin, serve_goes_on, serve_first, serve_may, serve_step, serve_end}
 use Rattle.be_server.proofs.counting.count_script.Goals as goal
 
 pub loop-rest-init : goal.loop-rest-init
 loop-rest-init g c =
     let requests = made.asked_by_lines c.args.script.now in
-    let begun = subst (λ (h : List Entry). Serving requests h requests no_sums) (sym c.requires.empty) (serve_begin requests c.requires.countable) in
+    let begun = subst (λ (h : List Entry). Serving requests h requests no_script_sums) (sym c.requires.empty) (serve_begin requests c.requires.countable) in
     record { serving = subst (Serving requests c.args.board.board.list requests) (sym c.none.ensures) begun; schema = c.requires.index }
 
 pub answer-requires-clause-present : goal.answer-requires-clause-present
@@ -41,7 +41,7 @@ loop-rest-preserved g c =
     let l = c.first_line.result.0.now in
     let after = c.first_line.result.1.now in
     let first = serve_first requests list sums c.loop-rest.rest.now l after c.first_line.ensures.lines c.loop-rest.invariant.serving in
-    let counts = subst (λ (s : Attributes). Counts s (reading s (line.text l)) list sums next.board.board.list next.sums) c.requires.schema c.in_ok-answer.ensures.counted in
+    let counts = subst (λ (s : Attributes). CountsRequest s (reading s (line.text l)) list sums next.board.board.list next.sums) c.requires.schema c.in_ok-answer.ensures.counted in
     record {
       serving = serve_step requests list sums (reading made.schema (line.text l)) (made.asked_by_lines after) next.board.board.list next.sums first counts;
       schema = c.in_ok-answer.ensures.schema ∙ c.loop-rest.invariant.schema;

@@ -1,7 +1,7 @@
 use Rattle.std.proofs.Common.{◌≡◌, take}
 use Rattle.std.specs.List.{flat_map}
-use Rattle.be_server.specs.Cover.{line_of}
+use Rattle.be_server.specs.Cover.{line_for}
 use Rattle.be_server.proofs.cover.lines_for.Given as goal
 
 abbrev pub invariant-loop-row : goal.invariant-loop-row
-invariant-loop-row l = l.text.items ≡ flat_map (line_of l.schema l.asked) (take l.row-index l.rows)
+invariant-loop-row l = l.text.items ≡ flat_map (line_for l.schema l.asked) (take l.row-index l.rows)

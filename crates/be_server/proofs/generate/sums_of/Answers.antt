@@ -2,7 +2,7 @@
 use Rattle.std.proofs.Common.{ℕ, List, length, ap, subst, ◌∙◌, IfOk}
 use Rattle.be_change.specs.Requests.{Request}
 use Rattle.be_workload.specs.Asked as made
-use Rattle.be_server.specs.Sums.{published, AreSums}
+use Rattle.be_server.specs.Sums.{published, AreScriptSums}
 use Rattle.be_server.proofs.ScriptSteps.{events_counted}
 use Rattle.be_server.proofs.generate.sums_of.Goals as goal
 
@@ -13,5 +13,5 @@ returns c =
     let text = c.as_slice-2.ensures.value ∙ c.in_ok-workload.ensures.script in
     let asked = ap made.asked_by_lines text ∙ read.short c.args.number c.args.subs c.args.events c.requires.subs in
     let count = events_counted c.args.subs c.args.events requests (read.scripts c.args.number c.args.subs c.args.events c.requires.subs) in
-    let sums = subst (λ (rs : List Request). IfOk c.count_script.result (AreSums made.schema rs (length (published rs)))) asked c.count_script.ensures in
-    subst (λ (n : ℕ). IfOk c.count_script.result (AreSums made.schema requests n)) count sums
+    let sums = subst (λ (rs : List Request). IfOk c.count_script.result (AreScriptSums made.schema rs (length (published rs)))) asked c.count_script.ensures in
+    subst (λ (n : ℕ). IfOk c.count_script.result (AreScriptSums made.schema requests n)) count sums

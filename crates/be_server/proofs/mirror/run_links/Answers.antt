@@ -1,10 +1,11 @@
 -- The links were served, and the line was printed, in the schema that was read; or nothing is printed.
-use Rattle.std.proofs.Common.{◌≡◌, refl, subst, rules}
+use Rattle.std.proofs.Common.{◌≡◌, Err, refl, ap, ◌∙◌, subst, rules}
 use Rattle.std.specs.Arc.{arc_value}
 use Rattle.std.specs.Option.{is_some}
 use Rattle.be_io.specs.Outside.{link_state, sink_state, source_state}
 use Rattle.be_server.specs.Mirror.{RunsMirror}
 use Rattle.be_server.specs.Outside.{link}
+use Rattle.be_server.specs.Status.{status_of_mirror}
 use Rattle.be_server.proofs.MirrorEnds.{mirror_printed, mirror_failed}
 use Rattle.be_server.proofs.mirror.run_links.Goals as goal
 
@@ -33,4 +34,8 @@ returns-in-Err-clause-runs g c =
     let door' = g.D.Door.state c.run_pair-run.new.door in
     let read = c.run_pair-run.new.input ≡ c.args.input.now in
     let kept = c.args.out.now ≡ c.args.out.now in
-    rw c.from.ensures (mirror_failed told read kept c.args.schema c.args.port c.args.seats c.args.links before after door door' c.in-Err.fault refl c.in-Err.ensures.fault)
+    let s = arc_value c.in-Ok.schema in
+    let same : s ≡ c.args.schema = search rules in
+    let runs = mirror_failed told read kept s c.args.port c.args.seats c.args.links before after door door' c.in-Err.fault refl
+        (λ beyond is. c.run_pair-run.ensures.ahead beyond (c.in-Err.is ∙ ap (λ x. Err x) is)) c.in-Err.ensures.fault in
+    rw c.from.ensures (subst (λ x. RunsMirror told read kept x c.args.port c.args.seats c.args.links before after door door' (status_of_mirror c.in-Err.fault)) same runs)

@@ -8,7 +8,7 @@ use Rattle.be_protocol.specs.Replies.{reply_text}
 use Rattle.be_protocol.specs.Requests.{plain_refusal}
 use Rattle.be_protocol.specs.Short.{plain_reply}
 use Rattle.be_protocol.specs.declared.ends.SessionEnd.TheVariants as ends
-use Rattle.be_mirror.specs.Asked.{plain_ask}
+use Rattle.be_mirror.specs.Asked.{plain_mirror_ask}
 use Rattle.be_mirror.specs.Sessions.{mirror_conduct}
 use Rattle.be_mirror.specs.declared.asking.Ask.{Ask}
 use Rattle.be_mirror.proofs.Said.{says_text, says_short, says_built}
@@ -23,7 +23,7 @@ returns-in-Publish-clause-gives g c =
     let before = sink_state g.K.Sink c.args.out.now in
     let after = sink_state g.K.Sink c.tell_built.new.out in
     let turn = c.tell_built.result in
-    subst (λ (ask : Ask). GivesReply (mirror_conduct s) (plain_ask ask) c.args.self.now glass' before after turn.by turn.written) (sym c.in-Publish.is)
+    subst (λ (ask : Ask). GivesReply (mirror_conduct s) (plain_mirror_ask ask) c.args.self.now glass' before after turn.by turn.written) (sym c.in-Publish.is)
     (subst (λ (v : GlassState). GivesReply (mirror_conduct s) r v glass' before after turn.by turn.written) c.self.view_is
     (says_built s r c.hits-built.result c.hits-built.new.room.reply.items c.self.inside.glass glass' before after turn refl c.hits-built.ensures.told c.hits-built.ensures.refused c.tell_built.ensures.built c.tell_built.ensures.refused))
 
@@ -35,7 +35,7 @@ returns-in-Costing-clause-gives g c =
     let before = sink_state g.K.Sink c.args.out.now in
     let after = sink_state g.K.Sink c.tell.new.out in
     let turn = c.tell.result in
-    subst (λ (ask : Ask). GivesReply (mirror_conduct s) (plain_ask ask) c.args.self.now glass' before after turn.by turn.written) (sym c.in-Costing.is)
+    subst (λ (ask : Ask). GivesReply (mirror_conduct s) (plain_mirror_ask ask) c.args.self.now glass' before after turn.by turn.written) (sym c.in-Costing.is)
     (subst (λ (v : GlassState). GivesReply (mirror_conduct s) r v glass' before after turn.by turn.written) c.self.view_is
     (says_short s r (plain_reply c.cost.result) c.self.inside.glass glass' before after turn refl c.cost.ensures c.tell.ensures.says))
 
@@ -47,7 +47,7 @@ returns-in-Dumping-clause-gives g c =
     let before = sink_state g.K.Sink c.args.out.now in
     let after = sink_state g.K.Sink c.tell_built-in-Dumping.new.out in
     let turn = c.tell_built-in-Dumping.result in
-    subst (λ (ask : Ask). GivesReply (mirror_conduct s) (plain_ask ask) c.args.self.now glass' before after turn.by turn.written) (sym c.in-Dumping.is)
+    subst (λ (ask : Ask). GivesReply (mirror_conduct s) (plain_mirror_ask ask) c.args.self.now glass' before after turn.by turn.written) (sym c.in-Dumping.is)
     (subst (λ (v : GlassState). GivesReply (mirror_conduct s) r v glass' before after turn.by turn.written) c.self.view_is
     (says_built s r c.dumped-built.result c.dumped-built.new.room.reply.items c.self.inside.glass glass' before after turn refl c.dumped-built.ensures.told c.dumped-built.ensures.refused c.tell_built-in-Dumping.ensures.built c.tell_built-in-Dumping.ensures.refused))
 
@@ -59,7 +59,7 @@ returns-in-Tailing-clause-gives g c =
     let before = sink_state g.K.Sink c.args.out.now in
     let after = sink_state g.K.Sink c.tell_built-in-Tailing.new.out in
     let turn = c.tell_built-in-Tailing.result in
-    subst (λ (ask : Ask). GivesReply (mirror_conduct s) (plain_ask ask) c.args.self.now glass' before after turn.by turn.written) (sym c.in-Tailing.is)
+    subst (λ (ask : Ask). GivesReply (mirror_conduct s) (plain_mirror_ask ask) c.args.self.now glass' before after turn.by turn.written) (sym c.in-Tailing.is)
     (subst (λ (v : GlassState). GivesReply (mirror_conduct s) r v glass' before after turn.by turn.written) c.self.view_is
     (says_built s r c.tail-built.result c.tail-built.new.room.reply.items c.self.inside.glass glass' before after turn refl c.tail-built.ensures.told c.tail-built.ensures.refused c.tell_built-in-Tailing.ensures.built c.tell_built-in-Tailing.ensures.refused))
 
@@ -71,7 +71,7 @@ returns-in-Quit-clause-gives g c =
     let after = sink_state g.K.Sink c.tell-in-Quit.new.out in
     let turn = c.tell-in-Quit.result in
     let reply = asked.bye c.length-n.result in
-    subst (λ (ask : Ask). GivesReply (mirror_conduct s) (plain_ask ask) c.args.self.now glass' before after turn.by turn.written) (sym c.in-Quit.is)
+    subst (λ (ask : Ask). GivesReply (mirror_conduct s) (plain_mirror_ask ask) c.args.self.now glass' before after turn.by turn.written) (sym c.in-Quit.is)
     (subst (λ (v : GlassState). GivesReply (mirror_conduct s) asked.quit v glass' before after turn.by turn.written) c.self.view_is
     (says_text s asked.quit reply c.self.inside.glass glass' before after (Some ends.Quit) (reply_text s reply) turn refl c.length-n.ensures refl (c.tell-in-Quit.ensures.says s)))
 
@@ -83,5 +83,5 @@ returns-in-Refused-clause-gives g c =
     let before = sink_state g.K.Sink c.args.out.now in
     let after = sink_state g.K.Sink c.tell-in-Refused.new.out in
     let turn = c.tell-in-Refused.result in
-    subst (λ (ask : Ask). GivesReply (mirror_conduct s) (plain_ask ask) glass glass before after turn.by turn.written) (sym c.in-Refused.is)
+    subst (λ (ask : Ask). GivesReply (mirror_conduct s) (plain_mirror_ask ask) glass glass before after turn.by turn.written) (sym c.in-Refused.is)
     (says_short s (asked.refused why) (asked.refusal why) glass glass before after turn refl (refused_replies s why glass) c.tell-in-Refused.ensures.says)
