@@ -8,7 +8,7 @@ import tempfile
 TOP = os.path.dirname(os.path.dirname(os.path.abspath(__file__)))
 sys.dont_write_bytecode = True
 sys.path.insert(0, os.path.join(TOP, "examples", "client"))
-from justmeadow import Ended, Refused, Session  # noqa: E402
+from justmeadow import Behind, Ended, Refused, Session  # noqa: E402
 
 PROGRAM = sys.argv[1]
 
@@ -34,6 +34,11 @@ def interactive(schema):
     same("an unknown attribute", refused(session.publish, "cost=1"), ["ATTR", "cost"])
     same("hits", session.publish("price=240 side=buy"), ["cheap", "buys"])
     same("no hit", session.publish("-"), [])
+    same("hits of enough changes", session.publish("side=buy", at_least=2), ["buys"])
+    try:
+        sys.exit(f"FAILED: client: hits of too few changes: {session.publish('-', at_least=3, within=0.2)!r}")
+    except Behind:
+        pass
     same("a removal", session.unsubscribe("cheap"), 3)
     same("names", session.names(), ["buys"])
     try:

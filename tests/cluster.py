@@ -1,7 +1,7 @@
 """Drives the example of a cluster: `serve`, tell.py, put.py, a Redis of its own with a replica, get.py, mirrors that are asked all the
 time, and `follow`, each of which is killed in turn and started again. Then the feed has the leader's list and nothing else, each
 reply of each mirror was true of it, and `follow` answers from it as the leader does. mirror.sh ends with its parts, and get.py where
-its stream has another list. Its words: the program, and a folder to work in. Its last line is `N passed, N failed`."""
+its stream has another list; tell.py waits for a mirror that was started anew, and ends where nobody answers. Its words: the program, and a folder to work in. Its last line is `N passed, N failed`."""
 import contextlib
 import os
 import pathlib
@@ -25,7 +25,7 @@ sys.path.insert(0, str(TOP / "examples" / "client"))
 from justmeadow import Connection, Ended  # noqa: E402
 
 CLUSTER, SCHEMA = TOP / "examples" / "cluster", TOP / "examples" / "follower" / "schema.txt"
-PATIENCE = 20  # seconds until what is waited for counts as a failure
+PATIENCE = 40  # seconds until what is waited for counts as a failure
 
 
 class Failed(Exception):
@@ -77,12 +77,15 @@ class Relay:
 
     def carry(self, pair):
         with contextlib.suppress(OSError, ValueError):
-            while True:
-                for end in select.select(pair, [], [])[0]:
-                    piece = end.recv(65536)
-                    if not piece:
-                        return [each.close() for each in pair]
-                    pair[pair[0] is end].sendall(piece)
+            while all(self.pass_on(pair, end) for end in select.select(pair, [], [])[0]):
+                pass
+        for end in pair:
+            end.close()
+
+    def pass_on(self, pair, end):
+        piece = end.recv(65536)
+        pair[pair[0] is end].sendall(piece)
+        return piece
 
     def stop(self):
         for each in [self.door, *self.open]:
@@ -126,7 +129,7 @@ class Cluster:
 
     def start_leader(self):
         def words(port):
-            return [self.program, "serve", str(SCHEMA), str(port), "6", "1000"]
+            return [self.program, "serve", str(SCHEMA), str(port), "6", "1000000"]
 
         self.leader, self.port = ports.serving(words, stdin=subprocess.DEVNULL, stdout=subprocess.DEVNULL)
         self.started.append(self.leader)
@@ -311,14 +314,124 @@ def is_another_list(c):
     wait_until("put.py sees another list", lambda: putter.poll() == 3)
 
 
-class Pair:
-    """mirror.sh with a get.py and a mirror, which has the list of the feed."""
+class Fed:
+    """A mirror that has what is written to it."""
 
-    def __init__(self, c, url, *words):
-        self.port = ports.free_port()
+    def __init__(self, c, lines):
+        def words(port):
+            return [c.program, "mirror", str(SCHEMA), str(port), "3", "1000000"]
+
+        self.process, self.port = ports.serving(words, stdin=subprocess.PIPE, stdout=subprocess.DEVNULL, stderr=subprocess.DEVNULL)
+        c.started.append(self.process)
+        self.length = 0
+        self.feed(lines)
+
+    def feed(self, lines):
+        self.process.stdin.write(b"".join(lines))
+        self.process.stdin.flush()
+        self.length += len(lines)
+        with Connection(self.port, within=PATIENCE) as session:
+            session.publish("-", at_least=self.length, within=PATIENCE)
+
+
+def waits_for_a_mirror(c):
+    """tell.py at a mirror that is started anew waits until it has again what was printed, and ends with 3 at another change."""
+    lines = [f"AT {place} SUB 1 {place} s{place} all\n".encode() for place in range(1500)]
+    told, said = c.room / "told", c.room / "waiting"
+    mirror = Fed(c, lines[:1200])
+    relay = Relay(mirror.port)
+
+    def has_told(count):
+        return [line for line in told.read_bytes().splitlines(True) if line.startswith(b"AT ")] == lines[:count]
+
+    def starts_anew(some):
+        nonlocal mirror
+        c.kill(mirror.process)
+        mirror = Fed(c, some)
+        relay.target = mirror.port
+
+    with open(told, "wb") as out, open(said, "wb") as err:
+        teller = c.start(sys.executable, CLUSTER / "tell.py", relay.port, stdout=out, stderr=err)
+    try:
+        wait_until("tell.py prints what a mirror has", lambda: has_told(1200))
+        starts_anew([])
+        wait_until("tell.py waits for a mirror", lambda: b"the list has 0 changes, and 1200 were printed: waiting" in said.read_bytes())
+        for more in (lines[:1], lines[1:1100], lines[1100:1200]):
+            mirror.feed(more)
+            time.sleep(0.3)
+            if teller.poll() is not None or not has_told(1200):
+                raise Failed(f"tell.py at {mirror.length} changes: {teller.poll()}")
+        mirror.feed(lines[1200:])
+        wait_until("tell.py goes on", lambda: has_told(1500))
+        if said.read_bytes().count(b"waiting") != 1:
+            raise Failed(f"tell.py said {said.read_bytes()!r}")
+        # all but the last of these changes were printed
+        starts_anew([*lines[:700], b"AT 700 SUB 1 700 other all\n"])
+        wait_until("tell.py sees another change", lambda: teller.poll() == 3)
+        if b"its change at place 700 isn't" not in said.read_bytes() or not has_told(1500):
+            raise Failed(f"tell.py said {said.read_bytes()!r}")
+    finally:
+        relay.stop()
+
+
+def needs_an_answer(c):
+    """tell.py holds one connection open at the start and ends with 1 where it isn't answered, and later says what happened."""
+
+    def tell(port):
+        return c.start(sys.executable, CLUSTER / "tell.py", port, "--patience", "0.7", stdout=subprocess.PIPE, stderr=subprocess.PIPE)
+
+    def ends(what, teller):
+        rest, said = teller.communicate(timeout=PATIENCE)
+        if teller.returncode != 1 or rest or b"no answer in 0.7 seconds" not in said:
+            raise Failed(f"tell.py, {what}, ended with {teller.returncode} and {said!r}, and printed {rest!r}")
+
+    with socket.create_server(("127.0.0.1", 0)) as door:
+        ends("where nobody speaks", tell(door.getsockname()[1]))
+        # one connection, and no other
+        door.settimeout(0.1)
+        door.accept()[0].close()
+        with contextlib.suppress(TimeoutError):
+            door.accept()[0].close()
+            raise Failed("tell.py opened two connections")
+
+    def words(port):
+        return [c.program, "serve", str(SCHEMA), str(port), "1", "1000000"]
+
+    leader, port = ports.serving(words, stdin=subprocess.DEVNULL, stdout=subprocess.DEVNULL)
+    c.started.append(leader)
+    holder = connected(port)
+    holder.ask("TAIL 0 0")
+    ends("where all seats are taken", tell(port))
+    holder.close()
+    with Connection(port, within=PATIENCE) as after:
+        list_now = after.tail(0, 10)
+    if len(list_now) != 2:
+        raise Failed(f"tell.py without a seat left {list_now}")
+
+    with socket.create_server(("127.0.0.1", 0)) as door:
+        teller, said = tell(door.getsockname()[1]), b""
+        first = door.accept()[0]
+        first.recv(100)
+        first.sendall(b"TAILED 0 0\n")
+        first.close()
+        # those behind it wait unanswered
+        for wanted in (b"the connection was closed", b"no answer in 0.7 seconds"):
+            said = teller.stderr.readline()
+            if wanted not in said:
+                raise Failed(f"tell.py said {said!r}")
+        teller.kill()
+        teller.communicate()
+
+
+class Pair:
+    """mirror.sh with a mirror, which has the list of the feed, and get.py, or tell.py at a port."""
+
+    def __init__(self, c, *words, feeder="get.py"):
+        self.port, self.feeder = ports.free_port(), feeder
         mirror = [c.program, "mirror", SCHEMA, self.port, 2, 1000000]
         with open(c.room / "said", "a", encoding="utf-8") as said:
-            self.process = c.start(CLUSTER / "mirror.sh", "feed", "--redis", url, *words, "--", *mirror, stdin=subprocess.DEVNULL, stdout=subprocess.DEVNULL, stderr=said)
+            pipes = {"stdin": subprocess.DEVNULL, "stdout": subprocess.DEVNULL, "stderr": said}
+            self.process = c.start(CLUSTER / "mirror.sh", *words, "--", *mirror, env={**os.environ, "FEEDER": feeder}, **pipes)
         c.pairs.append(self)
 
     def length(self):
@@ -327,18 +440,18 @@ class Pair:
         return 0
 
     def parts(self):
-        """The process ids of get.py and of the mirror."""
+        """The process ids of what feeds it and of the mirror."""
         children = pathlib.Path(f"/proc/{self.process.pid}/task/{self.process.pid}/children").read_text(encoding="ascii").split()
-        of_get = [child for child in children if b"get.py" in pathlib.Path(f"/proc/{child}/cmdline").read_bytes()]
+        of_get = [child for child in children if self.feeder.encode() in pathlib.Path(f"/proc/{child}/cmdline").read_bytes()]
         if len(children) != 2 or len(of_get) != 1:
             raise Failed(f"mirror.sh has other parts than two: {children}")
         return [int(child) for child in sorted(children, key=lambda child: child not in of_get)]
 
 
 def ends_as_one(c):
-    """mirror.sh ends when get.py does, or the mirror, or by a signal, and leaves neither behind."""
-    away = Pair(c, f"redis://127.0.0.1:{ports.free_port()}", "--patience", "0.2")
-    pairs = [Pair(c, c.url) for _ in range(4)]
+    """mirror.sh ends when what feeds the mirror does, or the mirror, or by a signal, and leaves neither behind."""
+    away = Pair(c, "feed", "--redis", f"redis://127.0.0.1:{ports.free_port()}", "--patience", "0.2")
+    pairs = [Pair(c, "feed", "--redis", c.url) for _ in range(4)] + [Pair(c, c.mirrors[0].port, feeder="tell.py") for _ in range(2)]
     wait_until("mirror.sh ends where Redis isn't there", lambda: away.process.poll() == 1)
     for pair in pairs:
         wait_until("mirror.sh has a mirror with a list", lambda pair=pair: pair.length() > 0)
@@ -347,7 +460,10 @@ def ends_as_one(c):
     os.kill(parts[1][1], signal.SIGKILL)
     pairs[2].process.send_signal(signal.SIGTERM)
     pairs[3].process.send_signal(signal.SIGINT)
-    for what, pair, wanted in zip(("get.py is killed", "the mirror is killed", "it gets SIGTERM", "it gets SIGINT"), pairs, (137, 137, -signal.SIGTERM, -signal.SIGINT)):
+    os.kill(parts[4][0], signal.SIGKILL)
+    os.kill(parts[5][1], signal.SIGKILL)
+    whats = ("get.py is killed", "the mirror is killed", "it gets SIGTERM", "it gets SIGINT", "tell.py is killed", "the mirror of tell.py is killed")
+    for what, pair, wanted in zip(whats, pairs, (137, 137, -signal.SIGTERM, -signal.SIGINT, 137, 137)):
         wait_until(f"mirror.sh ends where {what}", lambda pair=pair: pair.process.poll() is not None)
         if pair.process.returncode != wanted:
             raise Failed(f"mirror.sh ended with {pair.process.returncode} where {what}")
@@ -375,6 +491,22 @@ def is_refilled(c):
         rest, said = get.communicate(timeout=PATIENCE)
         if given != old or rest or get.returncode != 3 or told not in said:
             raise Failed(f"get.py ended with {get.returncode} and {said!r}, and printed {[*given, rest]!r}")
+
+
+def has_no_stream(c):
+    """get.py says that its stream isn't there, once, and waits or ends with `--once`."""
+    once = subprocess.run([sys.executable, CLUSTER / "get.py", "late", "--redis", c.url, "--once"], capture_output=True, check=False)
+    if once.returncode or once.stdout or once.stderr != b"get.py: there is no stream late, or nothing in it\n":
+        raise Failed(f"get.py --once ended with {once.returncode} and {once.stderr!r}")
+    get = c.start(sys.executable, CLUSTER / "get.py", "late", "--redis", c.url, "--beat", "0.1", stdout=subprocess.PIPE, stderr=subprocess.PIPE)
+    said, beats = get.stderr.readline(), [get.stdout.readline() for _ in range(3)]
+    c.store.xadd("late", {"line": b"AT 0 SUB 1 0 a all"}, id="1-0")
+    while (line := get.stdout.readline()) == b"TAILED 0 0\n":
+        pass
+    get.kill()
+    rest = get.communicate()[1]
+    if (said, rest) != (b"get.py: there is no stream late, or nothing in it: waiting\n", b"") or line != b"AT 0 SUB 1 0 a all\n":
+        raise Failed(f"get.py said {said + rest!r}, and printed {[*beats, line]}")
 
 
 def is_interrupted(c):
@@ -411,7 +543,7 @@ def is_away(c):
         raise Failed("a script ended with a traceback")
 
 
-CASES = [all_parts_run, outlives_put, outlives_tell, outlives_get, outlives_redis, outlives_mirrors, outlives_connection, has_two_tellers, is_the_leaders, are_mirrored, is_followed, ends_as_one, is_refilled, is_interrupted, is_refused, is_another_list, is_away]
+CASES = [all_parts_run, outlives_put, outlives_tell, outlives_get, outlives_redis, outlives_mirrors, outlives_connection, has_two_tellers, is_the_leaders, are_mirrored, is_followed, ends_as_one, is_refilled, has_no_stream, waits_for_a_mirror, needs_an_answer, is_interrupted, is_refused, is_another_list, is_away]
 
 
 def main(program, room):

@@ -60,7 +60,12 @@ script run; same 'and again, by what was seen' 6 'ran run\n' ''
 script --where; same 'where it lies' 0 'TOP/dist/justmeadow-x86_64-linux\n' ''
 script --dist gen 'a b' ''; same 'words as they are, and the code' 6 'ran gen a b \n' ''
 script ''; same 'an empty word is the program'"'"'s' 6 'ran \n' ''
-script gen --help; same 'a later --help is the program'"'"'s' 6 'ran gen --help\n' ''
+for words in -h 'run -h' 'gen --help' 'serve there 7000 -h'; do
+    # shellcheck disable=SC2086
+    script $words; same "the usage: $words" 0 "$(sed 's/%/%%/g' usage)\n" ''
+done
+script run -- -h; same 'a file named -h' 6 'ran run -- -h\n' "justmeadow: there is no file '-h'\n"
+script run -x; same 'a word that is refused is no file' 6 'ran run -x\n' ''
 unset GLIBC_TUNABLES
 script memory; same 'a program that asks for large pages' 6 'glibc.malloc.hugetlb=1\nran memory\n' ''
 GLIBC_TUNABLES='' script memory; same 'or what its user says' 6 '\nran memory\n' ''

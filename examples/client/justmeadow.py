@@ -56,6 +56,10 @@ class Lost(Ended):
     """A `Client` has lost its connection and with it the reply, or couldn't connect. Its next call tries again."""
 
 
+class Behind(Exception):
+    """An answer spoke of fewer changes than were asked for, until the time was over."""
+
+
 class Unreadable(Exception):
     """A reply that the protocol doesn't have. Nothing that follows it can be trusted."""
 
@@ -111,6 +115,8 @@ def one_name(name):
 class Calls(contextlib.AbstractContextManager):
     """What may be asked of a session that has `ask`, which sends a line and returns its reply."""
 
+    patience = 30.0  # seconds
+
     def __exit__(self, *_):
         self.close()
 
@@ -128,9 +134,14 @@ class Calls(contextlib.AbstractContextManager):
         told = self._told(line, wanted)
         return Told(told.numbers[0], told.names)
 
-    def publish(self, event):
-        """The names of the subscriptions that the event satisfies, in order of acceptance."""
-        return self._names(f"PUB {event}", "HIT")
+    def publish(self, event, at_least=0, within=None):
+        """The names of the subscriptions that the event satisfies, in order of acceptance. Where the answer speaks of fewer than
+        `at_least` changes, as a mirror's may, it asks again, `within` so many seconds (`patience`), and then raises `Behind`."""
+        for _ in turns(time.monotonic() + (self.patience if within is None else within)):
+            told = self._names(f"PUB {event}", "HIT")
+            if told.n >= at_least:
+                return told
+        raise Behind(f"{told.n} changes, and not {at_least}")
 
     def names(self):
         """The names of this session's own subscriptions, in order of acceptance."""

@@ -3,18 +3,18 @@
 with `--once` as far as the stream goes now.
 
     examples/cluster/get.py feed --once >feed.txt
-    examples/cluster/get.py feed --beat 1 | ./justmeadow mirror examples/follower/schema.txt 7100 8 1000
+    examples/cluster/get.py feed --beat 1 | ./justmeadow mirror examples/follower/schema.txt 7100 8 1000000
 
 With `--beat SECONDS` it prints a line `TAILED place 0`, which says nothing, where nothing came for so long: a mirror whose
 connections were all served ends with the next line. Where Redis goes away it tries again, after growing pauses, and goes on behind
-the last change that it printed. Ends with 1 where there is no Redis at the start, or its output takes no more, and with 3 where the
+the last change that it printed. Where the stream isn't there it says so once, and waits, or ends with `--once`. Ends with 1 where there is no Redis at the start, or its output takes no more, and with 3 where the
 stream lacks a change, or no longer has the last one that was printed: it is another list then, and nothing of it is printed. Needs
 Debian's python3-redis."""
 import sys
 import time
 
 sys.dont_write_bytecode = True
-from output import other_list, pause, place, seconds, show, writing  # noqa: E402
+from output import other_list, pause, place, say, seconds, show, writing  # noqa: E402
 from streams import Stream, arguments  # noqa: E402
 
 AT_ONCE = 1000  # entries
@@ -32,6 +32,10 @@ class Getter:
         asked = {self.stream.key: f"{self.place}-0"}
         reply = self.stream.call(lambda: self.stream.redis.xread(asked, count=AT_ONCE, block=None if self.words.once else self.wait))
         return reply[0][1] if reply else []
+
+    def say_empty(self):
+        if not self.stream.call(lambda: self.stream.redis.xrange(self.stream.key, count=1)):
+            say(f"there is no stream {self.stream.key}, or nothing in it" + ("" if self.words.once else ": waiting"))
 
     def compare(self):
         """Sees that the stream still has the last change that was printed. What was read before is of the same list then."""
@@ -55,10 +59,13 @@ class Getter:
         show(lines)
 
     def go_on(self):
-        last, beat = time.monotonic(), self.words.beat
+        last, beat, is_first = time.monotonic(), self.words.beat, True
         while True:
             found = self.read()
             self.compare()
+            if is_first and not found:
+                self.say_empty()
+            is_first = False
             if found:
                 self.take(found)
                 last = time.monotonic()

@@ -1,17 +1,19 @@
 #!/usr/bin/env python3
-"""Tells a leader's list of changes, from its first one on and for as long as it runs: asks `serve` at PORT for `TAIL place 1000`
-again and again, and prints each reply that has changes, whole and as it came. Its output is a feed.
+"""Tells a leader's list of changes, from its first one on and for as long as it runs: asks `serve`, or a mirror, at PORT for
+`TAIL place 1000` again and again, and prints each reply that has new changes, whole and as it came. Its output is a feed.
 
     examples/cluster/tell.py 7000
-    examples/cluster/tell.py 7000 --beat 1 | ./justmeadow mirror examples/follower/schema.txt 7100 8 1000
+    examples/cluster/tell.py 7000 --beat 1 | ./justmeadow mirror examples/follower/schema.txt 7100 8 1000000
 
-With `--beat SECONDS` it prints a line `TAILED n 0`, which says nothing, where nothing came for so long: a mirror whose connections
-were all served ends with the next line. Where the connection breaks it connects again, after growing pauses, and goes on behind the
-last change that it printed, once the leader has told the same changes before it: a server that was started anew has another list.
-Ends with 1 where there is no leader within PATIENCE seconds at the start, or its output takes no more, and with 3 where the list is
-another one."""
+With `--beat SECONDS` it prints a line `TAILED n 0`, which says nothing, where nothing came for so long while it is connected: a
+mirror whose connections were all served ends with the next line. Where the connection breaks it connects again, after growing
+pauses, compares the list with what it printed, and goes on behind that. Where the list is shorter, as of a mirror that was started
+anew, it says so and waits. It keeps 8 bytes for each change that it printed.
+
+Ends with 1 where it has no answer within PATIENCE seconds at the start, for which it holds one connection open, or where its output
+takes no more; and with 3 where a change is another one than it printed: a server that was started anew has another list."""
 import argparse
-import hashlib
+import array
 import os
 import sys
 import time
@@ -24,51 +26,78 @@ from justmeadow import Connection, Ended, turns  # noqa: E402
 
 STEP = 1000  # changes that are asked for at once
 SOON, LATER = 0.01, 0.25  # seconds until it asks again where nothing is new, from the first time on
+FIRST_PAUSE = 0.05  # seconds between two tries to connect
+LONGEST_PAUSE = 1.0  # where the connection was refused
+LONGEST_OF_OPEN = 10.0  # where it was open, and so took one of the leader's LINKS
 
 
 class Teller:
     def __init__(self, words):
         self.words = words
-        self.place, self.told = 0, hashlib.sha256()  # how many changes were printed, and which
+        self.told = array.array("q")  # the hash of each change that was printed
+        self.has_answered = self.is_short = False
 
-    def session(self, until):
-        """A session of the leader whose list begins with the changes that were printed."""
-        fault = None
-        for _ in turns(until):
+    def run(self):
+        """Connects again and again."""
+        until, wait, before = time.monotonic() + self.words.patience, FIRST_PAUSE, None
+        while True:
+            began, session = time.monotonic(), None
+            within = self.words.patience if self.has_answered else until - began
             try:
-                session = Connection(self.words.port, self.words.host, within=self.words.patience)
-                self.compare(session)
-                return session
+                session = Connection(self.words.port, self.words.host, within=max(within, FIRST_PAUSE))
+                asked(session, 0, 0)  # its answer says that there is a seat
+                self.has_answered, before = True, None
+                session.socket.settimeout(max(self.words.patience, FIRST_PAUSE))
+                self.go_on(session)
             except (OSError, Ended) as error:
-                fault = error
-        return sys.exit(f"{name()}: no leader at port {self.words.port} within {self.words.patience} seconds: {fault}")
+                fault = self.fault(error)
+            if session:
+                session.abandon()
+            now = time.monotonic()
+            if now - began > LONGEST_OF_OPEN and before is None:
+                wait = FIRST_PAUSE
+            if not self.has_answered and now + wait >= until:
+                sys.exit(f"{name()}: no leader at port {self.words.port}: {fault}")
+            if fault != before:
+                say(f"no leader at port {self.words.port}, trying again: {fault}")
+            before = fault
+            pause(wait)
+            wait = min(2 * wait, LONGEST_OF_OPEN if session else LONGEST_PAUSE)
 
-    def compare(self, session):
-        place, told = 0, hashlib.sha256()
-        while place < self.place:
-            lines, length = asked(session, place, min(STEP, self.place - place))
-            if not lines:
-                other_list(f"the leader has another list: it ends at change {length}, and change {self.place} was printed")
-            place += len(lines)
-            note(told, lines)
-        if told.digest() != self.told.digest():
-            other_list(f"the leader has another list: the changes up to {place} are others than were printed")
+    def fault(self, error):
+        if isinstance(error, TimeoutError) or isinstance(error.__cause__, TimeoutError):
+            return f"no answer in {self.words.patience:g} seconds"
+        return "the connection was closed" if isinstance(error, Ended) else str(error)
 
     def go_on(self, session):
-        """Prints what is new, until the connection breaks."""
-        wait, last, beat = SOON, time.monotonic(), self.words.beat
+        """Compares the list with what was printed, and prints what is new, until the connection breaks."""
+        place, wait, last, beat = 0, SOON, time.monotonic(), self.words.beat
         while True:
-            lines, length = asked(session, self.place, STEP)
-            if lines or (beat and time.monotonic() - last >= beat):
-                show([*lines, b"TAILED %d %d" % (length, len(lines))])
+            known = len(self.told)
+            lines, length = asked(session, place, min(STEP, known - place) or STEP)
+            if place < known:
+                self.compare(place, lines, length)
+                new = []
+            else:
+                new = lines
+            if new or (beat and time.monotonic() - last >= beat):
+                show([*new, b"TAILED %d %d" % (length, len(new))])
                 last = time.monotonic()
+            self.told.extend(map(hash, new))
+            place += len(lines)
             if lines:
-                self.place += len(lines)
-                note(self.told, lines)
                 wait = SOON
             else:
                 pause(wait)
                 wait = min(2 * wait, LATER)
+
+    def compare(self, place, lines, length):
+        for at, line in enumerate(lines, place):
+            if hash(line) != self.told[at]:
+                other_list(f"the leader has another list: its change at place {at} isn't the one that was printed")
+        if not lines and not self.is_short:
+            say(f"the list has {length} changes, and {len(self.told)} were printed: waiting")
+        self.is_short = not lines or (self.is_short and place + len(lines) < len(self.told))
 
 
 def asked(session, place, most):
@@ -81,28 +110,15 @@ def asked(session, place, most):
             sys.exit(f"{name()}: no reply to TAIL: {last[:200]!r}")
 
 
-def note(told, lines):
-    for line in lines:
-        told.update(line + b"\n")
-
-
 def main():
     words = argparse.ArgumentParser(description=__doc__, formatter_class=argparse.RawDescriptionHelpFormatter)
     words.add_argument("port", type=port)
     words.add_argument("--host", default="127.0.0.1")
     words.add_argument("--patience", type=seconds, default=30.0, metavar="SECONDS", help="how long the leader may be away at the start, and at most take for a reply")
     words.add_argument("--beat", type=seconds, metavar="SECONDS", help="print a line that says nothing where nothing came for so long")
-    teller = Teller(words.parse_args())
-    until = time.monotonic() + teller.words.patience
+    words = words.parse_args()
     with writing():
-        while True:
-            session = teller.session(until)
-            try:
-                teller.go_on(session)
-            except Ended as error:
-                say(f"the leader is gone, trying again: {error}")
-                session.abandon()
-            until = float("inf")
+        Teller(words).run()
 
 
 if __name__ == "__main__":
