@@ -37,5 +37,5 @@ returns-in-Err-clause-runs g c =
     let s = arc_value c.in-Ok.schema in
     let same : s ≡ c.args.schema = search rules in
     let runs = mirror_failed told read kept s c.args.port c.args.seats c.args.links before after door door' c.in-Err.fault refl
-        (λ beyond is. c.run_pair-run.ensures.ahead beyond (c.in-Err.is ∙ ap (λ x. Err x) is)) c.in-Err.ensures.fault in
+    (λ beyond is. c.run_pair-run.ensures.ahead beyond (c.in-Err.is ∙ ap (λ x. Err x) is)) c.in-Err.ensures.fault in
     rw c.from.ensures (subst (λ x. RunsMirror told read kept x c.args.port c.args.seats c.args.links before after door door' (status_of_mirror c.in-Err.fault)) same runs)
