@@ -37,10 +37,10 @@ leave() {
     stayed="$(measure 5 staying "$1" "$2")" && left="$(measure 5 leaving "$1" "$2")" || exit 1
     awk -v a="$left" -v b="$stayed" 'BEGIN { print a - b }'
 }
-one="$(leave 100000 0)" && two="$(leave 200000 0)" && beside="$(leave 100000 100000)" || exit 1
-awk -v one="$one" -v two="$two" -v beside="$beside" 'BEGIN {
-    printf "a leave of 100,000 rows | %.0f ms, %.0f ns a row; of 200,000: %.2f times as long; beside 100,000 of another seat: %.2f times as long\n",
-        1e3 * one, 1e9 * one / 100000, two / one, beside / one
+one="$(leave 100000 1)" && two="$(leave 200000 1)" && beside="$(leave 100000 100000)" && alone="$(leave 100000 0)" || exit 1
+awk -v one="$one" -v two="$two" -v beside="$beside" -v alone="$alone" 'BEGIN {
+    printf "a leave of 100,000 rows beside one of another seat | %.0f ms, %.0f ns a row; of 200,000: %.2f times as long; beside 100,000: %.2f times as long; beside none: %.2f times as long\n",
+        1e3 * one, 1e9 * one / 100000, two / one, beside / one, alone / one
 }'
 awk -v once="$(memory bounded "$count" 0)" -v twice="$(memory bounded $((2 * count)) 0)" -v live="$(memory only 100000 0)" -v lives="$(memory only 200000 0)" -v count="$count" 'BEGIN {
     printf "memory of an entry of the list, where half of them subscribe and 1,000 rows live | %.0f bytes\n", 1024 * (twice - once) / count

@@ -5,7 +5,7 @@ use Rattle.std.specs.List.{slice_get}
 use Rattle.std.specs.Map.{lookup}
 use Rattle.std.specs.BTreeMap.{is_at}
 use Rattle.std.specs.BTreeMap.Range.{IsLeBy, IsLtBy}
-use Rattle.std.specs.Ordering.{nat_cmp, ordering_then, is_gt}
+use Rattle.std.specs.Ordering.{nat_cmp, ordering_then, is_gt, is_lt}
 use Rattle.std.specs.declared.cmp.Ordering.TheVariants.{Less}
 use Rattle.std.proofs.lemmas.Bool.{ltb-true, ltb-false}
 use Rattle.std.proofs.lemmas.Bool.Decides.{nat_tests}
@@ -184,3 +184,19 @@ pub after_none : (es : List ((ℕ × ℕ) × ℕ)) (key block top : ℕ) → 2 ^
     → IsLeast (is_noted es key) ((block + 1) * 32) None
 after_none es key block top all none i low high =
     noted_in es key i ∙ ap (λ (o : Option ℕ). is_in o (i % 32)) (none (key, i / 32) (lies_behind key block top (i / 32) (omega arith) (omega (arith, all))))
+
+-- a place that stands there has a block
+has_block : (o : Option ℕ) (j : ℕ) → is_in o j ≡ true → IsSome o
+has_block None j e = absurd cc
+has_block (Some marks) j e = refl
+
+between : (key f t x y : ℕ) → is_gt (ordering_then (nat_cmp key x) (nat_cmp f y)) ≡ false → is_lt (ordering_then (nat_cmp key x) (nat_cmp t y)) ≡ false → x ≡ key
+between key f t x y low high = grind (arith, nat_tests)
+
+-- where the first block and the last one have the same key, all places stand under it
+pub only_key : (es : List ((ℕ × ℕ) × ℕ)) (key f t : ℕ)
+    → ((q : ℕ × ℕ) → IsSome (at es q) → is_gt (pair_cmp (key, f) q) ≡ false) → ((q : ℕ × ℕ) → IsSome (at es q) → is_lt (pair_cmp (key, t) q) ≡ false)
+    → (k i : ℕ) → is_noted es k i ≡ true → k ≡ key
+only_key es key f t low high k i e =
+    let there = has_block (at es (k, i / 32)) (i % 32) (sym (noted_in es k i) ∙ e) in
+    between key f t k (i / 32) (low (k, i / 32) there) (high (k, i / 32) there)

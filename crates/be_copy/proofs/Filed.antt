@@ -1,6 +1,7 @@
 -- Rows that are filed under a key, as rows come and go.
-use Rattle.std.proofs.Common.{◌≡◌, ℕ, ◌==◌, ◌&&◌, Bool, true, false, not, cond, [], ◌∷◌, Option, Some, None, refl, sym, ap, ◌∙◌, arith}
-use Rattle.std.proofs.lemmas.Bool.{eqb-true, eqb-false, or_parts}
+use Rattle.std.proofs.Common.{◌≡◌, ℕ, ◌==◌, ◌&&◌, Bool, true, false, not, cond, [], ◌∷◌, Option, Some, None, refl, sym, ap, ◌∙◌, subst, arith}
+use Rattle.std.proofs.lemmas.Bool.{eqb-true, eqb-false, or_parts, OnTrue_at, OnTrue_from}
+use Rattle.std.specs.Bool.{OnTrue}
 use Rattle.std.proofs.lemmas.Bool.Decides.{nat_tests}
 use Rattle.be_base.specs.Text.{Text, same_text}
 use Rattle.be_base.proofs.SameText.{equal_from_same_text}
@@ -16,7 +17,7 @@ use Rattle.be_copy.specs.Bitmaps.{is_noted}
 use Rattle.be_copy.specs.declared.register.Register.{Register}
 use Rattle.be_copy.specs.declared.wanted.Wanted.{Wanted}
 use Rattle.be_copy.specs.declared.wanted.Wanted.TheVariants.{Named, Own, Of}
-use Rattle.be_copy.specs.Registers.{is_keyed, AreFiled, IsRegister, is_found, session_of_row, key_of_row}
+use Rattle.be_copy.specs.Registers.{is_keyed, AreFiled, IsRegister, is_found, session_of_row, key_of_row, AreWanted}
 use Rattle.be_copy.specs.Wanted.{wants}
 use Rattle.std.specs.Option.{is_some}
 
@@ -173,3 +174,16 @@ is_there r m w i is found = by_row (row_at i m) refl (keyed r m w i is found)
     by_row : (o : Option Row) → row_at i m ≡ o → is_some o ≡ true → (row : Row) × (row_at i m ≡ Some row)
     by_row None e h = absurd cc
     by_row (Some row) e h = (row, e)
+
+same_number : (n : ℕ) → (n == n) ≡ true
+same_number n = grind (arith, nat_tests)
+
+-- where no session but one has rows, its rows are all
+pub only_wanted : (b : Bool) (r : Register) (session : SessionNo) (w : Wanted) → w ≡ Of session
+    → OnTrue b ((k i : ℕ) → is_noted r.sessions.blocks.entries k i ≡ true → k ≡ session.0)
+    → OnTrue b ((m : ByIds) → IsRegister r m → AreWanted w m)
+only_wanted b r session w is only = OnTrue_from b ((m : ByIds) → IsRegister r m → AreWanted w m) (λ e m filed i row at.
+    let own : is_noted r.sessions.blocks.entries (session_of_row row) i ≡ true =
+    filed.sessions (session_of_row row) i ∙ ap (is_keyed session_of_row (session_of_row row)) at ∙ same_number (session_of_row row) in
+    subst (λ (x : Wanted). wants x (i, row) ≡ true) (sym is)
+    (subst (λ (n : ℕ). (session_of_row row == n) ≡ true) (OnTrue_at e only (session_of_row row) i own) (same_number (session_of_row row))))

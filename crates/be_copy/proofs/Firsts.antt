@@ -40,6 +40,9 @@ find_at p (x ∷ xs) id row up there wanted none = step (x.0 == id) refl there (
 abbrev pub no_pair : Option (ℕ × Row)
 no_pair = None
 
+abbrev pub no_rows : ByIds
+no_rows = []
+
 abbrev pub nothing : Option Row
 nothing = None
 
@@ -186,3 +189,10 @@ pub passed_row : (r : Register) (h : List Entry) (m : ByIds) (w : Wanted) (from 
 passed_row r h m w from id lent filed none skipped at is passed =
     let own : wants w (id_of at.row, at.row) ≡ false = sym (ap (λ (x : Row). wants w (id_of x, x)) is) ∙ passed in
     none_next m w id at.row (none_passed r m w from id filed none skipped) at.there (wants_anywhere w id (id_of at.row) at.row ∙ own)
+
+-- where all rows pass, none is left
+pub all_go : (p : ℕ × Row → Bool) (m : ByIds) → Rising m → ((i : ℕ) (row : Row) → row_at i m ≡ Some row → p (i, row) ≡ true) → no_rows ≡ filter (λ (r : ℕ × Row). not (p r)) m
+all_go p [] up pass = refl
+all_go p (x ∷ xs) up pass =
+    all_go p xs up.1 (λ i row at. pass i row (row_at-later x xs i row up at))
+    ∙ ap (λ (b : Bool). cond (not b) (x ∷ filter (λ (r : ℕ × Row). not (p r)) xs) (filter (λ (r : ℕ × Row). not (p r)) xs)) (sym (pass x.0 x.1 (row_at-first x xs x.0 refl)))

@@ -44,6 +44,10 @@ is_found r (Of session) i = is_noted r.sessions.blocks.entries session.0 i
 abbrev pub AreOfList : List Entry → ByIds → Type 0
 AreOfList h m = (i : ℕ) (row : Row) → row_at i m ≡ Some row → row_in (slice_get h i) ≡ Some row
 
+-- each row is wanted
+abbrev pub AreWanted : Wanted → ByIds → Type 0
+AreWanted w m = (i : ℕ) (row : Row) → row_at i m ≡ Some row → wants w (i, row) ≡ true
+
 -- the row stands at its id and is wanted
 pub record IsWantedRow (w : Wanted) (m : ByIds) (row : Row) : Type 0 where
   pub there : row_at (id_of row) m ≡ Some row

@@ -1,6 +1,7 @@
 //! Places of rows, each under a number, where neighbours stand under the same one mostly.
 
 ghost use Rattle.std.specs.Prelude.{◌≡◌, ℕ, ◌+◌, ◌-◌, ◌*◌, ◌/◌, ◌^◌, ◌<◌, ◌≤◌, true, false, [], cond, Some, IfSome, IfNone, OnOk, OnErr};
+ghost use Rattle.std.specs.Bool.{OnTrue};
 ghost use Rattle.be_copy.specs.Bitmaps.{is_noted};
 ghost use Rattle.be_copy.specs.Places.{is_pair, IsLeast};
 
@@ -55,6 +56,23 @@ impl Bitmaps {
         if !marks.take((place % BLOCK) as u32) {
             self.blocks.remove(&block);
         }
+    }
+
+    /// True only where every place stands under this key.
+    pub fn has_only(&self, key: u64) -> bool
+        ensures { OnTrue result ((k i : ℕ) → is_noted self.now.blocks.entries k i ≡ true → k ≡ key) }
+    {
+        match (self.blocks.first_key_value(), self.blocks.last_key_value()) {
+            (Some((first, _)), Some((last, _))) => first.0 == key && last.0 == key,
+            _ => false,
+        }
+    }
+
+    /// Takes all places away.
+    pub fn clear(&mut self)
+        ensures { self.new.blocks.entries ≡ [] }
+    {
+        self.blocks.clear();
     }
 
     /// The first place under the key that is not below `from`.

@@ -130,7 +130,7 @@ fn drop_row<I: Index>(index: &mut I, register: &mut Register, row: &Row)
     index.remove(row);
 }
 
-/// Takes out each wanted row. It takes no memory.
+/// Takes out each wanted row: all at once where the register shows that there are no others. It takes no memory.
 pub fn remove_wanted<I: Index>(
     log: &ChangeLog,
     index: &mut I,
@@ -145,6 +145,11 @@ pub fn remove_wanted<I: Index>(
     ensures schema { I.schema index.new ≡ I.schema index.old }
     ensures bounded { I.is_bounded index.new ≡ I.is_bounded index.old }
 {
+    if register.has_only(wanted) {
+        index.clear();
+        register.clear();
+        return;
+    }
     let key = wanted.key();
     while let Some(row) = first(log, index, register, wanted, key) {
         drop_row(index, register, row);

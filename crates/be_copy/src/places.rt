@@ -40,6 +40,13 @@ impl Places {
         self.pairs.remove(&(key, place));
     }
 
+    /// Takes all places away.
+    pub fn clear(&mut self)
+        ensures { self.new.pairs.keys ≡ [] }
+    {
+        self.pairs.clear();
+    }
+
     /// The first place under the key that is not below `from`.
     pub fn next(&self, key: u64, from: u64) -> Option<u64>
         ensures { IsLeast (is_listed self.now.pairs.keys key) from result }

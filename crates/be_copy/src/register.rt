@@ -1,10 +1,11 @@
 //! A register of rows: their ids by session, and by name.
 
 ghost use Rattle.std.specs.Prelude.{◌≡◌, false, [], Some, OnOk, OnErr};
+ghost use Rattle.std.specs.Bool.{OnTrue};
 ghost use Rattle.be_model.specs.ByIds.{ByIds, put_by_id, without_id, has_id, row_at};
 ghost use Rattle.be_model.specs.Rows.{id_of};
 ghost use Rattle.be_copy.specs.Places.{IsLeast};
-ghost use Rattle.be_copy.specs.Registers.{IsRegister, is_found};
+ghost use Rattle.be_copy.specs.Registers.{IsRegister, is_found, AreWanted};
 ghost use Rattle.be_copy.specs.Wanted.{key_of};
 
 use crate::bitmaps::Bitmaps;
@@ -57,6 +58,25 @@ impl Register {
     {
         self.sessions.drop_pair(row.session.0, row.id.0);
         self.names.drop_pair(name_key(&row.name), row.id.0);
+    }
+
+    /// Whether it can tell that every row is wanted. It never can where they are looked for by name.
+    pub fn has_only(&self, wanted: Wanted<'_>) -> bool
+        ensures { OnTrue result ((m : ByIds) → IsRegister self.now m → AreWanted wanted.entry m) }
+    {
+        match wanted {
+            Wanted::Of(session) => self.sessions.has_only(session.0),
+            Wanted::Named(_) => false,
+            Wanted::Own(_, _) => false,
+        }
+    }
+
+    /// Takes all rows out.
+    pub fn clear(&mut self)
+        ensures { IsRegister self.new [] }
+    {
+        self.sessions.clear();
+        self.names.clear();
     }
 
     /// The next id, not below `from`, that stands under the session of the wanted rows, or under the number of their name.

@@ -1,6 +1,7 @@
 -- The rows of a session that leaves, taken out one after another.
-use Rattle.std.proofs.Common.{◌≡◌, ℕ, ◌+◌, ◌≤◌, ◌<◌, ◌==◌, ◌^◌, Bool, true, false, not, List, filter, Option, Some, None, slice_get, refl, sym, ap, ◌∙◌, subst, arith}
+use Rattle.std.proofs.Common.{◌≡◌, ℕ, ◌+◌, ◌≤◌, ◌<◌, ◌==◌, ◌^◌, Bool, true, false, not, List, [], filter, Option, Some, None, slice_get, refl, sym, ap, ◌∙◌, subst, arith}
 use Rattle.be_base.specs.declared.limits.TheConstants.{LOG_CHANGES}
+use Rattle.be_base.specs.declared.names.SessionNo.{SessionNo}
 use Rattle.be_model.specs.declared.changes.Row.{Row}
 use Rattle.be_model.specs.Rows.{id_of}
 use Rattle.be_model.specs.ByIds.{ByIds, is_of, row_at, without_id}
@@ -13,12 +14,19 @@ use Rattle.be_index.specs.Promise.{IsMap}
 use Rattle.be_index.proofs.Maps.{filtered_map}
 use Rattle.be_copy.specs.declared.register.Register.{Register as Filed}
 use Rattle.be_copy.specs.Bitmaps.{is_noted}
-use Rattle.be_copy.specs.Registers.{IsRegister as IsFiled, AreOfList, is_keyed, session_of_row}
+use Rattle.be_copy.specs.Registers.{IsRegister as IsFiled, AreOfList, AreWanted, is_keyed, session_of_row}
+use Rattle.be_copy.specs.Wanted.{wants}
+use Rattle.be_copy.specs.declared.wanted.Wanted.TheVariants.{Of}
 use Rattle.be_copy.proofs.Filed.{other_key}
-use Rattle.be_copy.proofs.Firsts.{find_none, none_goes, left_without, only_at, listed_without}
+use Rattle.be_copy.proofs.Firsts.{find_none, none_goes, all_go, left_without, only_at, listed_without}
 use Rattle.be_desk.specs.declared.register.Register.{Register}
 use Rattle.be_desk.specs.Registers.{IsRegister}
 use Rattle.be_desk.proofs.Filing.{one_less}
+
+-- where all rows are the session's, none is left
+pub leave_all : (r : Register) (h : List Entry) (session : SessionNo) → IsMap (live h) → IsFiled r.filed [] → r.count ≡ 0 → AreWanted (Of session) (live h)
+    → IsRegister r (filter (λ x. not (is_of session.0 x)) (live h))
+leave_all r h session map filed empty wanted = subst (IsRegister r) (all_go (wants (Of session)) (live h) map.rising wanted) (record { filed = filed; count = empty })
 
 -- these rows are still there
 pub record IsLeft (r : Register) (h : List Entry) (k : ℕ) (rows : ByIds) : Type 0 where

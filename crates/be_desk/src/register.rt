@@ -18,7 +18,8 @@ use std::alloc::Global;
 use std::sync::Arc;
 
 /// Where the live rows of a list are found by name and by session, and how many there are. A call takes the time of one digest of a
-/// long name and of a look-up, and a glance at each row whose name has the same number; `leave` takes that for each row of its session.
+/// long name and of a look-up, and a glance at each row whose name has the same number; `leave` takes that for each
+/// row of its session. Where no other session has rows it only clears the register.
 #[derive(Drop)]
 pub struct Register {
     filed: be_copy::Register,
@@ -100,6 +101,11 @@ impl Register {
     {
         // That ids are small comes to light at the list's length.
         let _ = list.len();
+        if self.filed.has_only(Wanted::Of(session)) {
+            self.filed.clear();
+            self.count = 0;
+            return;
+        }
         while let Some(id) = self.filed.sessions.next(session.0, 0) {
             let Some(row) = list.row(Id(id)) else {
                 unreachable!();

@@ -1,11 +1,12 @@
 -- All links of a door, served and closed.
-use Rattle.std.proofs.Common.{◌≡◌, ℕ, zero, suc, ◌+◌, ◌*◌, ◌/◌, ◌<◌, ◌≤◌, Bool, true, false, ◌||◌, List, [], ◌∷◌, ◌++◌, length, map, max, fold, sum_by, Some, None, slice_get, refl, sym, ap, ◌∙◌, subst, arith}
-use Rattle.std.specs.Prelude.{if◌then◌else◌, find}
+use Rattle.std.proofs.Common.{◌≡◌, ℕ, zero, suc, ◌+◌, ◌*◌, ◌/◌, ◌<◌, ◌≤◌, Bool, true, false, ◌||◌, List, [], ◌∷◌, ◌++◌, length, map, max, fold, sum_by, Some, slice_get, refl, sym, ap, ◌∙◌, subst, arith}
+use Rattle.std.specs.Prelude.{if◌then◌else◌}
 use Rattle.std.specs.List.{All, Any, Contains, list_any, flat_map, range_with_len}
 use Rattle.std.proofs.Math.Nat.{mul-div_cancel}
 use Rattle.std.proofs.lemmas.List.{length-map, nil_from_length}
 use Rattle.std.proofs.lemmas.List.Concat.{length-flat_map, flat_map-cons}
-use Rattle.std.proofs.lemmas.List.Elements.{All-cons, All-contains, All-head, All-map, All-nil, All-tail}
+use Rattle.std.proofs.lemmas.List.Elements.{All-contains, All-head, All-map, All-tail}
+use Rattle.std.proofs.lemmas.List.Folds.{list_any_none}
 use Rattle.std.proofs.lemmas.List.FromFn.{length-range_with_len}
 use Rattle.std.proofs.lemmas.List.Sums.{sum_by-cons}
 use Rattle.std.proofs.lemmas.Option.{slice_get-get_or, slice_get_within}
@@ -25,16 +26,17 @@ use Rattle.be_door.specs.Sums.{no_sums}
 use Rattle.be_protocol.specs.declared.ends.SessionEnd.{SessionEnd}
 use Rattle.be_protocol.specs.declared.ends.SessionEnd.TheVariants.{Eof, Quit, ReadFault, WriteFault, Spent, Split, NoMemory}
 use Rattle.be_hub.specs.Closing.{KeepsAll}
-use Rattle.be_hub.specs.Files.{lacks_memory, is_split_end}
+use Rattle.be_hub.specs.Files.{is_split_end}
 use Rattle.be_hub.specs.Links.{MayStart, session_at, IsCounted, IsOfLink, SeatVisit, WorkerServed}
 use Rattle.be_hub.specs.Serving.{IsLegalLink, ServedLink, IsServedLink, AreApart, session_and_link, told_of, AreKept, LinksAreServed}
 use Rattle.be_hub.specs.Settling.{IsUnbroken, CountsSplits}
 use Rattle.be_hub.proofs.Ends.{there, at_its_place}
 use Rattle.be_hub.proofs.Pairs.{get_map, one_at, map_at}
 use Rattle.be_hub.proofs.Choices.{AreChosen, choose, maps_same, flat_maps_same, sums_alike}
-use Rattle.be_hub.proofs.LinksLegal.{legal_link}
+use Rattle.be_hub.proofs.LinksLegal.{shut_of, shut_agrees, none_shut, legal_link}
 use Rattle.be_hub.proofs.Places.{all_from_places, any_at, at_of_all, flat_differs, flat_has, in_flat, EachDiffers}
 use Rattle.be_hub.proofs.FilesClosed.{seat_at, there_mapped}
+use Rattle.be_hub.proofs.Shuts.{Stays, same_test, none_at, stays_on}
 
 same_number : (q i j a : ℕ) → 0 < q → a + i * q ≡ a + j * q → i ≡ j
 same_number q i j a some same =
@@ -102,9 +104,9 @@ module _ {L : Type 0} where
 abbrev pair : ℕ → LinkState → ℕ × LinkState
 pair a x = (a, x)
 
--- a visit as what was served
-abbrev pub served_link : SeatVisit → ServedLink
-served_link v = record { session = v.entered.session; link = v.link; end = v.end }
+-- a visit as what was served, where this is whether a reply says that a reader was refused
+abbrev pub served_link : Bool → SeatVisit → ServedLink
+served_link shut v = record { session = v.entered.session; link = v.link; end = v.end; shut = shut }
 
 module _ {L : Type 0} (told : L → LinkState) {E : Type 0} (seat_in : E → SeatState) (count_in : E → CountState L) (ends_in : E → List SessionEnd) (calls_in : E → ℕ) (s : Attributes) (boxes : List TableId) (opening : List Entry) (door : DoorState L)
     (ends : List E) (seats : List SeatState) (first : seats ≡ map (first_seat opening boxes) (range_with_len 0 (length boxes))) (count : length ends ≡ length boxes)
@@ -142,11 +144,22 @@ module _ {L : Type 0} (told : L → LinkState) {E : Type 0} (seat_in : E → Sea
     abbrev visits_at : (j : ℕ) (e : E) → slice_get ends j ≡ Some e → List SeatVisit
     visits_at j e at = (served_at j e at).links.visits
 
+    abbrev shut_at : (j : ℕ) (e : E) (at : slice_get ends j ≡ Some e) (k : ℕ) (v : SeatVisit) → slice_get (visits_at j e at) k ≡ Some v → Bool
+    shut_at j e at k v there = shut_of s boxes (session_at (length boxes) (first_seat opening boxes j).session k) (first_seat opening boxes j) (seat_in e) v ((served_at j e at).links.served k v there)
+
+    abbrev IsLinkOf : (j : ℕ) (e : E) → slice_get ends j ≡ Some e → ℕ → SeatVisit → ServedLink → Type 0
+    IsLinkOf j e at k v x = (there : slice_get (visits_at j e at) k ≡ Some v) × (served_link (shut_at j e at k v there) v ≡ x)
+
     abbrev IsListOf : ℕ → E → List ServedLink → Type 0
-    IsListOf j e ls = (at : slice_get ends j ≡ Some e) × (ls ≡ map served_link (visits_at j e at))
+    IsListOf j e ls = (at : slice_get ends j ≡ Some e) × (length ls ≡ length (visits_at j e at)) × AreChosen (IsLinkOf j e at) (visits_at j e at) ls
+
+    list_of : (j : ℕ) (e : E) → slice_get ends j ≡ Some e → (ls : List ServedLink) × IsListOf j e ls
+    list_of j e at =
+        let c = choose (IsLinkOf j e at) (visits_at j e at) (λ k v there. (served_link (shut_at j e at k v there) v, (there, refl))) in
+        (c.0, (at, c.1, c.2))
 
     lists : (lss : List (List ServedLink)) × (length lss ≡ length ends) × AreChosen IsListOf ends lss
-    lists = choose IsListOf ends (λ j e at. (map served_link (visits_at j e at), (at, refl)))
+    lists = choose IsListOf ends list_of
 
     -- all links that were served, by workers and then in their order
     abbrev all_served : List ServedLink
@@ -160,8 +173,8 @@ module _ {L : Type 0} (told : L → LinkState) {E : Type 0} (seat_in : E → Sea
 
     -- the visit of a link in the list of a place
     visit_in : (j : ℕ) (e : E) (ls : List ServedLink) (k : ℕ) (x : ServedLink) → (is : IsListOf j e ls) → slice_get ls k ≡ Some x
-        → (v : SeatVisit) × (slice_get (visits_at j e is.0) k ≡ Some v) × (served_link v ≡ x)
-    visit_in j e ls k x is at = get_map served_link (visits_at j e is.0) k x (subst (λ l. slice_get l k ≡ Some x) is.1 at)
+        → (v : SeatVisit) × (there : slice_get (visits_at j e is.0) k ≡ Some v) × (served_link (shut_at j e is.0 k v there) v ≡ x)
+    visit_in j e ls k x is at = let c = is.2 k x at in (c.0, c.2.0, c.2.1)
 
     session_in : (j : ℕ) (e : E) (ls : List ServedLink) (k : ℕ) (x : ServedLink) → IsListOf j e ls → slice_get ls k ≡ Some x → x.session ≡ session_at (length boxes) (first_seat opening boxes j).session k
     session_in j e ls k x is at =
@@ -191,7 +204,7 @@ module _ {L : Type 0} (told : L → LinkState) {E : Type 0} (seat_in : E → Sea
     many_in j e ls is =
         let w = served_at j e is.0 in
         let v = visits_at j e is.0 in
-        ap (λ l. length l) is.1 ∙ (length-map v served_link ∙ (sym (length-map v (λ (x : SeatVisit). x.end)) ∙ (ap (λ l. length l) (sym w.links.ends_are) ∙ (sym w.links.back ∙ sym w.all_back))))
+        is.1 ∙ (sym (length-map v (λ (x : SeatVisit). x.end)) ∙ (ap (λ l. length l) (sym w.links.ends_are) ∙ (sym w.links.back ∙ sym w.all_back)))
 
     -- as many were served as were given out
     many_served : length all_served ≡ (with_counts no_sums counts).given
@@ -211,7 +224,7 @@ module _ {L : Type 0} (told : L → LinkState) {E : Type 0} (seat_in : E → Sea
         list_is j e ls at_ls at = let of = lists.2 j ls at_ls in subst (λ (x : E). IsListOf j x ls) (one_at ends j of.0 e of.1 at) of.2
 
     module _ (h : List Entry) (back : List SeatState) (shuts : Bool) (links : ℕ) (keeps : Bool) (some : 0 < length boxes) (kept_seats : All (IsKeptSeat boxes) back) (is : back ≡ map seat_in ends)
-        (quiet : shuts ≡ false → All (λ e. (seat_in e).glass.shuts ≡ 0) ends) (unbroken : All (λ e. All IsUnbroken (ends_in e)) ends)
+        (quiet : shuts ≡ false → All (λ e. (seat_in e).glass.shuts ≡ 0) ends) (loud : All (λ e. (seat_in e).glass.shuts ≡ 0) ends → shuts ≡ false) (unbroken : All (λ e. All IsUnbroken (ends_in e)) ends)
         (formed : IsWellFormed h) (keeps_all : All (KeepsAll boxes h) back) (recorded : AreRecorded (length h) h back) (opened : IsOpened opening h) (door_keeps : keeps ≡ door.keeps)
         (none_refused : (with_counts no_sums counts).refused ≡ 0) (all_links : (with_counts no_sums counts).given + (with_counts no_sums counts).failed ≡ links)
       where
@@ -230,7 +243,15 @@ module _ {L : Type 0} (told : L → LinkState) {E : Type 0} (seat_in : E → Sea
             let placed = flat_has (λ (ls : List ServedLink). ls) lists.0 found.0 list.0 of.0 x.0 list.1 x.1 in
             any_at (λ (y : ServedLink). y.session ≡ session_of e) all_served placed.0 x.0 placed.1 (session_in found.0 end.0 list.0 of.0 x.0 list.2 x.1 ∙ sym of.2)
 
-        is_served_link : (i : ℕ) (x : ServedLink) → slice_get all_served i ≡ Some x → IsServedLink s (length opening) h shuts (with_counts no_sums counts) x
+        ended_at : (j : ℕ) (e : E) (at : slice_get ends j ≡ Some e) (k : ℕ) (v : SeatVisit) → slice_get (visits_at j e at) k ≡ Some v → slice_get (ends_in e) k ≡ Some v.end
+        ended_at j e at k v there =
+            let w = served_at j e at in
+            subst (λ es. slice_get es k ≡ Some v.end) (sym w.links.ends_are) (map_at (λ (v : SeatVisit). v.end) w.links.visits k v there)
+
+        unbroken_at : (j : ℕ) (e : E) (at : slice_get ends j ≡ Some e) (k : ℕ) (v : SeatVisit) → slice_get (visits_at j e at) k ≡ Some v → IsUnbroken v.end
+        unbroken_at j e at k v there = at_of_all IsUnbroken (ends_in e) k v.end (at_of_all (λ e. All IsUnbroken (ends_in e)) ends j e unbroken at) (ended_at j e at k v there)
+
+        is_served_link : (i : ℕ) (x : ServedLink) → slice_get all_served i ≡ Some x → IsServedLink s (length opening) h (with_counts no_sums counts) x
         is_served_link i x at =
             let f = in_flat (λ (ls : List ServedLink). ls) lists.0 i x at in
             let of = lists.2 f.0 f.1 f.3 in
@@ -238,17 +259,42 @@ module _ {L : Type 0} (told : L → LinkState) {E : Type 0} (seat_in : E → Sea
             let v = visit_in f.0 of.0 f.1 f.2 x of.2 f.4 in
             let k = session_at (length boxes) (first_seat opening boxes f.0).session f.2 in
             let l = w.links.served f.2 v.0 v.1 in
-            let end_at : slice_get (ends_in of.0) f.2 ≡ Some v.0.end = subst (λ es. slice_get es f.2 ≡ Some v.0.end) (sym w.links.ends_are) (map_at (λ (v : SeatVisit). v.end) w.links.visits f.2 v.0 v.1) in
+            let end_at = ended_at f.0 of.0 of.2.0 f.2 v.0 v.1 in
             let seat_back : slice_get back f.0 ≡ Some (seat_in of.0) = there_mapped seat_in ends back is f.0 of.0 of.1 in
-            let legal = legal_link s boxes (length opening) h shuts k (first_seat opening boxes f.0) (seat_in of.0) v.0 l (at_of_all (KeepsAll boxes h) back f.0 (seat_in of.0) keeps_all seat_back)
-            (omega arith) (λ none. at_of_all (λ e. (seat_in e).glass.shuts ≡ 0) ends f.0 of.0 (quiet none) of.1)
-            (at_of_all IsUnbroken (ends_in of.0) f.2 v.0.end (at_of_all (λ e. All IsUnbroken (ends_in e)) ends f.0 of.0 unbroken of.1) end_at) in
+            let legal = legal_link s boxes (length opening) h k (first_seat opening boxes f.0) (seat_in of.0) v.0 l (at_of_all (KeepsAll boxes h) back f.0 (seat_in of.0) keeps_all seat_back)
+            (omega arith) (unbroken_at f.0 of.0 of.2.0 f.2 v.0 v.1) in
             let count_at = map_at count_in ends f.0 of.0 of.1 in
-            subst (IsServedLink s (length opening) h shuts (with_counts no_sums counts)) v.2 (record {
+            subst (IsServedLink s (length opening) h (with_counts no_sums counts)) v.2 (record {
               somebody = subst (λ n. 0 < n) (sym l.session_is) l.somebody;
-              legal = subst (λ n. IsLegalLink s n (length opening) h shuts v.0.link v.0.end) (sym l.session_is) legal;
+              legal = subst (λ n. IsLegalLink s n (length opening) h (shut_at f.0 of.0 of.2.0 f.2 v.0 v.1) v.0.link v.0.end) (sym l.session_is) legal;
               counted = counted_in counts f.0 (count_in of.0) v.0.end count_at (at_of_all (IsCounted (sums_of (count_in of.0))) (ends_in of.0) f.2 v.0.end w.links.counted end_at);
             })
+
+        -- no reply says that a reader was refused where no seat counted one
+        quiet_link : shuts ≡ false → (i : ℕ) (x : ServedLink) → slice_get all_served i ≡ Some x → x.shut ≡ false
+        quiet_link off i x at =
+            let f = in_flat (λ (ls : List ServedLink). ls) lists.0 i x at in
+            let of = lists.2 f.0 f.1 f.3 in
+            let v = visit_in f.0 of.0 f.1 f.2 x of.2 f.4 in
+            ap (λ (l : ServedLink). l.shut) (sym v.2)
+            ∙ none_shut s boxes (session_at (length boxes) (first_seat opening boxes f.0).session f.2) (first_seat opening boxes f.0) (seat_in of.0) v.0 ((served_at f.0 of.0 of.2.0).links.served f.2 v.0 v.1)
+            (unbroken_at f.0 of.0 of.2.0 f.2 v.0 v.1) (at_of_all (λ e. (seat_in e).glass.shuts ≡ 0) ends f.0 of.0 (quiet off) of.1)
+
+        -- no seat counted one where no reply says it
+        quiet_seat : list_any (λ (l : ServedLink). l.shut) all_served ≡ false → (j : ℕ) (e : E) → slice_get ends j ≡ Some e → (seat_in e).glass.shuts ≡ 0
+        quiet_seat off j e at =
+            let list = list_at j e at in
+            let w = served_at j e list.2.0 in
+            stays_on s (length boxes) (first_seat opening boxes j) (seat_in e) w.links.visits w.links.chain (all_from_places Stays w.links.visits (stays list.0 list.1 list.2)) refl
+          where
+            stays : (ls : List ServedLink) → slice_get lists.0 j ≡ Some ls → (is : IsListOf j e ls) → (k : ℕ) (v : SeatVisit) → slice_get (visits_at j e is.0) k ≡ Some v → Stays v
+            stays ls at_ls is k v here =
+                let x = there ls k (omega (arith, slice_get_within (visits_at j e is.0) k v here, is.1)) in
+                let u = visit_in j e ls k x.0 is x.1 in
+                let placed = flat_has (λ (ls : List ServedLink). ls) lists.0 j ls k x.0 at_ls x.1 in
+                let none_says = none_at (λ (l : ServedLink). l.shut) all_served placed.0 x.0 off placed.1 in
+                let told = shut_agrees s boxes (session_at (length boxes) (first_seat opening boxes j).session k) (first_seat opening boxes j) (seat_in e) u.0 ((served_at j e is.0).links.served k u.0 u.1) (unbroken_at j e is.0 k u.0 u.1) in
+                subst Stays (one_at (visits_at j e is.0) k u.0 v u.1 here) (told.stays (ap (λ (l : ServedLink). l.shut) u.2 ∙ none_says))
 
         -- what a worker kept are the links that it served
         kept_same : (j : ℕ) (e : E) (ls : List ServedLink) → keeps ≡ true → IsListOf j e ls → map (told_of told) (count_in e).kept ≡ map session_and_link ls
@@ -300,7 +346,10 @@ module _ {L : Type 0} (told : L → LinkState) {E : Type 0} (seat_in : E → Sea
           served = all_served;
           count = many_served;
           apart = are_apart some;
-          each = all_from_places (IsServedLink s (length opening) h shuts (with_counts no_sums counts)) all_served is_served_link;
+          each = all_from_places (IsServedLink s (length opening) h (with_counts no_sums counts)) all_served is_served_link;
+          some_shut = same_test shuts (list_any (λ (l : ServedLink). l.shut) all_served)
+              (λ off. list_any_none (λ (l : ServedLink). l.shut) all_served (all_from_places (λ (l : ServedLink). l.shut ≡ false) all_served (quiet_link off)))
+              (λ off. loud (all_from_places (λ e. (seat_in e).glass.shuts ≡ 0) ends (quiet_seat off)));
           sessions = in_sessions;
           kept_are = are_kept keeps refl;
         }
@@ -310,39 +359,6 @@ module _ {L : Type 0} (told : L → LinkState) {E : Type 0} (seat_in : E → Sea
 
             plus_none : (n : ℕ) → 0 < 0 + n → 0 < n
             plus_none n some = omega (arith, some)
-
--- where no session lacked memory and none ended by a SPLIT
-unbroken_all : (xs : List SessionEnd) → list_any lacks_memory xs ≡ false → list_any is_split_end xs ≡ false → All IsUnbroken xs
-unbroken_all [] m s = All-nil IsUnbroken
-unbroken_all (x ∷ xs) m s = go (lacks_memory x) refl (is_split_end x) refl m s (unbroken_all xs)
-  where
-    here : (y : SessionEnd) → lacks_memory y ≡ false → is_split_end y ≡ false → IsUnbroken y
-    here Eof a b = tt
-    here Quit a b = tt
-    here ReadFault a b = tt
-    here WriteFault a b = tt
-    here Spent a b = tt
-    here (Split i j) a b = absurd cc
-    here NoMemory a b = absurd cc
-
-    go : (a : Bool) → lacks_memory x ≡ a → (b : Bool) → is_split_end x ≡ b → (a || list_any lacks_memory xs) ≡ false → (b || list_any is_split_end xs) ≡ false
-        → (list_any lacks_memory xs ≡ false → list_any is_split_end xs ≡ false → All IsUnbroken xs) → All IsUnbroken (x ∷ xs)
-    go true is b it m s rest = absurd cc
-    go false is true it m s rest = absurd cc
-    go false is false it m s rest = All-cons IsUnbroken x xs (here x is it) (rest m s)
-
-pub all_unbroken : {E : Type 0} (ends_in : E → List SessionEnd) (ends : List E) → list_any (λ e. list_any lacks_memory (ends_in e)) ends ≡ false → find (λ e. list_any is_split_end (ends_in e)) ends ≡ None
-    → All (λ e. All IsUnbroken (ends_in e)) ends
-all_unbroken ends_in [] m s = All-nil (λ e. All IsUnbroken (ends_in e))
-all_unbroken {E} ends_in (e ∷ es) m s = go (list_any lacks_memory (ends_in e)) refl (list_any is_split_end (ends_in e)) refl m s (all_unbroken ends_in es)
-  where
-    go : (a : Bool) → list_any lacks_memory (ends_in e) ≡ a → (b : Bool) → list_any is_split_end (ends_in e) ≡ b → (a || list_any (λ x. list_any lacks_memory (ends_in x)) es) ≡ false
-        → (if b then Some e else find (λ x. list_any is_split_end (ends_in x)) es) ≡ None
-        → (list_any (λ x. list_any lacks_memory (ends_in x)) es ≡ false → find (λ x. list_any is_split_end (ends_in x)) es ≡ None → All (λ x. All IsUnbroken (ends_in x)) es)
-        → All (λ x. All IsUnbroken (ends_in x)) (e ∷ es)
-    go true is b it m s rest = absurd cc
-    go false is true it m s rest = absurd cc
-    go false is false it m s rest = All-cons (λ x. All IsUnbroken (ends_in x)) e es (unbroken_all (ends_in e) is it) (rest m s)
 
 -- the seats at the beginning may start
 pub may_start : (opening : List Entry) (boxes : List TableId) (seats : List SeatState) → seats ≡ map (first_seat opening boxes) (range_with_len 0 (length boxes)) → length boxes ≤ SEATS → All MayStart seats

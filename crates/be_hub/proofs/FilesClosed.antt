@@ -17,10 +17,11 @@ use Rattle.be_protocol.specs.declared.ends.SessionEnd.{SessionEnd}
 use Rattle.be_protocol.specs.declared.ends.SessionEnd.TheVariants.{Eof, Quit, ReadFault, WriteFault, Spent, Split, NoMemory}
 use Rattle.be_hub.specs.Closing.{KeepsAll}
 use Rattle.be_hub.specs.Files.{FileServed, IsFileEnd, IsRead, lacks_memory, is_split_end, IsEndOf}
-use Rattle.be_hub.specs.Transcripts.{IsTranscript, AreServed}
+use Rattle.be_hub.specs.Transcripts.{says_shut, IsTranscript, AreServed}
 use Rattle.be_hub.proofs.Ends.{there, at_its_place}
-use Rattle.be_hub.proofs.Pairs.{get_map, one_at}
+use Rattle.be_hub.proofs.Pairs.{get_map, map_at, one_at}
 use Rattle.be_hub.proofs.Places.{at_of_all}
+use Rattle.be_hub.proofs.Shuts.{not_false, one_risen}
 use Rattle.be_hub.proofs.Transcripts.{transcript_of, own_session, end_of_file}
 
 read_else : (end : SessionEnd) → lacks_memory end ≡ false → is_split_end end ≡ false → IsFileEnd end → IsRead end
@@ -112,32 +113,50 @@ module _ {E F : Type 0} (seat_in : E → SeatState) (text_in : E → List ℕ) (
         let one = served_at k e (slice_get-get_or ends k d lt) in
         end_of_file s (bytes_in one.0) (text_in e) (first_seat opening boxes k) (seat_in e) (end_in e) one.2
 
-    pub are_served : (h : List Entry) (back : List SeatState) (shuts : Bool) (texts : List (List ℕ)) → All (λ e. IsRead (end_in e)) ends → All (IsKeptSeat boxes) back → back ≡ map seat_in ends → texts ≡ map text_in ends
-        → (shuts ≡ false → All (λ e. (seat_in e).glass.shuts ≡ 0) ends) → IsWellFormed h → All (KeepsAll boxes h) back → AreRecorded (length h) h back → IsOpened opening h
-        → AreServed s opening h shuts (map bytes_in files) texts
-    are_served h back shuts texts read kept is texts_are quiet formed keeps recorded opened = record {
-      formed = formed;
-      begins = opened.begins;
-      sessions = λ p e le at.
-          let some = opened.behind p e le at in
-          let found = recorded p e (slice_get_within h p e at) at some in
-          let stands : slice_get back found.0 ≡ Some found.1 = slice_get-get_or back found.0 found.1 found.2 ∙ ap (λ (x : SeatState). Some x) found.3 in
-          let end = get_map seat_in ends found.0 found.1 (subst (λ (l : List SeatState). slice_get l found.0 ≡ Some found.1) is stands) in
-          let one = served_at found.0 end.0 end.1 in
-          let session = own_session s (bytes_in one.0) (text_in end.0) (first_seat opening boxes found.0) (seat_in end.0) (end_in end.0) p e one.2 refl (subst (λ (x : SeatState). Contains x.own (p, e)) (sym end.2) found.4) in
-          (some, omega (arith, session, slice_get_within files found.0 one.0 one.1, length-map files bytes_in));
-      count = ap (λ (l : List (List ℕ)). length l) texts_are ∙ (length-map ends text_in ∙ (count ∙ sym (length-map files bytes_in)));
-      each = λ i file text at_file at_text.
-          let end = get_map text_in ends i text (subst (λ (l : List (List ℕ)). slice_get l i ≡ Some text) texts_are at_text) in
-          let mine = get_map bytes_in files i file at_file in
-          let one = served_at i end.0 end.1 in
-          let same : one.0 ≡ mine.0 = one_at files i one.0 mine.0 one.1 mine.1 in
-          let seat = seat_in end.0 in
-          let at_back : slice_get back i ≡ Some seat = there_mapped seat_in ends back is i end.0 end.1 in
-          let kept_seat : IsKeptSeat boxes seat = at_of_all (IsKeptSeat boxes) back i seat kept at_back in
-          let keeps_seat = at_of_all (KeepsAll boxes h) back i seat keeps at_back in
-          subst (λ (x : List ℕ). IsTranscript s (i + 1) (length opening) h shuts x text) (ap bytes_in same ∙ mine.2)
-          (subst (λ (x : List ℕ). IsTranscript s (i + 1) (length opening) h shuts (bytes_in one.0) x) end.2
-          (transcript_of s (length opening) h shuts (bytes_in one.0) (text_in end.0) (first_seat opening boxes i) seat (end_in end.0) one.2 (at_of_all (λ e. IsRead (end_in e)) ends i end.0 read end.1)
-          (keeps_seat seat.session kept_seat.somebody kept_seat.seat_is) (omega arith) (λ e. at_of_all (λ x. (seat_in x).glass.shuts ≡ 0) ends i end.0 (quiet e) end.1)));
-    }
+    module _ (h : List Entry) (back : List SeatState) (shuts : Bool) (texts : List (List ℕ)) (read : All (λ e. IsRead (end_in e)) ends) (kept : All (IsKeptSeat boxes) back) (is : back ≡ map seat_in ends) (texts_are : texts ≡ map text_in ends)
+        (quiet : shuts ≡ false → All (λ e. (seat_in e).glass.shuts ≡ 0) ends) (loud : All (λ e. (seat_in e).glass.shuts ≡ 0) ends → shuts ≡ false)
+        (formed : IsWellFormed h) (keeps : All (KeepsAll boxes h) back) (recorded : AreRecorded (length h) h back) (opened : IsOpened opening h)
+      where
+        -- the transcript of a file. Where it doesn't say that a reader was refused, none was at the file's seat
+        abbrev IsOfPlace : ℕ → (file text : List ℕ) → Type 0
+        IsOfPlace i file text =
+            (t : IsTranscript s (i + 1) (length opening) h shuts file text) × ((e : E) → slice_get ends i ≡ Some e → says_shut t.exchanges ≡ false → (seat_in e).glass.shuts ≡ 0)
+
+        transcript_at : (i : ℕ) (file text : List ℕ) → slice_get (map bytes_in files) i ≡ Some file → slice_get texts i ≡ Some text → IsOfPlace i file text
+        transcript_at i file text at_file at_text =
+            let end = get_map text_in ends i text (subst (λ (l : List (List ℕ)). slice_get l i ≡ Some text) texts_are at_text) in
+            let mine = get_map bytes_in files i file at_file in
+            let one = served_at i end.0 end.1 in
+            let same : one.0 ≡ mine.0 = one_at files i one.0 mine.0 one.1 mine.1 in
+            let seat = seat_in end.0 in
+            let at_back : slice_get back i ≡ Some seat = there_mapped seat_in ends back is i end.0 end.1 in
+            let kept_seat : IsKeptSeat boxes seat = at_of_all (IsKeptSeat boxes) back i seat kept at_back in
+            let keeps_seat = at_of_all (KeepsAll boxes h) back i seat keeps at_back in
+            let told = transcript_of s (length opening) h shuts (bytes_in one.0) (text_in end.0) (first_seat opening boxes i) seat (end_in end.0) one.2 (at_of_all (λ e. IsRead (end_in e)) ends i end.0 read end.1)
+            (keeps_seat seat.session kept_seat.somebody kept_seat.seat_is) (omega arith) (λ e. at_of_all (λ x. (seat_in x).glass.shuts ≡ 0) ends i end.0 (quiet e) end.1) refl in
+            subst (λ (x : List ℕ). IsOfPlace i x text) (ap bytes_in same ∙ mine.2)
+            (subst (λ (x : List ℕ). IsOfPlace i (bytes_in one.0) x) end.2
+            (told.0, λ e at few. subst (λ (x : E). (seat_in x).glass.shuts ≡ 0) (one_at ends i end.0 e end.1 at) (told.1 few)))
+
+        pub are_served : AreServed s opening h shuts (map bytes_in files) texts
+        are_served = record {
+          formed = formed;
+          begins = opened.begins;
+          sessions = λ p e le at.
+              let some = opened.behind p e le at in
+              let found = recorded p e (slice_get_within h p e at) at some in
+              let stands : slice_get back found.0 ≡ Some found.1 = slice_get-get_or back found.0 found.1 found.2 ∙ ap (λ (x : SeatState). Some x) found.3 in
+              let end = get_map seat_in ends found.0 found.1 (subst (λ (l : List SeatState). slice_get l found.0 ≡ Some found.1) is stands) in
+              let one = served_at found.0 end.0 end.1 in
+              let session = own_session s (bytes_in one.0) (text_in end.0) (first_seat opening boxes found.0) (seat_in end.0) (end_in end.0) p e one.2 refl (subst (λ (x : SeatState). Contains x.own (p, e)) (sym end.2) found.4) in
+              (some, omega (arith, session, slice_get_within files found.0 one.0 one.1, length-map files bytes_in));
+          count = ap (λ (l : List (List ℕ)). length l) texts_are ∙ (length-map ends text_in ∙ (count ∙ sym (length-map files bytes_in)));
+          each = λ i file text at_file at_text. (transcript_at i file text at_file at_text).0;
+          some_shut = λ refused.
+              let risen = one_risen (λ e. (seat_in e).glass.shuts) ends (λ all. let no = loud all in absurd cc) in
+              let one = served_at risen.0 risen.1 risen.2 in
+              let here = map_at bytes_in files risen.0 one.0 one.1 in
+              let there = subst (λ (l : List (List ℕ)). slice_get l risen.0 ≡ Some (text_in risen.1)) (sym texts_are) (map_at text_in ends risen.0 risen.1 risen.2) in
+              let t = transcript_at risen.0 (bytes_in one.0) (text_in risen.1) here there in
+              (risen.0, bytes_in one.0, text_in risen.1, here, there, not_false (says_shut t.0.exchanges) (λ few. risen.3 (t.1 risen.1 risen.2 few)));
+        }

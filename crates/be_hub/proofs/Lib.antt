@@ -6,6 +6,7 @@ pub mod Pairs
 pub mod Choices
 pub mod Closing
 pub mod Ends
+mod Shuts
 mod Transcripts
 mod FilesClosed
 pub mod Places
@@ -16,4 +17,5 @@ mod LinksBegun
 mod LinksLegal
 pub mod WereRead
 mod DoorSettled
+mod Unbroken
 mod DoorServed

@@ -1,5 +1,5 @@
 -- What the workers leave, read over the list that the close gives.
-use Rattle.std.proofs.Common.{◌≡◌, ℕ, ◌<◌, ◌≤◌, inl, inr, Bool, true, false, not, ◌&&◌, List, [], ◌∷◌, ◌++◌, length, map, Option, Some, None, option_map, ◌==◌, refl, sym, ap, ◌∙◌, subst, arith}
+use Rattle.std.proofs.Common.{◌≡◌, ℕ, ◌<◌, ◌≤◌, inl, inr, Bool, true, false, not, List, [], ◌∷◌, ◌++◌, length, map, Option, Some, None, option_map, ◌==◌, refl, sym, ap, ◌∙◌, subst, arith}
 use Rattle.std.specs.Prelude.{if◌then◌else◌}
 use Rattle.std.specs.List.{All, Contains, list_all, filter}
 use Rattle.std.proofs.lemmas.Bool.{and_parts, and_from, eqb-true}
@@ -24,10 +24,11 @@ use Rattle.be_protocol.specs.declared.ends.SessionEnd.TheVariants.{Eof, Quit, Re
 use Rattle.be_protocol.specs.Ends.{end_after, is_on, goes_on}
 use Rattle.be_protocol.specs.Conversation.{Replied}
 use Rattle.be_session.specs.Served.{SessionEnds, session_terms}
-use Rattle.be_session.specs.Tied.{is_shut, is_split}
+use Rattle.be_session.specs.Tied.{is_split}
 use Rattle.be_session.proofs.Quits.{Ended, by_split, by_quit, by_none, ended_of, has_no_quit, quits_at}
 use Rattle.be_hub.specs.Files.{file_link, FileServed, IsRead, is_split_end, IsEndOf}
-use Rattle.be_hub.specs.Transcripts.{AreServedLines, ShutsOnly, IsTranscript}
+use Rattle.be_hub.specs.Transcripts.{AreServedLines, says_shut, IsTranscript}
+use Rattle.be_hub.proofs.Shuts.{shuts_only, agrees}
 
 -- a reply that doesn't end its session by two numbers isn't a SPLIT
 not_split : (r : Request) (t : Reply) → ((i j : ℕ) → end_after r t ≡ Some (Split i j) → ⊥) → not (is_split (r, t)) ≡ true
@@ -75,38 +76,28 @@ all_plain_last (q ∷ ps) p on by =
     let parts = and_parts (goes_on q) (list_all goes_on ps) on in
     and_from (plain q) (list_all plain (ps ++ p ∷ [])) (on_is_plain q parts.0) (all_plain_last ps p parts.1 by)
 
--- what isn't counted isn't there
-none_counted : (ps : List Exchange) → length (filter is_shut ps) ≡ 0 → list_all (λ (p : Exchange). not (is_shut p)) ps ≡ true
-none_counted [] few = refl
-none_counted (p ∷ ps) few = go (is_shut p) few (none_counted ps)
-  where
-    go : (b : Bool) → length (if b then p ∷ filter is_shut ps else filter is_shut ps) ≡ 0
-        → (length (filter is_shut ps) ≡ 0 → list_all (λ (q : Exchange). not (is_shut q)) ps ≡ true) → (not b && list_all (λ (q : Exchange). not (is_shut q)) ps) ≡ true
-    go true h rest = absurd (omega (arith, h))
-    go false h rest = rest h
-
-no_rise : (n before after : ℕ) → RisesBy n before after → after ≡ 0 → n ≡ 0
-no_rise n before after rise is = omega (arith, rise, is)
-
-pub shuts_only : (shuts : Bool) (ps : List Exchange) (before after : ℕ) → RisesBy (length (filter is_shut ps)) before after → (shuts ≡ false → after ≡ 0) → ShutsOnly shuts ps
-shuts_only true ps before after rise quiet = tt
-shuts_only false ps before after rise quiet = none_counted ps (no_rise (length (filter is_shut ps)) before after rise (quiet refl))
+-- a legal transcript. The seat's count stays 0 where none of its replies says that a reader was refused
+abbrev pub Told : Attributes → (k z : ℕ) → List Entry → (shuts : Bool) → (file out : List ℕ) → (after : ℕ) → Type 0
+Told s k z h shuts file out after = (t : IsTranscript s k z h shuts file out) × (says_shut t.exchanges ≡ false → after ≡ 0)
 
 out_is : (out text : List ℕ) → Some out ≡ Some text → out ≡ text
 out_is out text e = cc
 
 transcript_from : (s : Attributes) (z : ℕ) (h : List Entry) (shuts : Bool) (file out : List ℕ) (served : List TextLine) (end : Option SessionEnd) (before after : SinkState) (b b' : BoardState)
     → AreServedLines s file served → (r : Replied (session_terms s b b') served end before after) → list_all plain r.exchanges ≡ true → before.held ≡ Some [] → after.held ≡ Some out
-    → Keeps h b'.word → z ≤ length b.word.known → (shuts ≡ false → b'.counts.shuts ≡ 0) → IsTranscript s b.word.session z h shuts file out
-transcript_from s z h shuts file out served end before after b b' read r whole empty wrote keeps within quiet = record {
-  served = served;
-  read = read;
-  exchanges = r.exchanges;
-  legal = (r.legal.borne h z keeps within).0;
-  text = out_is out (texts s r.exchanges) (sym wrote ∙ subst (λ (o : Option (List ℕ)). after.held ≡ option_map (λ (held : List ℕ). held ++ texts s r.exchanges) o) empty r.written);
-  whole = whole;
-  refused = shuts_only shuts r.exchanges b.counts.shuts b'.counts.shuts r.legal.tied.shuts quiet;
-}
+    → Keeps h b'.word → z ≤ length b.word.known → (shuts ≡ false → b'.counts.shuts ≡ 0) → b.counts.shuts ≡ 0 → Told s b.word.session z h shuts file out b'.counts.shuts
+transcript_from s z h shuts file out served end before after b b' read r whole empty wrote keeps within quiet first = (
+  record {
+    served = served;
+    read = read;
+    exchanges = r.exchanges;
+    legal = (r.legal.borne h z keeps within).0;
+    text = out_is out (texts s r.exchanges) (sym wrote ∙ subst (λ (o : Option (List ℕ)). after.held ≡ option_map (λ (held : List ℕ). held ++ texts s r.exchanges) o) empty r.written);
+    whole = whole;
+    refused = shuts_only shuts r.exchanges b.counts.shuts b'.counts.shuts r.legal.tied.shuts quiet;
+  },
+  λ few. (agrees r.exchanges b.counts.shuts b'.counts.shuts r.legal.tied.shuts).stays few first,
+)
 
 told_end : (file : List ℕ) (o : Option (List ℕ)) (ls : List TextLine) → ReadToEnd (Some file) o ls → ls ≡ lines LINE_BYTES true file
 told_end file None ls w = absurd w
@@ -118,20 +109,20 @@ told_first file (Some a) ls w = w.first
 
 -- a file that was read to its end or to a QUIT
 pub transcript_of : (s : Attributes) (z : ℕ) (h : List Entry) (shuts : Bool) (file out : List ℕ) (seat seat' : SeatState) (end : SessionEnd) → FileServed s file seat seat' out end → IsRead end → Keeps h (word_of seat')
-    → z ≤ length seat.glass.known → (shuts ≡ false → seat'.glass.shuts ≡ 0) → IsTranscript s seat.session z h shuts file out
-transcript_of s z h shuts file out seat seat' end f read keeps within quiet = by_end end f.session read
+    → z ≤ length seat.glass.known → (shuts ≡ false → seat'.glass.shuts ≡ 0) → seat.glass.shuts ≡ 0 → Told s seat.session z h shuts file out seat'.glass.shuts
+transcript_of s z h shuts file out seat seat' end f read keeps within quiet first = by_end end f.session read
   where
-    by_end : (x : SessionEnd) → SessionEnds ((seat' ≡ seat) × (out ≡ [])) s (file_link file) f.after (board_of s 0 seat) (board_of s 0 seat') x → IsRead x → IsTranscript s seat.session z h shuts file out
+    by_end : (x : SessionEnd) → SessionEnds ((seat' ≡ seat) × (out ≡ [])) s (file_link file) f.after (board_of s 0 seat) (board_of s 0 seat') x → IsRead x → Told s seat.session z h shuts file out seat'.glass.shuts
     by_end Eof e is =
         transcript_from s z h shuts file out e.lines None (file_link file).sink f.after.sink (board_of s 0 seat) (board_of s 0 seat')
         (inl (told_end file f.after.source.left e.lines e.read, has_no_quit s e.lines e.replied.exchanges e.replied.asked e.replied.ends))
-        e.replied (all_plain e.replied.exchanges e.replied.ends) refl f.wrote keeps within quiet
+        e.replied (all_plain e.replied.exchanges e.replied.ends) refl f.wrote keeps within quiet first
     by_end Quit e is =
         let r = e.replied in
         let asked = subst (λ (ps : List Exchange). requests ps ≡ map (reading s) e.lines) r.ends.2 r.asked in
         transcript_from s z h shuts file out e.lines (Some Quit) (file_link file).sink f.after.sink (board_of s 0 seat) (board_of s 0 seat')
         (inr (told_first file f.after.source.left e.lines e.read, quits_at s e.lines r.ends.0 r.ends.1 asked r.ends.3 r.ends.4))
-        r (subst (λ (ps : List Exchange). list_all plain ps ≡ true) (sym r.ends.2) (all_plain_last r.ends.0 r.ends.1 r.ends.3 r.ends.4)) refl f.wrote keeps within quiet
+        r (subst (λ (ps : List Exchange). list_all plain ps ≡ true) (sym r.ends.2) (all_plain_last r.ends.0 r.ends.1 r.ends.3 r.ends.4)) refl f.wrote keeps within quiet first
     by_end (Split i j) e is = absurd is
     by_end ReadFault e is = absurd is
     by_end WriteFault e is = absurd is

@@ -1,6 +1,5 @@
 -- Where no link has a fault, all were read.
-use Rattle.std.proofs.Common.{◌≡◌, ℕ, zero, suc, ◌+◌, ◌<◌, inr, Bool, false, List, length, ap, ◌∙◌, subst, arith}
-use Rattle.std.proofs.lemmas.List.Elements.{All-weaker}
+use Rattle.std.proofs.Common.{◌≡◌, ℕ, zero, suc, ◌+◌, ◌<◌, inr, Bool, false, List, length, sym, ap, ◌∙◌, subst, arith}
 use Rattle.be_base.specs.declared.names.SessionNo.{SessionNo}
 use Rattle.be_io.specs.Outside.{LinkState}
 use Rattle.be_model.specs.Schemas.{Attributes}
@@ -13,15 +12,17 @@ use Rattle.be_hub.specs.Links.{IsCounted}
 use Rattle.be_base.specs.Counts.{raised, HasRisenBy}
 use Rattle.be_door.specs.Door.{DoorState}
 use Rattle.be_hub.specs.Serving.{IsLegalLink, ServedLink, IsServedLink, AreFaultless, LinksAreServed, WereRead, served_door, IsTried}
+use Rattle.be_hub.proofs.Places.{all_from_places, at_of_all}
+use Rattle.be_hub.proofs.Shuts.{none_at}
 
-read_by : (s : Attributes) (k z : ℕ) (h : List Entry) (shuts : Bool) (link : LinkState) (sums : Sums) (end : SessionEnd) → IsLegalLink s k z h shuts link end → IsCounted sums end → AreFaultless sums → IsRead end
-read_by s k z h shuts link sums Eof l c none = tt
-read_by s k z h shuts link sums Quit l c none = tt
-read_by s k z h shuts link sums ReadFault l c none = absurd (omega (arith, c, none.0))
-read_by s k z h shuts link sums WriteFault l c none = absurd (omega (arith, c, none.1))
-read_by s k z h shuts link sums Spent l c none = absurd (omega (arith, c, none.2))
-read_by s k z h shuts link sums (Split i j) l c none = absurd l
-read_by s k z h shuts link sums NoMemory l c none = absurd l
+read_by : (s : Attributes) (k z : ℕ) (h : List Entry) (shut : Bool) (link : LinkState) (sums : Sums) (end : SessionEnd) → IsLegalLink s k z h shut link end → IsCounted sums end → AreFaultless sums → IsRead end
+read_by s k z h shut link sums Eof l c none = tt
+read_by s k z h shut link sums Quit l c none = tt
+read_by s k z h shut link sums ReadFault l c none = absurd (omega (arith, c, none.0))
+read_by s k z h shut link sums WriteFault l c none = absurd (omega (arith, c, none.1))
+read_by s k z h shut link sums Spent l c none = absurd (omega (arith, c, none.2))
+read_by s k z h shut link sums (Split i j) l c none = absurd l
+read_by s k z h shut link sums NoMemory l c none = absurd l
 
 module _ {L : Type 0} (told : L → LinkState) (s : Attributes) (opening h : List Entry) (shuts : Bool) (links : ℕ) (sums : Sums) (keeps : Bool) (kept : List (SessionNo × L)) where
   pub were_read : (l : LinksAreServed told s opening h shuts links sums keeps kept) → shuts ≡ false → AreFaultless sums → WereRead s opening h links sums l.served
@@ -30,8 +31,11 @@ module _ {L : Type 0} (told : L → LinkState) (s : Attributes) (opening h : Lis
       record {
         given = all;
         back = l.back ∙ all;
-        each = All-weaker (IsServedLink s (length opening) h shuts sums) (λ (x : ServedLink). IsRead x.end × IsLegalLink s x.session (length opening) h false x.link x.end)
-            (λ x k. (read_by s x.session (length opening) h shuts x.link sums x.end k.legal k.counted none, subst (λ b. IsLegalLink s x.session (length opening) h b x.link x.end) is k.legal)) l.served l.each;
+        each = all_from_places (λ (x : ServedLink). IsRead x.end × IsLegalLink s x.session (length opening) h false x.link x.end) l.served
+            (λ i x at.
+            let k = at_of_all (IsServedLink s (length opening) h sums) l.served i x l.each at in
+            let quiet : x.shut ≡ false = none_at (λ (y : ServedLink). y.shut) l.served i x (sym l.some_shut ∙ is) at in
+            (read_by s x.session (length opening) h x.shut x.link sums x.end k.legal k.counted none, subst (λ b. IsLegalLink s x.session (length opening) h b x.link x.end) quiet k.legal));
       }
     where
       none_failed : (a b c : ℕ) → a + b ≡ c → (0 < b → ⊥) → a ≡ c

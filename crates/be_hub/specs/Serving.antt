@@ -1,6 +1,6 @@
 -- What the links of a door gave and hold, over one list of changes, and what was made of the door.
 use Rattle.std.specs.Prelude.{◌≡◌, ℕ, ◌+◌, ◌<◌, ◌≤◌, ◌++◌, ◌⊎◌, Bool, true, false, not, List, [], ◌∷◌, length, map, All, Any, None, IfSome, Some, slice_get}
-use Rattle.std.specs.List.{list_all}
+use Rattle.std.specs.List.{list_all, list_any}
 use Rattle.be_base.specs.Counts.{raised, HasRisen, HasRisenBy}
 use Rattle.be_base.specs.Lists.{BeginsWith}
 use Rattle.be_base.specs.declared.limits.TheConstants.{SOURCE_BYTES}
@@ -21,7 +21,7 @@ use Rattle.be_protocol.specs.declared.ends.SessionEnd.TheVariants.{Eof, Quit, Re
 use Rattle.be_session.specs.Tied.{is_split}
 use Rattle.be_hub.specs.Files.{IsRead}
 use Rattle.be_hub.specs.Links.{IsCounted}
-use Rattle.be_hub.specs.Transcripts.{ShutsOnly}
+use Rattle.be_hub.specs.Transcripts.{says_shut}
 use Rattle.be_hub.specs.declared.close.CloseFault.{CloseFault}
 use Rattle.be_hub.specs.declared.close.CloseFault.TheVariants as close
 use Rattle.be_io.specs.declared.faults.ListenFault.{ListenFault}
@@ -30,8 +30,9 @@ use Rattle.be_hub.specs.declared.serving.ServeFault.{ServeFault}
 use Rattle.be_hub.specs.declared.serving.ServeFault.TheVariants as fault
 
 -- lines that were read so were answered, one reply a line, in order, and the link holds these replies and no other byte, where it
--- tells what it holds, and handed all of them on. They are legal over the list as session k's, which was told z entries before
-pub record AnsweredWhole (Read : List TextLine → Type 0) (s : Attributes) (k z : ℕ) (h : List Entry) (shuts : Bool) (sink : SinkState) : Type 0 where
+-- tells what it holds, and handed all of them on. They are legal over the list as session k's, which was told z entries before.
+-- `shut` is whether one of them says that a reader was refused
+pub record AnsweredWhole (Read : List TextLine → Type 0) (s : Attributes) (k z : ℕ) (h : List Entry) (shut : Bool) (sink : SinkState) : Type 0 where
   pub lines : List TextLine
   pub read : Read lines
   pub exchanges : List Exchange
@@ -39,48 +40,50 @@ pub record AnsweredWhole (Read : List TextLine → Type 0) (s : Attributes) (k z
   pub text : IfSome sink.held (λ out. out ≡ texts s exchanges)
   pub handed : sink.kept_back ≡ 0
   pub whole : list_all (λ (p : Exchange). not (is_split p)) exchanges ≡ true
-  pub refused : ShutsOnly shuts exchanges
+  pub refused : says_shut exchanges ≡ shut
 
--- the same, but that the output broke off at the last reply
-pub record AnsweredInPart (Read : List TextLine → Type 0) (s : Attributes) (k z : ℕ) (h : List Entry) (shuts : Bool) (sink : SinkState) : Type 0 where
+-- the same, but that the output broke off at the last reply, which counts for `shut` as well
+pub record AnsweredInPart (Read : List TextLine → Type 0) (s : Attributes) (k z : ℕ) (h : List Entry) (shut : Bool) (sink : SinkState) : Type 0 where
   pub lines : List TextLine
   pub read : Read lines
   pub exchanges : List Exchange
   pub last : Exchange
   pub legal : AreExchanges s k z h lines (exchanges ++ last ∷ [])
   pub text : IfSome sink.held (λ out. OutputBroke s exchanges last out sink.kept_back)
-  pub refused : ShutsOnly shuts (exchanges ++ last ∷ [])
+  pub refused : says_shut (exchanges ++ last ∷ []) ≡ shut
 
 -- by how the session ended, what a link gave and what it holds. It breaks off only where a write to it or a flush failed
 abbrev pub IsLegalLink : Attributes → (k z : ℕ) → List Entry → Bool → LinkState → SessionEnd → Type 0
 -- read to its end
-IsLegalLink s k z h shuts link Eof =
-    AnsweredWhole (λ lines. ReadToEnd link.source.whole link.source.left lines × HasNoQuit s lines) s k z h shuts link.sink
+IsLegalLink s k z h shut link Eof =
+    AnsweredWhole (λ lines. ReadToEnd link.source.whole link.source.left lines × HasNoQuit s lines) s k z h shut link.sink
 -- read to a QUIT
-IsLegalLink s k z h shuts link Quit =
-    AnsweredWhole (λ lines. ReadFirstLines link.source.whole link.source.left lines × EndsWithQuit s lines) s k z h shuts link.sink
-IsLegalLink s k z h shuts link ReadFault =
-    (0 < link.source.faults) × AnsweredWhole (λ lines. ReadInPart link.source.whole link.source.left lines × HasNoQuit s lines) s k z h shuts link.sink
-IsLegalLink s k z h shuts link Spent =
-    (SOURCE_BYTES ≤ link.source.taken) × AnsweredWhole (λ lines. ReadInPart link.source.whole link.source.left lines × HasNoQuit s lines) s k z h shuts link.sink
-IsLegalLink s k z h shuts link WriteFault =
-    (0 < link.sink.faults) × AnsweredInPart (λ lines. ReadFirstLines link.source.whole link.source.left lines) s k z h shuts link.sink
-IsLegalLink s k z h shuts link end = ⊥
+IsLegalLink s k z h shut link Quit =
+    AnsweredWhole (λ lines. ReadFirstLines link.source.whole link.source.left lines × EndsWithQuit s lines) s k z h shut link.sink
+IsLegalLink s k z h shut link ReadFault =
+    (0 < link.source.faults) × AnsweredWhole (λ lines. ReadInPart link.source.whole link.source.left lines × HasNoQuit s lines) s k z h shut link.sink
+IsLegalLink s k z h shut link Spent =
+    (SOURCE_BYTES ≤ link.source.taken) × AnsweredWhole (λ lines. ReadInPart link.source.whole link.source.left lines × HasNoQuit s lines) s k z h shut link.sink
+IsLegalLink s k z h shut link WriteFault =
+    (0 < link.sink.faults) × AnsweredInPart (λ lines. ReadFirstLines link.source.whole link.source.left lines) s k z h shut link.sink
+IsLegalLink s k z h shut link end = ⊥
 
 -- no fault of any link was counted, and none gave 2^40 bytes
 abbrev pub AreFaultless : Sums → Type 0
 AreFaultless sums = (sums.read_faults ≡ 0) × (sums.write_faults ≡ 0) × (sums.most < SOURCE_BYTES)
 
--- a link that was given out and served: its session, the link as it stood when it came back, and how the session ended
+-- a link that was given out and served: its session, the link as it stood when it came back, how the session ended, and whether
+-- some reply says that a reader was refused
 pub record ServedLink : Type 0 where
   pub session : ℕ
   pub link : LinkState
   pub end : SessionEnd
+  pub shut : Bool
 
 -- the link is legal by how its session ended, and these numbers of all links say it where that was by a fault
-pub record IsServedLink (s : Attributes) (z : ℕ) (h : List Entry) (shuts : Bool) (sums : Sums) (l : ServedLink) : Type 0 where
+pub record IsServedLink (s : Attributes) (z : ℕ) (h : List Entry) (sums : Sums) (l : ServedLink) : Type 0 where
   pub somebody : 0 < l.session
-  pub legal : IsLegalLink s l.session z h shuts l.link l.end
+  pub legal : IsLegalLink s l.session z h l.shut l.link l.end
   pub counted : IsCounted sums l.end
 
 -- no two of these links have the same session
@@ -117,7 +120,9 @@ module _ {L : Type 0} (told : L → LinkState) where
     pub served : List ServedLink
     pub count : length served ≡ sums.given
     pub apart : AreApart served
-    pub each : All (IsServedLink s (length opening) h shuts sums) served
+    pub each : All (IsServedLink s (length opening) h sums) served
+    -- a session's read was refused its entry exactly where a reply to some link says so
+    pub some_shut : shuts ≡ list_any (λ (l : ServedLink). l.shut) served
     pub sessions : (place : ℕ) (e : Entry) → length opening ≤ place → slice_get h place ≡ Some e → Any (λ (l : ServedLink). l.session ≡ session_of e) served
     pub kept_are : AreKept keeps kept served
 

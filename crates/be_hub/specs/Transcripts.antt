@@ -1,6 +1,6 @@
 -- What all files together were given, over one list of changes.
 use Rattle.std.specs.Prelude.{◌≡◌, ℕ, ◌+◌, ◌<◌, ◌≤◌, ◌⊎◌, Bool, true, false, not, List, length, Some, slice_get}
-use Rattle.std.specs.List.{list_all}
+use Rattle.std.specs.List.{list_all, list_any}
 use Rattle.be_base.specs.Lists.{BeginsWith}
 use Rattle.be_base.specs.declared.limits.TheConstants.{LINE_BYTES}
 use Rattle.be_io.specs.Lines.{TextLine, lines}
@@ -16,7 +16,11 @@ abbrev pub AreServedLines : Attributes → List ℕ → List TextLine → Type 0
 AreServedLines s file served =
     ((served ≡ lines LINE_BYTES true file) × HasNoQuit s served) ⊎ (BeginsWith (lines LINE_BYTES true file) served × EndsWithQuit s served)
 
--- readers may have been refused, or no reply says that one was
+-- some reply says that a reader was refused
+abbrev pub says_shut : List Exchange → Bool
+says_shut ps = list_any is_shut ps
+
+-- nothing where some session's read was refused, else that no reply says so
 abbrev pub ShutsOnly : Bool → List Exchange → Type 0
 ShutsOnly true ps = Unit {0}
 ShutsOnly false ps = list_all (λ (p : Exchange). not (is_shut p)) ps ≡ true
@@ -33,7 +37,7 @@ pub record IsTranscript (s : Attributes) (k z : ℕ) (h : List Entry) (shuts : B
   pub refused : ShutsOnly shuts exchanges
 
 -- file i, from 1, was served as session i, over one well formed list that begins with the opening and has changes of these
--- sessions alone behind it
+-- sessions alone behind it. Where a session's read was refused its entry, the transcript of some file says so
 pub record AreServed (s : Attributes) (opening h : List Entry) (shuts : Bool) (files transcripts : List (List ℕ)) : Type 0 where
   pub formed : IsWellFormed h
   pub begins : BeginsWith h opening
@@ -41,3 +45,6 @@ pub record AreServed (s : Attributes) (opening h : List Entry) (shuts : Bool) (f
   pub count : length transcripts ≡ length files
   pub each : (i : ℕ) (file transcript : List ℕ) → slice_get files i ≡ Some file → slice_get transcripts i ≡ Some transcript
       → IsTranscript s (i + 1) (length opening) h shuts file transcript
+  pub some_shut : shuts ≡ true
+      → (i : ℕ) × (file : List ℕ) × (transcript : List ℕ) × (here : slice_get files i ≡ Some file) × (there : slice_get transcripts i ≡ Some transcript)
+      × (says_shut (each i file transcript here there).exchanges ≡ true)

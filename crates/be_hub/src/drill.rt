@@ -1,6 +1,6 @@
 //! Files served and the hub closed, in one call.
 
-ghost use Rattle.std.specs.Prelude.{◌≡◌, ◌≤◌, None, length, map, find, option_copied, All, IfOk};
+ghost use Rattle.std.specs.Prelude.{◌≡◌, ◌≤◌, ◌↔◌, None, length, map, find, option_copied, All, IfOk};
 ghost use Rattle.std.specs.List.{list_any, range_with_len};
 ghost use Rattle.std.specs.Option.{is_some};
 ghost use Rattle.be_base.specs.declared.limits.TheConstants.{FILE_BYTES, SEATS, ROUNDS};
@@ -104,7 +104,7 @@ fn left_by<T: Sheet<J>, J: Naming + BoxNames>(
     ensures transcripts { IfOk result (λ left. map (λ t. t.items) left.transcripts.items ≡ map (λ end. end.transcript.items) ends.items) }
     ensures kept { IfOk result (λ left. All (IsKeptSeat J.boxes) left.seats.items) }
     ensures read { IfOk result (λ _. All (λ end. IsRead end.end) ends.items) }
-    ensures shade { IfOk result (λ left. (left.shade ≡ None) → All (λ end. end.seat.glass.shuts ≡ 0) ends.items) }
+    ensures shade { IfOk result (λ left. (left.shade ≡ None) ↔ All (λ end. end.seat.glass.shuts ≡ 0) ends.items) }
 {
     if let Some(fault) = fault_of(ends.as_slice()) {
         return Err(fault);

@@ -1,6 +1,6 @@
 //! A door settled, once its workers are done.
 
-ghost use Rattle.std.specs.Prelude.{◌≡◌, ◌≤◌, ◌+◌, ◌++◌, ◌∷◌, [], None, length, map, find, option_copied, All, IfOk, IfErr, OnOk};
+ghost use Rattle.std.specs.Prelude.{◌≡◌, ◌≤◌, ◌↔◌, ◌+◌, ◌++◌, ◌∷◌, [], None, length, map, find, option_copied, All, IfOk, IfErr, OnOk};
 ghost use Rattle.std.specs.List.{list_any};
 ghost use Rattle.be_base.specs.declared.limits.TheConstants.{SEATS};
 ghost use Rattle.be_desk.specs.Seats.{IsKeptSeat};
@@ -53,7 +53,7 @@ pub(crate) fn settle_links<T: Sheet<J>, J: Naming + BoxNames, L: Link + Drop, D:
     ensures sums { IfOk result (λ left. left.sums ≡ with_counts no_sums (map (λ end. end.count) ends.items)) }
     ensures none_refused { IfOk result (λ left. left.sums.refused ≡ 0) }
     ensures unbroken { OnOk result (All (λ end. All IsUnbroken end.ends.items) ends.items) }
-    ensures shade { IfOk result (λ left. (left.shade ≡ None) → All (λ end. end.seat.glass.shuts ≡ 0) ends.items) }
+    ensures shade { IfOk result (λ left. (left.shade ≡ None) ↔ All (λ end. end.seat.glass.shuts ≡ 0) ends.items) }
     ensures settled { OnOk result (D.state door.new ≡ after_settle (D.state door.old) (map (λ end. end.count) ends.items)) }
     ensures links { OnOk result ((D.state door.new).given + (D.state door.new).failed + (D.state door.new).refused ≡ (D.state door.new).links) }
     ensures fault { IfErr result (λ fault. MaySettle (D.state door.old) (D.state door.new) (map (λ end. end.count) ends.items) fault) }
@@ -87,7 +87,7 @@ fn part_links<T: Sheet<J>, J: Naming + BoxNames, L: Link + Drop>(
     ensures kept { IfOk result (λ parted. All (IsKeptSeat J.boxes) parted.seats.items) }
     ensures counts { IfOk result (λ parted. parted.counts.items ≡ map (λ end. end.count) ends.items) }
     ensures sums { IfOk result (λ parted. parted.sums ≡ with_counts no_sums (map (λ end. end.count) ends.items)) }
-    ensures shade { IfOk result (λ parted. (parted.shade ≡ None) → All (λ end. end.seat.glass.shuts ≡ 0) ends.items) }
+    ensures shade { IfOk result (λ parted. (parted.shade ≡ None) ↔ All (λ end. end.seat.glass.shuts ≡ 0) ends.items) }
 {
     let mut seats = Vec::new(alloc);
     let mut counts = Vec::new(alloc);

@@ -1,6 +1,6 @@
 //! The index of rows, as whoever uses one sees it.
 
-ghost use Rattle.std.specs.Prelude.{◌≡◌, ◌≢◌, ◌↔◌, ◌<◌, ◌≤◌, true, false, Some, length, OnOk, OnErr, IfOk, IfErr, IfSome, IsTrue};
+ghost use Rattle.std.specs.Prelude.{◌≡◌, ◌≢◌, ◌↔◌, ◌<◌, ◌≤◌, true, false, Some, [], length, OnOk, OnErr, IfOk, IfErr, IfSome, IsTrue};
 ghost use Rattle.std.specs.Arc.{arc_value};
 ghost use Rattle.std.specs.Bool.{OnTrue, OnFalse};
 ghost use Rattle.be_base.specs.declared.limits.TheConstants.{LOG_CHANGES};
@@ -71,6 +71,12 @@ pub trait Index: Drop {
         ensures removed { OnTrue result (rows self.new ≡ without_id (id_of row.now) (rows self.old)) }
         ensures kept { OnFalse result (rows self.new ≡ rows self.old) }
         ensures nothing { OnFalse result (is_unchanged self.old self.new) }
+        ensures schema { schema self.new ≡ schema self.old }
+        ensures bounded { is_bounded self.new ≡ is_bounded self.old };
+
+    /// Takes out all rows. It takes no memory.
+    fn clear(&mut self)
+        ensures rows { rows self.new ≡ [] }
         ensures schema { schema self.new ≡ schema self.old }
         ensures bounded { is_bounded self.new ≡ is_bounded self.old };
 

@@ -87,6 +87,10 @@ impl Index for ListIndex {
         drop_row(&mut self.rows, row)
     }
 
+    fn clear(&mut self) {
+        self.rows.clear();
+    }
+
     fn find<C: Hits>(&self, event: &Event, found: &mut C) -> Result<Cost, NoMemory> {
         put_rows(&self.rows, Wanted::SatisfiedBy(event), found)?;
         Ok(self.cost(event))

@@ -91,7 +91,7 @@ drill_text s transcripts h = headed 1 transcripts ++ log_text s h
 
 -- the sessions of the files were served over one list, which was printed behind their transcripts: whole, or a beginning of it
 -- all, or whole and not all handed on. Each transcript is legal over the list, which is well formed, begins with the rows, and has the sessions' changes alone
--- behind them. Where no reader may have been refused, no reply is SHUT
+-- behind them. Where a session's read was refused, some reply is SHUT; otherwise none is
 pub record Printed (s : Attributes) (rows : List Row) (scripts : List Text) (shuts : Bool) (before after : SinkState) (result : Result (Unit {0}) SinkFault) : Type 0 where
   pub list : List Entry
   pub transcripts : List Text
@@ -106,7 +106,7 @@ EndsAfter P shuts WriteFault = P (Err sink.Failed)
 EndsAfter P shuts NoMemory = P (Err sink.NoMemory)
 EndsAfter P shuts _ = ⊥
 
--- how the sessions of some files may end, where Prints says what was then written, by whether a reader may have been refused.
+-- how the sessions of some files may end, where Prints says what was then written, by whether a session's read was refused.
 -- Kept says that the output is as it was
 abbrev pub SessionsEnd : Type 0 → (Bool → Result (Unit {0}) SinkFault → Type 0) → Status → Type 0
 SessionsEnd Kept Prints Done = Prints false (Ok tt)

@@ -51,7 +51,7 @@ FailsAt door door' port links seats fault = LeavesDoor door door' port links sea
 module _ {L : Type 0} (told : L → LinkState) where
   -- the links were served over one list, which was printed with the number of those that the door gave out: whole, or a beginning
   -- of it all, or whole and not all handed on. The list is well formed, begins with the rows, and has the changes of the links' sessions alone behind them; each
-  -- link is legal over it. Which links these are, a door tells that keeps them
+  -- link is legal over it. A session's read was refused exactly where a reply to a link is SHUT. Which links these are, a door tells that keeps them
   pub record Served (s : Attributes) (rows : List Row) (port seats links : ℕ) (door door' : DoorState L) (before after : SinkState) (status : Status) : Type 0 where
     pub list : List Entry
     pub sums : Sums

@@ -35,6 +35,13 @@ impl Node {
         }
     }
 
+    // Another node without rows, which takes its memory from the same source.
+    pub(crate) fn bare(&self) -> Node
+        ensures { plain result ≡ node [] no_part no_half no_half }
+    {
+        Node::make(*self.parts.allocator())
+    }
+
     /// Whether it has no rows, parts or halves.
     pub fn is_bare(&self) -> bool
         ensures { result ≡ is_bare (plain self.now) }

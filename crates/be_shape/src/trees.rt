@@ -51,6 +51,16 @@ impl Tree {
         }
     }
 
+    /// Takes out all rows. It takes no memory.
+    pub fn clear(&mut self)
+        ensures root { plain self.new.root ≡ node [] no_part no_half no_half }
+        ensures contents { contents (plain self.new.root) ≡ [] }
+        ensures schema { self.new.schema ≡ self.old.schema }
+        ensures alpha { self.new.alpha ≡ self.old.alpha }
+    {
+        self.root = self.root.bare();
+    }
+
     pub fn root(&self) -> &Node
         ensures { result.now ≡ self.now.root }
     {

@@ -95,6 +95,10 @@ impl Index for BeTree {
         take(&mut self.tree, row).is_some()
     }
 
+    fn clear(&mut self) {
+        self.tree.clear();
+    }
+
     fn step(&mut self, step: &Step) -> StepDone {
         apply(&mut self.tree, step)
     }

@@ -31,6 +31,11 @@ impl Grown {
         }
     }
 
+    /// Takes out all rows. Ids go on from where they were.
+    pub fn clear(&mut self) {
+        self.tree.clear();
+    }
+
     /// Places a row that has the next id and lies in the schema, and says whether it stands there then.
     pub fn put(&mut self, row: Arc<Row>) -> bool {
         self.try_put(row).is_ok()

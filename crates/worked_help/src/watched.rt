@@ -69,6 +69,10 @@ impl<I: Index> Index for Watched<I> {
         self.index.remove(row)
     }
 
+    fn clear(&mut self) {
+        self.index.clear();
+    }
+
     fn find<C: Hits>(&self, event: &Event, found: &mut C) -> Result<Cost, NoMemory> {
         self.finds.fetch_add(1, Ordering::SeqCst);
         self.index.find(event, found)

@@ -99,6 +99,35 @@ fn rows_of_one_price_leave_no_node_behind(rt: HostRuntime) -> Result<(), Fail> {
     Ok(())
 }
 
+// What the tree shows of its shape: its rows, the parts and the rows of its root, and whether a node stands there.
+fn shape_of(tree: &Tree, path: &Path) -> (u64, usize, usize, bool) {
+    (
+        tree.len(),
+        tree.root.parts.len(),
+        tree.root.leaf.len(),
+        is_there(tree, path),
+    )
+}
+
+#[test]
+fn a_tree_that_is_cleared_grows_as_a_new_one(rt: HostRuntime) -> Result<(), Fail> {
+    let alloc = rt.alloc();
+    let mut grown = Grown::make(alloc, schema_of_four(alloc)?);
+    let mut path = Path::make(alloc);
+    path.push(Hop::Part(AttrNo(0)))?;
+    path.push(Hop::Low)?;
+    for _ in 0..3 {
+        for number in 0..400usize {
+            let _ = put(&rt, alloc, &mut grown, MIXED[number % 12])?;
+        }
+        // Each condition tests the price, the side or `one`, so that no part by quantity is made.
+        assert_eq!(rt; shape_of(&grown.tree, &path), (400, 3, 0, true));
+        grown.clear();
+        assert_eq!(rt; shape_of(&grown.tree, &path), (0, 0, 0, false));
+    }
+    Ok(())
+}
+
 #[test]
 fn a_row_that_differs_is_not_taken(rt: HostRuntime) -> Result<(), Fail> {
     let alloc = rt.alloc();

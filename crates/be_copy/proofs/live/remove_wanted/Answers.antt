@@ -8,7 +8,7 @@ use Rattle.be_index.specs.Promise.{IsMap}
 use Rattle.be_index.proofs.Maps.{filtered_map}
 use Rattle.be_copy.specs.Registers.{AreOfList}
 use Rattle.be_copy.specs.Wanted.{wants}
-use Rattle.be_copy.proofs.Firsts.{fewer, listed_without, left_without, only_at, none_goes, unmapped}
+use Rattle.be_copy.proofs.Firsts.{fewer, listed_without, left_without, only_at, none_goes, all_go, unmapped}
 use Rattle.be_copy.proofs.live.remove_wanted.Goals as goal
 
 pub loop-row-smaller : goal.loop-row-smaller
@@ -39,3 +39,8 @@ returns-clause-rows g c =
     let rows = g.I.Index.rows c.loop-row.index in
     let w = c.args.wanted in
     sym (none_goes (wants w) rows (unmapped (find (wants w) rows) c.in_default.ensures.first)) ∙ c.loop-row.invariant.left
+
+pub returns-then-has_only-clause-rows : goal.returns-then-has_only-clause-rows
+returns-then-has_only-clause-rows g c =
+    let rows = g.I.Index.rows c.args.index.now in
+    c.clear.ensures.rows ∙ all_go (wants c.args.wanted) rows c.requires.map.rising (c.if-has_only.ensures rows c.requires.filed)

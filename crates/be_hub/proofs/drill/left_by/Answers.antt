@@ -1,10 +1,11 @@
-use Rattle.std.proofs.Common.{◌≡◌, ◌++◌, [], ◌∷◌, map, sym, ap, subst, ◌∙◌, append_assoc, rules}
+use Rattle.std.proofs.Common.{◌≡◌, ◌++◌, [], ◌∷◌, map, Some, refl, sym, ap, subst, ◌∙◌, append_assoc, rules}
 use Rattle.std.specs.List.{All}
 use Rattle.std.proofs.lemmas.List.{map-append}
-use Rattle.std.proofs.lemmas.List.Elements.{All-push}
+use Rattle.std.proofs.lemmas.List.Elements.{All-pop, All-push}
 use Rattle.be_desk.specs.Seats.{IsKeptSeat}
 use Rattle.be_hub.proofs.Closing.{was_pushed}
 use Rattle.be_hub.proofs.Ends.{map_push}
+use Rattle.be_hub.proofs.Shuts.{none_of_both}
 use Rattle.be_hub.proofs.drill.left_by.Goals as goal
 
 pub loop-end-preserved : goal.loop-end-preserved
@@ -20,5 +21,8 @@ loop-end-preserved g c =
       subst (All (IsKeptSeat g.J.BoxNames.boxes)) (sym seats) (All-push (IsKeptSeat g.J.BoxNames.boxes) c.loop-end.seats.items e.seat i.4 c.session.ensures.kept),
       map_push (λ x. x.transcript.items) c.loop-end.yielded e (map (λ t. t.items) c.loop-end.transcripts.items) (map (λ t. t.items) c.push-else-is_err.new.self.items) i.5
           (ap (map (λ t. t.items)) texts ∙ map-append (λ t. t.items) c.loop-end.transcripts.items (e.transcript ∷ [])),
-      λ none. All-push (λ x. x.seat.glass.shuts ≡ 0) c.loop-end.yielded e (i.6 (search rules)) (c.shade.ensures.0 (search rules)),
+      (
+        (λ none. All-push (λ x. x.seat.glass.shuts ≡ 0) c.loop-end.yielded e (i.6.0 (search rules)) (c.shade.ensures.0 (search rules))),
+        (λ all. let parts = All-pop (λ x. x.seat.glass.shuts ≡ 0) (c.loop-end.yielded ++ e ∷ []) c.loop-end.yielded (Some e) refl all in none_of_both c.loop-end.shade c.shade.result c.or-shade.result c.or-shade.ensures (i.6.1 parts.0) (c.shade.ensures.1 parts.1)),
+      ),
     )

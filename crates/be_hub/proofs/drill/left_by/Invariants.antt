@@ -1,5 +1,5 @@
--- The seats and transcripts so far are those of the ends so far, and no reader of them was refused where there is no shade.
-use Rattle.std.proofs.Common.{◌≡◌, ◌++◌, map, None}
+-- The seats and transcripts so far are those of the ends so far, and no reader of them was refused exactly where there is no shade.
+use Rattle.std.proofs.Common.{◌≡◌, ◌++◌, ◌↔◌, map, None}
 use Rattle.std.specs.List.{All}
 use Rattle.be_desk.specs.Seats.{IsKeptSeat}
 use Rattle.be_hub.proofs.drill.left_by.Given as goal
@@ -12,4 +12,4 @@ invariant-loop-end g l =
     × (l.seats.items ≡ map (λ end. end.seat) l.yielded)
     × All (IsKeptSeat g.J.BoxNames.boxes) l.seats.items
     × (map (λ t. t.items) l.transcripts.items ≡ map (λ end. end.transcript.items) l.yielded)
-    × ((l.shade ≡ None) → All (λ end. end.seat.glass.shuts ≡ 0) l.yielded)
+    × ((l.shade ≡ None) ↔ All (λ end. end.seat.glass.shuts ≡ 0) l.yielded)

@@ -2,7 +2,7 @@ use Rattle.std.proofs.Common.{◌≡◌, None, Some, find, rules, arith}
 use Rattle.std.specs.List.{list_any}
 use Rattle.be_hub.specs.Files.{is_split_end}
 use Rattle.be_hub.specs.Settling.{CountsSplits}
-use Rattle.be_hub.proofs.DoorServed.{all_unbroken}
+use Rattle.be_hub.proofs.Unbroken.{all_unbroken}
 use Rattle.be_hub.proofs.FilesClosed.{none_mapped, found_holds}
 use Rattle.be_hub.proofs.settling.fault_in.Goals as goal
 

@@ -1,6 +1,6 @@
--- The seats and counts so far are those of the ends so far, their numbers are added up, and no reader was refused where there is
--- no shade.
-use Rattle.std.proofs.Common.{◌≡◌, ◌*◌, ◌≤◌, ◌++◌, length, map, None}
+-- The seats and counts so far are those of the ends so far, their numbers are added up, and no reader was refused exactly where
+-- there is no shade.
+use Rattle.std.proofs.Common.{◌≡◌, ◌*◌, ◌≤◌, ◌++◌, ◌↔◌, length, map, None}
 use Rattle.std.specs.List.{All}
 use Rattle.be_base.specs.Counts.{last_count}
 use Rattle.be_base.specs.declared.limits.TheConstants.{LINKS}
@@ -17,7 +17,7 @@ invariant-loop-end g l =
     × (l.seats.items ≡ map (λ end. end.seat) l.yielded)
     × All (IsKeptSeat g.J.BoxNames.boxes) l.seats.items
     × (l.counts.items ≡ map (λ end. end.count) l.yielded)
-    × ((l.shade ≡ None) → All (λ end. end.seat.glass.shuts ≡ 0) l.yielded)
+    × ((l.shade ≡ None) ↔ All (λ end. end.seat.glass.shuts ≡ 0) l.yielded)
     × (with_counts l.sums (map (λ end. end.count) l.end-iterator.rest.items) ≡ with_counts no_sums (map (λ end. end.count) l.fn.ends.items))
     × (accepts l.sums ≤ LINKS * length l.yielded)
     × (l.sums.back ≤ l.sums.given)

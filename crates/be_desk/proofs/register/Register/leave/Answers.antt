@@ -5,7 +5,7 @@ use Rattle.be_change.specs.Entries.{row_in}
 use Rattle.be_change.specs.History.{live}
 use Rattle.be_copy.proofs.Firsts.{lent_is}
 use Rattle.be_copy.proofs.Kept.{kept_map}
-use Rattle.be_desk.proofs.Leaving.{leave_begins, next_of, leave_some, leave_goes, leave_ends}
+use Rattle.be_desk.proofs.Leaving.{leave_begins, leave_all, next_of, leave_some, leave_goes, leave_ends}
 use Rattle.be_desk.proofs.register.Register.leave.Goals as goal
 
 pub loop-id-init : goal.loop-id-init
@@ -30,3 +30,8 @@ loop-id-preserved c =
 
 pub returns : goal.returns
 returns c = λ n. leave_ends c.loop-id.self c.args.list.now.list c.args.session.0 c.loop-id.invariant c.in_default.ensures
+
+pub returns-then-has_only : goal.returns-then-has_only
+returns-then-has_only c =
+    let h = c.args.list.now.list in
+    λ n. leave_all _ h c.args.session (kept_map h (live h) c.len.result c.args.list.now.spare refl c.len.ensures.len c.len.ensures.most c.len.ensures.ids) c.clear.ensures refl (c.if-has_only.ensures (live h) c.requires.filed)

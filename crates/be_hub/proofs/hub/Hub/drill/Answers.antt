@@ -37,5 +37,5 @@ returns-clause-served g c =
     c.requires.seats c.in-Ok.ensures.count c.in-Ok.ensures.ends
     c.in_ok-log.field-0.log.list c.in-Ok-left_by.left.seats.items (is_some c.in-Ok-left_by.left.shade) (map (λ t. t.items) c.in-Ok-left_by.left.transcripts.items)
     c.in-Ok-left_by.ensures.read c.in-Ok-left_by.ensures.kept c.in-Ok-left_by.ensures.seats c.in-Ok-left_by.ensures.transcripts
-    (λ is. c.in-Ok-left_by.ensures.shade (none_is c.in-Ok-left_by.left.shade is))
+    (λ is. c.in-Ok-left_by.ensures.shade.0 (none_is c.in-Ok-left_by.left.shade is)) (λ all. ap is_some (c.in-Ok-left_by.ensures.shade.1 all))
     c.in_ok-log.ensures.sound.formed c.in_ok-log.ensures.keeps c.in_ok-log.ensures.recorded c.in_ok-log.ensures.opened

@@ -115,7 +115,7 @@ returns-in-Ok-close-clause-served g c =
     let none : (with_counts no_sums counts).refused ≡ 0 = ap (λ x. x.refused) (sym e.sums) ∙ e.none_refused in
     let closed = c.in-Ok-close.ensures in
     let served = links_are_served told (λ end. end.seat) (λ end. end.count) (λ end. end.ends.items) (λ end. end.tended) g.J.Naming.schema boxes g.J.Naming.opening d₁ ends c.args.seats.items c.requires.seats count c.in-Ok-run_door.ensures.ends list left.seats.items (is_some left.shade) c.args.links d₂.keeps c.requires.few.0 e.kept e.seats
-    (λ is. e.shade (none_is left.shade is)) e.unbroken closed.sound.formed closed.keeps closed.recorded closed.opened (keeps_is d d₁ d₂ c.args.port c.args.links (length boxes) listened counts e.settled)
+    (λ is. e.shade.0 (none_is left.shade is)) (λ all. ap is_some (e.shade.1 all)) e.unbroken closed.sound.formed closed.keeps closed.recorded closed.opened (keeps_is d d₁ d₂ c.args.port c.args.links (length boxes) listened counts e.settled)
     none (all_links d d₁ d₂ c.args.port c.args.links (length boxes) listened counts e.settled e.links none) in
     subst (λ x. LinksAreServed told g.J.Naming.schema g.J.Naming.opening list (is_some left.shade) c.args.links x d₂.keeps d₂.kept) (sym e.sums)
     (subst (λ x. LinksAreServed told g.J.Naming.schema g.J.Naming.opening list (is_some left.shade) c.args.links (with_counts no_sums counts) d₂.keeps x) (sym (kept_is d d₁ d₂ c.args.port c.args.links (length boxes) listened counts e.settled)) served)
