@@ -59,8 +59,10 @@ asked_local s s' b b' r answer same a formed rest = record {
     schema = same;
     session = refl;
     alone = refl;
+    per_tend = refl;
     known = answered_grows b.list b'.list r answer a;
     counts = record { reads = omega arith; shuts = omega arith; splits = omega arith; fulls = omega arith; empties = omega arith; puts = omega arith; tends = omega arith };
+    tends = refl;
   };
   letters = record { notes = refl; box = ap (λ (l : List PlainLetter). Some (map note_of l)) rest.letters; puts = refl; fulls = rest.fulls };
   reads = record { reads = rest.reads; shuts = refl };
@@ -91,8 +93,10 @@ fetches_local s s' v b' l same t d = record {
     schema = same;
     session = refl;
     alone = refl;
+    per_tend = refl;
     known = begins_same v.list b'.list t.list;
     counts = record { reads = omega arith; shuts = omega arith; splits = omega arith; fulls = omega arith; empties = omega arith; puts = omega arith; tends = omega arith };
+    tends = refl;
   };
   known = t.list;
   own = ap (placed_of 1) t.list;

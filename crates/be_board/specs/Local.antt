@@ -29,6 +29,7 @@ local_state s b = record {
   box = Some (map note_of b.letters);
   counts = record { reads = b.reads; shuts = 0; splits = 0; fulls = b.fulls; empties = b.empties; puts = 0; tends = 0 };
   alone = true;
+  per_tend = 0;
 }
 
 -- a board that was opened with these rows, and was asked nothing
@@ -40,6 +41,7 @@ opened_state s rows = record {
   box = Some [];
   counts = record { reads = 0; shuts = 0; splits = 0; fulls = 0; empties = 0; puts = 0; tends = 0 };
   alone = true;
+  per_tend = 0;
 }
 
 -- a letter for session 1, of a row that was live in the list

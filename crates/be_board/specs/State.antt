@@ -1,6 +1,7 @@
 -- A board as whoever asks it sees it, and what each call leaves.
 use Rattle.std.specs.Prelude.{◌≡◌, ℕ, ◌+◌, ◌≤◌, Bool, List, Option, Some, None}
 use Rattle.std.specs.List.{list_any}
+use Rattle.be_base.specs.Counts.{RisesBy}
 use Rattle.be_base.specs.Lists.{BeginsWith}
 use Rattle.be_model.specs.Schemas.{Attributes}
 use Rattle.be_change.specs.History.{Entry, is_leave_of}
@@ -21,7 +22,7 @@ pub record BoardCounts : Type 0 where
   pub empties : ℕ
   -- letters that were put into shared mailboxes. A board that tells its box puts none there
   pub puts : ℕ
-  -- how often the rows' keeper was tended through the board
+  -- tends that the board was asked for, as it counts them
   pub tends : ℕ
 
 pub record BoardState : Type 0 where
@@ -34,6 +35,8 @@ pub record BoardState : Type 0 where
   pub counts : BoardCounts
   -- nobody but this board changes its list, and each change can be read at once
   pub alone : Bool
+  -- what a tend adds to that count: 1 where the rows' keeper is tended through the board, else 0
+  pub per_tend : ℕ
 
 -- the board's session has left
 abbrev pub is_gone : BoardState → Bool
@@ -48,14 +51,26 @@ pub record NoneFalls (c c' : BoardCounts) : Type 0 where
   pub puts : c.puts ≤ c'.puts
   pub tends : c.tends ≤ c'.tends
 
--- each call leaves the seat, the schema and the session, and the known list only grows
+-- calls leave the seat, the schema and the session, and the known list only grows
+pub record HasGoneOn (b b' : BoardState) : Type 0 where
+  pub seat : b'.seat ≡ b.seat
+  pub schema : b'.schema ≡ b.schema
+  pub session : b'.word.session ≡ b.word.session
+  pub alone : b'.alone ≡ b.alone
+  pub per_tend : b'.per_tend ≡ b.per_tend
+  pub known : BeginsWith b'.word.known b.word.known
+  pub counts : NoneFalls b.counts b'.counts
+
+-- a call that isn't a tend does so, and leaves their count
 pub record GoesOn (b b' : BoardState) : Type 0 where
   pub seat : b'.seat ≡ b.seat
   pub schema : b'.schema ≡ b.schema
   pub session : b'.word.session ≡ b.word.session
   pub alone : b'.alone ≡ b.alone
+  pub per_tend : b'.per_tend ≡ b.per_tend
   pub known : BeginsWith b'.word.known b.word.known
   pub counts : NoneFalls b.counts b'.counts
+  pub tends : b'.counts.tends ≡ b.counts.tends
 
 -- no letter is put or taken
 pub record LeavesLetters (b b' : BoardState) : Type 0 where
@@ -69,9 +84,10 @@ pub record LeavesReads (b b' : BoardState) : Type 0 where
   pub reads : b'.counts.reads ≡ b.counts.reads
   pub shuts : b'.counts.shuts ≡ b.counts.shuts
 
--- all stays, but that the rows may have been maintained
+-- all stays, but that the tend is counted, and the rows may have been maintained
 abbrev pub Tends : BoardState → BoardState → Type 0
-Tends b b' = (n : ℕ) × (b.counts.tends ≤ n) × (b' ≡ record b { counts = record b.counts { tends = n } })
+Tends b b' =
+    (n : ℕ) × (b.counts.tends ≤ n) × RisesBy b.per_tend b.counts.tends n × (b' ≡ record b { counts = record b.counts { tends = n } })
 
 -- of so many letters that were put, those that lie in shared mailboxes were counted: all of them, or none where the box is told
 abbrev pub CountsPuts : Option (List Note) → ℕ → BoardCounts → BoardCounts → Type 0

@@ -40,7 +40,7 @@ others_of k (x ∷ xs) all =
 
 pub fetches_some : (schema : Attributes) (s s1 s2 : SeatState) (from : ℕ) (l : PlainLetter) → PassesOver s s1 → s2 ≡ record s1 { passes = s2.passes } → s2.passes ≡ after_fetch s1.passes (posting from l)
     → OnBoards schema (λ b b'. Fetches b b' (Some l)) s s2
-fetches_some schema s s1 s2 from l o seat passes tends =
+fetches_some schema s s1 s2 from l o seat passes per_tend tends =
     let xs : List Posting = (s.passes.taken ++ o.passed) ++ posting from l ∷ [] in
     let end : SeatState = record s { passes = record s.passes { taken = xs } } in
     let is : s2 ≡ end = seat ∙ (ap (λ (q : Passes). record s1 { passes = q }) passes ∙ ap (λ (x : SeatState). record x { passes = after_fetch x.passes (posting from l) }) o.seat) in
@@ -48,14 +48,16 @@ fetches_some schema s s1 s2 from l o seat passes tends =
     map-append letter_in (s.passes.taken ++ o.passed) (posting from l ∷ [])
     ∙ (ap (λ (ls : List PlainLetter). ls ++ l ∷ []) (map-append letter_in s.passes.taken o.passed)
     ∙ append_assoc (map letter_in s.passes.taken) (map letter_in o.passed) (l ∷ [])) in
-    subst (λ (x : SeatState). Fetches (board_of schema tends s) (board_of schema tends x) (Some l)) (sym is) (record {
+    subst (λ (x : SeatState). Fetches (board_of per_tend schema tends s) (board_of per_tend schema tends x) (Some l)) (sym is) (record {
       goes = record {
         seat = refl;
         schema = refl;
         session = refl;
         alone = refl;
+        per_tend = refl;
         known = BeginsWith-same s.glass.known;
         counts = record { reads = omega arith; shuts = omega arith; splits = omega arith; fulls = omega arith; empties = omega arith; puts = omega arith; tends = omega arith };
+        tends = refl;
       };
       known = refl;
       own = refl;
@@ -68,21 +70,23 @@ fetches_some schema s s1 s2 from l o seat passes tends =
 
 pub fetches_none : (schema : Attributes) (s s1 s2 : SeatState) → s1.passes.empties ≤ last_count → PassesOver s s1 → s2 ≡ record s1 { passes = s2.passes } → s2.passes ≡ after_empty s1.passes
     → OnBoards schema (λ b b'. Fetches b b' None) s s2
-fetches_none schema s s1 s2 few o seat passes tends =
+fetches_none schema s s1 s2 few o seat passes per_tend tends =
     let xs : List Posting = s.passes.taken ++ o.passed in
     let end : SeatState = record s { passes = record s.passes { taken = xs; empties = raised 1 s.passes.empties } } in
     let is : s2 ≡ end = seat ∙ (ap (λ (q : Passes). record s1 { passes = q }) passes ∙ ap (λ (x : SeatState). record x { passes = after_empty x.passes }) o.seat) in
     let same : s1.passes.empties ≡ s.passes.empties = ap (λ (x : SeatState). x.passes.empties) o.seat in
     let notes : map letter_in xs ≡ map letter_in s.passes.taken ++ (map letter_in o.passed ++ []) =
     map-append letter_in s.passes.taken o.passed ∙ ap (λ (ls : List PlainLetter). map letter_in s.passes.taken ++ ls) (sym (append-nil (map letter_in o.passed))) in
-    subst (λ (x : SeatState). Fetches (board_of schema tends s) (board_of schema tends x) None) (sym is) (record {
+    subst (λ (x : SeatState). Fetches (board_of per_tend schema tends s) (board_of per_tend schema tends x) None) (sym is) (record {
       goes = record {
         seat = refl;
         schema = refl;
         session = refl;
         alone = refl;
+        per_tend = refl;
         known = BeginsWith-same s.glass.known;
         counts = record { reads = omega arith; shuts = omega arith; splits = omega arith; fulls = omega arith; empties = omega (arith, few, same); puts = omega arith; tends = omega arith };
+        tends = refl;
       };
       known = refl;
       own = refl;

@@ -172,15 +172,16 @@ shown_after F schema s s1 s2 e boxes n put p =
     shown F (length boxes) (letters_for n e (rows_of (hit_rows s1.glass.known e))) put s1.passes s2.passes (omega (arith, p.form.own, is)) (omega (arith, p.form.each, is)) p.fulls p.offers
 
 pub sends_on : (F : Passes → ℕ → Type 0) (schema : Attributes) (s s1 s2 : SeatState) (e : Assignments) (boxes : List TableId) (n put : ℕ) → Posted F schema s s1 s2 e boxes n put → OnBoards schema Sends s s2
-sends_on F schema s s1 s2 e boxes n put p tends =
-    let l = p.looks tends in
+sends_on F schema s s1 s2 e boxes n put p per_tend tends =
+    let l = p.looks per_tend tends in
     let q = shown_after F schema s s1 s2 e boxes n put p in
-    subst (λ (x : SeatState). Sends (board_of schema tends s) (board_of schema tends x)) (sym p.posted) (record {
+    subst (λ (x : SeatState). Sends (board_of per_tend schema tends s) (board_of per_tend schema tends x)) (sym p.posted) (record {
       goes = record {
         seat = q.seat ∙ l.goes.seat;
         schema = refl;
         session = l.goes.session;
         alone = refl;
+        per_tend = refl;
         known = l.goes.known;
         counts = record {
           reads = l.goes.counts.reads;
@@ -191,6 +192,7 @@ sends_on F schema s s1 s2 e boxes n put p tends =
           puts = omega (arith, l.goes.counts.puts, q.puts);
           tends = omega arith;
         };
+        tends = refl;
       };
       own = l.own;
       notes = ap (λ (xs : List Posting). map letter_in xs) q.taken ∙ l.letters.notes;
@@ -213,15 +215,15 @@ parts n e h =
 
 pub posts_on : (F : Passes → ℕ → Type 0) (schema : Attributes) (s s1 s2 : SeatState) (e : Assignments) (boxes : List TableId) (n put dropped : ℕ) → Posted F schema s s1 s2 e boxes n put → dropped ≡ length (rows_of (hit_rows s1.glass.known e)) - put
     → OnBoards schema (λ b b'. Posts b b' e (record { n = n; put = put; dropped = dropped })) s s2
-posts_on F schema s s1 s2 e boxes n put dropped p left tends =
+posts_on F schema s s1 s2 e boxes n put dropped p left per_tend tends =
     let h : List Entry = s1.glass.known in
     let ls : List PlainLetter = letters_for n e (rows_of (hit_rows h e)) in
-    let l = p.looks tends in
-    let r = p.read tends in
+    let l = p.looks per_tend tends in
+    let r = p.read per_tend tends in
     let q = shown_after F schema s s1 s2 e boxes n put p in
     let all = parts n e h in
     let few : put ≤ length ls = offers_few F (length boxes) ls put s1.passes s2.passes p.offers in
-    subst (λ (x : SeatState). Posts (board_of schema tends s) (board_of schema tends x) e (record { n = n; put = put; dropped = dropped })) (sym p.posted) (record {
+    subst (λ (x : SeatState). Posts (board_of per_tend schema tends s) (board_of per_tend schema tends x) e (record { n = n; put = put; dropped = dropped })) (sym p.posted) (record {
       read = record { length = r.length; counted = r.counted; shuts = r.shuts };
       all = omega (arith, left, few, all.0, all.1);
       drops = (length ls - put, omega (arith, left, few, all.0), omega (arith, q.fulls, l.letters.fulls));
@@ -254,11 +256,11 @@ next_of P ls l rest is all =
 
 -- a read that was refused, and no letter put
 pub sends_refused : (schema : Attributes) (s s1 : SeatState) → OnBoards schema Looks s s1 → OnBoards schema Sends s s1
-sends_refused schema s s1 looks tends = let l = looks tends in record { goes = l.goes; own = l.own; notes = l.letters.notes; splits = l.splits; alone = l.alone }
+sends_refused schema s s1 looks per_tend tends = let l = looks per_tend tends in record { goes = l.goes; own = l.own; notes = l.letters.notes; splits = l.splits; alone = l.alone }
 
 pub refused_send : (schema : Attributes) (s s1 : SeatState) (why : NoRead) → OnBoards schema (λ b b'. Refuses b b' why) s s1 → OnBoards schema (λ b b'. RefusesSend b b' why) s s1
-refused_send schema s s1 Shut refused tends = refused tends
-refused_send schema s s1 NoMemory refused tends = (refused tends).1.shuts
+refused_send schema s s1 Shut refused per_tend tends = refused per_tend tends
+refused_send schema s s1 NoMemory refused per_tend tends = (refused per_tend tends).1.shuts
 
 pub refused_send_in : {X Y : Type 0} (schema : Attributes) (s s1 : SeatState) (r : Result X NoRead) (r' : Result Y NoRead) (why : NoRead) → r ≡ Err why → r' ≡ Err why → IfErr r (λ why. OnBoards schema (λ b b'. Refuses b b' why) s s1)
     → IfErr r' (λ why. OnBoards schema (λ b b'. RefusesSend b b' why) s s1)

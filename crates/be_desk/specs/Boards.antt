@@ -12,9 +12,10 @@ use Rattle.be_desk.specs.Seats.{SeatState, word_of}
 abbrev pub put_count : Passes → ℕ
 put_count q = sum_by (λ (letters : List PlainLetter). length letters) q.puts
 
--- the seat as the board of its session, through which the desk was tended so often. It tells no box, and others change its list
-abbrev pub board_of : Attributes → ℕ → SeatState → BoardState
-board_of schema tends s = record {
+-- the seat as the board of its session, with this count of tends, of which each adds so much. It tells no box, and others change its
+-- list
+abbrev pub board_of : (per_tend : ℕ) → Attributes → (tends : ℕ) → SeatState → BoardState
+board_of per_tend schema tends s = record {
   seat = s.passes.seat;
   schema = schema;
   word = word_of s;
@@ -29,11 +30,12 @@ board_of schema tends s = record {
     tends = tends;
   };
   alone = false;
+  per_tend = per_tend;
 }
 
--- it holds of the board before and after, however often the desk was tended
+-- it holds of the board before and after, whatever its count of tends and whatever each adds
 abbrev pub OnBoards : Attributes → (BoardState → BoardState → Type 0) → SeatState → SeatState → Type 0
-OnBoards schema P s s' = (tends : ℕ) → P (board_of schema tends s) (board_of schema tends s')
+OnBoards schema P s s' = (per_tend tends : ℕ) → P (board_of per_tend schema tends s) (board_of per_tend schema tends s')
 
 -- each of these letters, in order, was put into the mailbox of its session's seat, or came back since this mailbox was
 -- found full, which was counted. So many were put

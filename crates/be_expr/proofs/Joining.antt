@@ -1,6 +1,7 @@
 -- The predicates of a text, one after the other.
 use Rattle.std.proofs.Common.{◌≡◌, ℕ, zero, suc, ◌+◌, ◌-◌, ◌≤◌, ◌<◌, ◌&&◌, Bool, true, false, List, [], ◌∷◌, length, length-append, Option, Some, None, IfSome, Bor, option_map, option_and_then, codes, refl, sym, ◌∙◌, ap, subst, arith, if◌then◌else◌}
 use Rattle.std.specs.Option.{option_map_or, option_or}
+use Rattle.std.proofs.lemmas.Bool.{and_parts, false≢true}
 use Rattle.be_base.specs.Text.{Text, same_text}
 use Rattle.be_base.specs.Tokens.{Lexeme, word, tokens}
 use Rattle.be_base.specs.Readers.{Read}
@@ -160,15 +161,28 @@ written_by_preds (word w ∷ u ∷ ts) = never (same_text w (codes "all")) (pred
 written_by_preds (t ∷ u ∷ ts) = never false (preds_in (t ∷ u ∷ ts))
 
 -- predicates, or else `all` alone
-pub written_if : (o : Option (List Lexeme)) → option_and_then written o ≡ option_or (option_and_then preds_in o) (if option_map_or is_all o false then Some [] else None)
+written_if : (o : Option (List Lexeme)) → option_and_then written o ≡ option_or (option_and_then preds_in o) (if option_map_or is_all o false then Some [] else None)
 written_if None = refl
 written_if (Some ts) = written_by_preds ts
 
-some_are_preds : (all : Bool) (o : Option (List WrittenPred)) (ps : List WrittenPred) → option_or o (if all then Some [] else None) ≡ Some ps → ¬ (length ps ≡ 0) → o ≡ Some ps
-some_are_preds all (Some qs) ps h some = h
-some_are_preds true None ps h some = let none : [] ≡ ps = cc in absurd (some (ap length (sym none)))
-some_are_preds false None ps h some = absurd (cc)
+pub preds_are_written : (o : Option (List Lexeme)) (ps : List WrittenPred) → option_and_then preds_in o ≡ Some ps → option_and_then written o ≡ Some ps
+preds_are_written o ps h = written_if o ∙ ap (λ q. option_or q (if option_map_or is_all o false then Some [] else None)) h
 
--- where there is a predicate, the text isn't `all`
-pub written_preds : (o : Option (List Lexeme)) (ps : List WrittenPred) → option_and_then written o ≡ Some ps → ¬ (length ps ≡ 0) → option_and_then preds_in o ≡ Some ps
-written_preds o ps h some = some_are_preds (option_map_or is_all o false) (option_and_then preds_in o) ps (sym (written_if o) ∙ h) some
+-- nothing else is read
+either : (o : Option (List WrittenPred)) → option_or o None ≡ o
+either None = refl
+either (Some ps) = refl
+
+-- a text other than `all`
+pub written_if_preds : (o : Option (List Lexeme)) → option_map_or is_all o false ≡ false → option_and_then written o ≡ option_and_then preds_in o
+written_if_preds o all =
+    written_if o ∙ ap (λ (b : Bool). option_or (option_and_then preds_in o) (if b then Some [] else None)) all ∙ either (option_and_then preds_in o)
+
+all_alone : (ts : List Lexeme) → is_all ts ≡ true → written ts ≡ Some []
+all_alone (word w ∷ []) h = ap (λ (b : Bool). if b then Some [] else None) (and_parts (same_text w (codes "all")) true h).0
+all_alone (word w ∷ t ∷ ts) h = absurd (false≢true (and_parts (same_text w (codes "all")) false h).1)
+all_alone _ h = absurd (false≢true h)
+
+pub all_is_written : (o : Option (List Lexeme)) → option_map_or is_all o false ≡ true → option_and_then written o ≡ Some []
+all_is_written None h = absurd (false≢true h)
+all_is_written (Some ts) h = all_alone ts h

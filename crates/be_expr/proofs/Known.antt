@@ -1,5 +1,5 @@
 -- A fault of a condition names attributes of the schema.
-use Rattle.std.proofs.Common.{◌≡◌, List, length, map, find, subst, Option, Some, None, option_map, option_and_then, Err, refl, cond, true, false, Bool, nat_lt}
+use Rattle.std.proofs.Common.{◌≡◌, List, length, map, find, subst, Option, Some, None, option_map, option_and_then, Err, refl, cond, true, false, Bool, nat_lt, IfSome, MatchOption}
 use Rattle.std.specs.Option.{option_or}
 use Rattle.be_base.specs.Text.{Text}
 use Rattle.be_base.specs.Tokens.{tokens}
@@ -59,3 +59,8 @@ known_read s text Bad r = tt
 known_read s text (Attr name) r = tt
 known_read s text (Many count) r = tt
 known_read s text NoMemory r = tt
+
+-- the first fault that a scan met
+pub known_scanned : (s : Attributes) (text : Text) (first : Option ExprFault) (P : Type 0) → MatchOption first P (λ fault. Reads {T = List Pred} (Err fault) (expression s text)) → IfSome first (IsKnown s)
+known_scanned s text None P h = tt
+known_scanned s text (Some fault) P h = known_read s text fault h

@@ -5,6 +5,7 @@ pub mod CanonicalMeaning
 pub mod ChangesRead
 pub mod Gathered
 pub mod Joining
+pub mod BuiltValues
 pub mod BuiltPreds
 pub mod Meanings
 pub mod Lying

@@ -1,5 +1,5 @@
 -- A condition that was read lies in the schema.
-use Rattle.std.proofs.Common.{◌≡◌, ℤ, true, false, List, [], ◌∷◌, length, map, Option, Some, None, option_map, option_and_then, Ok, Err, refl, sym, ◌∙◌, ap, subst, arith}
+use Rattle.std.proofs.Common.{◌≡◌, ℤ, not, Bool, true, false, nat_lt, if◌then◌else◌, List, [], ◌∷◌, length, map, Option, Some, None, option_map, option_and_then, Ok, Err, MatchOption, IsSome, refl, sym, ◌∙◌, ap}
 use Rattle.std.specs.List.{list_all}
 use Rattle.std.specs.Option.{is_none, option_map_or}
 use Rattle.std.proofs.lemmas.Bool.{and_parts, and_from}
@@ -17,12 +17,13 @@ use Rattle.be_expr.specs.declared.faults.ExprFault.TheVariants.{NoMemory}
 use Rattle.be_expr.specs.declared.faults.Faults.{Faults}
 use Rattle.be_expr.specs.Faults.{faults_of, first_fault, preds_in}
 use Rattle.be_expr.specs.Readings.{written}
+use Rattle.be_expr.specs.Parts.{is_all}
 use Rattle.be_expr.specs.Grammar.{WrittenOp, compared, between, among, not_among, WrittenPred}
 use Rattle.be_expr.specs.Expressions.{words_of, fault_in, comparison, meant_op, pred_on, meant_pred, judged, meaning, condition, Reads}
-use Rattle.be_expr.specs.Build.{is_fine, FinePreds}
+use Rattle.be_expr.specs.Build.{is_fine, are_fine, built_preds}
 use Rattle.be_expr.proofs.BuiltPreds.{fine_parts}
-use Rattle.be_expr.proofs.Meanings.{fine_without_fault, met_is, no_fault}
-use Rattle.be_expr.proofs.Joining.{written_preds}
+use Rattle.be_expr.proofs.Meanings.{fine_without_fault, no_fault_if_fine, no_fault, reads_met}
+use Rattle.be_expr.proofs.Joining.{preds_are_written, written_if_preds, all_is_written}
 
 comparison_has : (operator : Lexeme) (v : ℤ) → values_in (comparison operator v) ≡ v ∷ []
 comparison_has less v = refl
@@ -61,7 +62,7 @@ all_fine_lie s (p ∷ ps) h =
 judged_lies : (s : Attributes) (ps : List WrittenPred) (o : Option ExprFault) (conj : List Pred) → fault_in s ps ≡ o → judged (map (meant_pred s) ps) o ≡ Ok conj → conj_lies s conj ≡ true
 judged_lies s ps None conj e h =
     let is : map (meant_pred s) ps ≡ conj = cc in
-    sym (ap (conj_lies s) is) ∙ all_fine_lie s ps (fine_without_fault s ps e).0
+    sym (ap (conj_lies s) is) ∙ all_fine_lie s ps (and_parts (list_all (is_fine s) ps) (not (nat_lt 32 (length ps))) (fine_without_fault s ps e)).0
 judged_lies s ps (Some fault) conj e h = absurd (cc)
 
 -- a condition that was read lies in the schema
@@ -69,53 +70,58 @@ pub meaning_lies : (s : Attributes) (o : Option (List WrittenPred)) (conj : List
 meaning_lies s None conj h = absurd (cc)
 meaning_lies s (Some ps) conj h = judged_lies s ps (fault_in s ps) conj refl h
 
--- predicates were read, and none has a fault
-record AreFine (s : Attributes) (o : Option (List Lexeme)) (ps : List WrittenPred) : Type 0 where
-  written : option_and_then written o ≡ Some ps
-  fine : fault_in s ps ≡ None
+built_without_fault : (s : Attributes) (ps : List WrittenPred) (meant : List Pred) (o : Option ExprFault) → fault_in s ps ≡ o → judged (map (meant_pred s) ps) o ≡ Ok meant
+    → ¬ (None ≡ built_preds s ps)
+built_without_fault s ps meant (Some fault) e h none = absurd (cc)
+built_without_fault s ps meant None e h none =
+    let built : None ≡ Some (map (meant_pred s) ps) = none ∙ ap (λ (b : Bool). if b then Some (map (meant_pred s) ps) else None) (fine_without_fault s ps e) in
+    absurd (cc)
 
-fine_if : (s : Attributes) (o : Option (List Lexeme)) (faults : Faults) (w : Option (List WrittenPred)) → option_and_then written o ≡ w → Some faults ≡ option_map (faults_of s) w
-    → None ≡ first_fault faults → (ps : List WrittenPred) × AreFine s o ps × (faults.preds ≡ length ps)
-fine_if s o faults None e h first = absurd (cc)
-fine_if s o faults (Some ps) e h first =
-    (ps, record { written = e; fine = no_fault s ps faults h first }, ap (λ (f : Faults). f.preds) (met_is s ps faults h))
+meant_is_built : (s : Attributes) (p : Option (List WrittenPred)) (meant : List Pred) → meaning s p ≡ Ok meant → ¬ (None ≡ option_and_then (built_preds s) p)
+meant_is_built s None meant h none = absurd (cc)
+meant_is_built s (Some ps) meant h none = built_without_fault s ps meant (fault_in s ps) refl h none
 
--- what a scan without a fault has passed
-are_fine : (s : Attributes) (o : Option (List Lexeme)) (faults : Faults) → Some faults ≡ option_map (faults_of s) (option_and_then written o) → None ≡ first_fault faults
-    → (ps : List WrittenPred) × AreFine s o ps × (faults.preds ≡ length ps)
-are_fine s o faults h first = fine_if s o faults (option_and_then written o) refl h first
+-- a condition other than `all` is built
+condition_is_built : (s : Attributes) (o : Option (List Lexeme)) (meant : List Pred) → option_map_or is_all o false ≡ false → condition s o ≡ Ok meant
+    → ¬ (None ≡ option_and_then (built_preds s) (option_and_then preds_in o))
+condition_is_built s o meant all h none = meant_is_built s (option_and_then preds_in o) meant (ap (meaning s) (sym (written_if_preds o all)) ∙ h) none
 
-read_as : (s : Attributes) (o : Option (List Lexeme)) (ps : List WrittenPred) → AreFine s o ps → condition s o ≡ Ok (map (meant_pred s) ps)
-read_as s o ps k = ap (meaning s) k.written ∙ ap (judged (map (meant_pred s) ps)) k.fine
+meant_if : (s : Attributes) (ps : List WrittenPred) (conj : List Pred) (b : Bool) → are_fine s ps ≡ b → Some conj ≡ (if b then Some (map (meant_pred s) ps) else None)
+    → meaning s (Some ps) ≡ Ok conj
+meant_if s ps conj true e h =
+    let is : map (meant_pred s) ps ≡ conj = cc in
+    ap (judged (map (meant_pred s) ps)) (no_fault_if_fine s ps e) ∙ ap (λ c. Ok c) is
+meant_if s ps conj false e h = absurd (cc)
 
-no_pred : (s : Attributes) (ps : List WrittenPred) → length ps ≡ 0 → map (meant_pred s) ps ≡ []
-no_pred s [] h = refl
-no_pred s (p ∷ ps) h = absurd (omega (arith, h))
+built_if : (s : Attributes) (o : Option (List Lexeme)) (conj : List Pred) (p : Option (List WrittenPred)) → option_and_then preds_in o ≡ p → Some conj ≡ option_and_then (built_preds s) p
+    → condition s o ≡ Ok conj
+built_if s o conj None e h = absurd (cc)
+built_if s o conj (Some ps) e h = ap (meaning s) (preds_are_written o ps e) ∙ meant_if s ps conj (are_fine s ps) refl h
 
--- `all`
-pub reads_all : (s : Attributes) (o : Option (List Lexeme)) (faults : Faults) (conj : List Pred) → Some faults ≡ option_map (faults_of s) (option_and_then written o) → None ≡ first_fault faults
-    → faults.preds ≡ 0 → conj ≡ [] → condition s o ≡ Ok conj
-reads_all s o faults conj h first none is =
-    let k = are_fine s o faults h first in
-    read_as s o k.0 k.1 ∙ ap (λ c. Ok c) (no_pred s k.0 (sym k.2 ∙ none) ∙ sym is)
-
--- predicates, where there are some
-pub fine_preds : (s : Attributes) (o : Option (List Lexeme)) (faults : Faults) → Some faults ≡ option_map (faults_of s) (option_and_then written o) → None ≡ first_fault faults
-    → ¬ (faults.preds ≡ 0) → FinePreds s 0 (option_and_then preds_in o)
-fine_preds s o faults h first some =
-    let k = are_fine s o faults h first in
-    subst (FinePreds s 0) (sym (written_preds o k.0 k.1.written (λ none. some (k.2 ∙ none)))) (fine_without_fault s k.0 k.1.fine)
-
-pub reads_preds : (s : Attributes) (o : Option (List Lexeme)) (faults : Faults) (conj : List Pred) → Some faults ≡ option_map (faults_of s) (option_and_then written o) → None ≡ first_fault faults
-    → ¬ (faults.preds ≡ 0) → option_map (map (meant_pred s)) (option_and_then preds_in o) ≡ Some conj → (condition s o ≡ Ok conj) × (conj_lies s conj ≡ true)
-reads_preds s o faults conj h first some built =
-    let k = are_fine s o faults h first in
-    let preds = written_preds o k.0 k.1.written (λ none. some (k.2 ∙ none)) in
-    let is : map (meant_pred s) k.0 ≡ conj = cc (ap (option_map (map (meant_pred s))) preds, built) in
-    let read = read_as s o k.0 k.1 ∙ ap (λ c. Ok c) is in
+-- what was built is what the text means
+pub reads_built : (s : Attributes) (o : Option (List Lexeme)) (conj : List Pred) → Some conj ≡ option_and_then (built_preds s) (option_and_then preds_in o)
+    → (condition s o ≡ Ok conj) × (conj_lies s conj ≡ true)
+reads_built s o conj h =
+    let read = built_if s o conj (option_and_then preds_in o) refl h in
     (read, meaning_lies s (option_and_then written o) conj read)
 
--- memory may run out: the text is a condition
-pub reads_without_memory : (s : Attributes) (o : Option (List Lexeme)) (faults : Faults) → Some faults ≡ option_map (faults_of s) (option_and_then written o) → None ≡ first_fault faults
-    → Reads (Err NoMemory) (condition s o)
-reads_without_memory s o faults h first = let k = are_fine s o faults h first in (map (meant_pred s) k.0, read_as s o k.0 k.1)
+-- `all`
+pub reads_all : (s : Attributes) (o : Option (List Lexeme)) (conj : List Pred) → option_map_or is_all o false ≡ true → conj ≡ [] → condition s o ≡ Ok conj
+reads_all s o conj all is = ap (meaning s) (all_is_written o all) ∙ ap (λ c. Ok c) (sym is)
+
+fine_if : (s : Attributes) (w : Option (List WrittenPred)) (faults : Faults) → Some faults ≡ option_map (faults_of s) w → None ≡ first_fault faults
+    → Reads (Err NoMemory) (meaning s w)
+fine_if s None faults h first = absurd (cc)
+fine_if s (Some ps) faults h first = (map (meant_pred s) ps, ap (judged (map (meant_pred s) ps)) (no_fault s ps faults h first))
+
+-- what a scan says of a text
+pub reads_scanned : (s : Attributes) (o : Option (List Lexeme)) (faults : Faults) (first : Option ExprFault) → Some faults ≡ option_map (faults_of s) (option_and_then written o)
+    → first ≡ first_fault faults → MatchOption first (Reads {T = List Pred} (Err NoMemory) (condition s o)) (λ fault. Reads {T = List Pred} (Err fault) (condition s o))
+reads_scanned s o faults None h e = fine_if s (option_and_then written o) faults h e
+reads_scanned s o faults (Some fault) h e = reads_met s (option_and_then written o) faults fault h e
+
+-- a text that is neither built nor `all` has a fault
+pub unbuilt_has_fault : (s : Attributes) (o : Option (List Lexeme)) (first : Option ExprFault) → MatchOption first (Reads {T = List Pred} (Err NoMemory) (condition s o)) (λ fault. Reads {T = List Pred} (Err fault) (condition s o))
+    → option_map_or is_all o false ≡ false → None ≡ option_and_then (built_preds s) (option_and_then preds_in o) → IsSome first
+unbuilt_has_fault s o None h all none = absurd (condition_is_built s o h.0 all h.1 none)
+unbuilt_has_fault s o (Some fault) h all none = refl

@@ -1,9 +1,8 @@
 -- What is read, by the faults that were met and by what is built.
-use Rattle.std.proofs.Common.{◌≡◌, ℕ, ◌≤◌, ◌&&◌, not, Bool, true, false, cond, List, [], ◌∷◌, length, map, find, nat_lt, Option, Some, None, option_map, option_and_then, Result, Err, refl, sym, ◌∙◌, ap, arith, if◌then◌else◌}
+use Rattle.std.proofs.Common.{◌≡◌, ℕ, ◌&&◌, not, Bool, true, false, cond, List, [], ◌∷◌, length, map, find, nat_lt, Option, Some, None, option_map, option_and_then, Result, Err, refl, sym, ◌∙◌, ap, if◌then◌else◌}
 use Rattle.std.specs.List.{list_all}
 use Rattle.std.specs.Option.{option_or}
-use Rattle.std.proofs.lemmas.Bool.{and_from, not_from_false}
-use Rattle.std.proofs.lemmas.Bool.Decides.{nat_tests}
+use Rattle.std.proofs.lemmas.Bool.{and_from, and_parts, not_from_false, not-true}
 use Rattle.be_base.specs.declared.names.AttrNo.{AttrNo}
 use Rattle.be_model.specs.declared.preds.Pred.{Pred}
 use Rattle.be_model.specs.Schemas.{Attributes, attribute_named}
@@ -13,7 +12,8 @@ use Rattle.be_expr.specs.declared.faults.Faults.{Faults}
 use Rattle.be_expr.specs.Grammar.{WrittenPred}
 use Rattle.be_expr.specs.Expressions.{words_of, is_unknown, is_outside, has_many_values, unknown_attr, outside_domain, large_set, too_many, fault_in, meant_pred, judged, meaning, Reads}
 use Rattle.be_expr.specs.Faults.{faults_of, first_fault}
-use Rattle.be_expr.specs.Build.{is_fine, FinePreds}
+use Rattle.be_expr.specs.Build.{is_fine, are_fine}
+use Rattle.be_expr.proofs.BuiltPreds.{fine_parts}
 use Rattle.be_expr.proofs.Gathered.{faults_by_first, outside_has_attr}
 
 none_of_both : (x y : Option ExprFault) → option_or x y ≡ None → (x ≡ None) × (y ≡ None)
@@ -45,20 +45,43 @@ all_are_fine s (p ∷ ps) u o l =
     (not_from_false (has_many_values p) (known_if (λ (q : WrittenPred). Many (length (words_of q.op))) p (has_many_values p) large.0)))
     (all_are_fine s ps unknown.1 outside.1 large.1)
 
-few_of : (n : ℕ) → nat_lt 32 n ≡ false → n ≤ 32
-few_of n h = grind (arith, nat_tests)
-
-few_if : (n : ℕ) (b : Bool) (large : Option ExprFault) → nat_lt 32 n ≡ b → (if b then Some (Many n) else large) ≡ None → (n ≤ 32) × (large ≡ None)
+few_if : (n : ℕ) (b : Bool) (large : Option ExprFault) → nat_lt 32 n ≡ b → (if b then Some (Many n) else large) ≡ None → (nat_lt 32 n ≡ false) × (large ≡ None)
 few_if n true large e h = absurd (cc)
-few_if n false large e h = (few_of n e, h)
+few_if n false large e h = (e, h)
 
 -- without a fault, each predicate is fine
-pub fine_without_fault : (s : Attributes) (ps : List WrittenPred) → fault_in s ps ≡ None → FinePreds s 0 (Some ps)
+pub fine_without_fault : (s : Attributes) (ps : List WrittenPred) → fault_in s ps ≡ None → are_fine s ps ≡ true
 fine_without_fault s ps h =
     let outer = none_of_both (unknown_attr s ps) _ h in
     let inner = none_of_both (outside_domain s ps) (too_many ps) outer.1 in
     let few = few_if (length ps) (nat_lt 32 (length ps)) _ refl inner.1 in
-    (all_are_fine s ps outer.0 inner.0 few.1, omega (arith, few.0))
+    and_from (list_all (is_fine s) ps) (not (nat_lt 32 (length ps))) (all_are_fine s ps outer.0 inner.0 few.1) (not_from_false (nat_lt 32 (length ps)) few.0)
+
+none_found : (s : Attributes) (test : WrittenPred → Bool) (ps : List WrittenPred) → ((p : WrittenPred) → is_fine s p ≡ true → test p ≡ false)
+    → list_all (is_fine s) ps ≡ true → find test ps ≡ None
+none_found s test [] clear h = refl
+none_found s test (p ∷ ps) clear h =
+    let parts = and_parts (is_fine s p) (list_all (is_fine s) ps) h in
+    ap (λ b. cond b (Some p) (find test ps)) (clear p parts.0) ∙ none_found s test ps clear parts.1
+
+abbrev faults_met : Bool → Option WrittenPred → (WrittenPred → Option AttrNo) → Option WrittenPred → Option WrittenPred → ℕ → Option ExprFault
+faults_met many unknown attr outside large n =
+    option_or (option_map (λ (p : WrittenPred). Attr p.attr) unknown)
+    (option_or (option_map (λ a. Dom a) (option_and_then attr outside)) (if many then Some (Many n) else option_map (λ (p : WrittenPred). Many (length (words_of p.op))) large))
+
+-- where each predicate is fine, there is no fault
+pub no_fault_if_fine : (s : Attributes) (ps : List WrittenPred) → are_fine s ps ≡ true → fault_in s ps ≡ None
+no_fault_if_fine s ps h =
+    let parts = and_parts (list_all (is_fine s) ps) (not (nat_lt 32 (length ps))) h in
+    let unknown = none_found s (is_unknown s) ps (λ p f. (fine_parts s p f).0) parts.0 in
+    let outside = none_found s (is_outside s) ps (λ p f. (fine_parts s p f).1) parts.0 in
+    let large = none_found s has_many_values ps (λ p f. (fine_parts s p f).2) parts.0 in
+    let few = not-true (nat_lt 32 (length ps)) parts.1 in
+    let attr : WrittenPred → Option AttrNo = λ p. attribute_named s p.attr in
+    ap (λ o. faults_met (nat_lt 32 (length ps)) o attr (find (is_outside s) ps) (find has_many_values ps) (length ps)) unknown
+    ∙ ap (λ o. faults_met (nat_lt 32 (length ps)) None attr o (find has_many_values ps) (length ps)) outside
+    ∙ ap (λ o. faults_met (nat_lt 32 (length ps)) None attr None o (length ps)) large
+    ∙ ap (λ many. faults_met many None attr None None (length ps)) few
 
 -- no fault of a text is want of memory
 maybe_attr : (o : Option WrittenPred) → option_map (λ (p : WrittenPred). Attr p.attr) o ≡ Some NoMemory → ⊥
@@ -95,7 +118,7 @@ pub reads_bad : (s : Attributes) (o : Option (List WrittenPred)) → None ≡ op
 reads_bad s None h = refl
 reads_bad s (Some ps) h = absurd (cc)
 
-pub met_is : (s : Attributes) (ps : List WrittenPred) (faults : Faults) → Some faults ≡ option_map (faults_of s) (Some ps) → faults ≡ faults_of s ps
+met_is : (s : Attributes) (ps : List WrittenPred) (faults : Faults) → Some faults ≡ option_map (faults_of s) (Some ps) → faults ≡ faults_of s ps
 met_is s ps faults h = cc
 
 -- a text with a fault

@@ -25,7 +25,7 @@ struct Stamp {
     serial: u64,
 }
 
-/// Reads a whole text as a change. A Sub's row gets the id. Only a text without a fault takes memory.
+/// Reads a whole text as a change. A Sub's row gets the id. A text with a fault is told so even where memory ran out.
 pub fn read_change(alloc: Global, schema: &Schema, text: &[u8], id: Id) -> Result<Change, ExprFault>
     ensures exact { Reads (entry_read result) (change schema.now id.0 text.now) }
     ensures lies { IfOk result (λ change. entry_lies schema.now (entry_of change) ≡ true) }

@@ -12,7 +12,7 @@ use be_base::{Name, read_word};
 use be_model::{Conj, Schema};
 use std::alloc::Global;
 
-/// Reads a whole text as a name and a condition. Only a text without a fault takes memory.
+/// Reads a whole text as a name and a condition. A text with a fault is told so even where memory ran out.
 pub fn read_named(alloc: Global, schema: &Schema, text: &[u8]) -> Result<(Name, Conj), ExprFault>
     ensures exact { Reads result (named schema.now (tokens text.now)) }
     ensures lies { IfOk result (λ read. conj_lies schema.now read.1 ≡ true) }

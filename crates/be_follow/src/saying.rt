@@ -23,7 +23,7 @@ pub enum Said {
     Faulty,
 }
 
-/// Reads a line, which has no LF. Only a change without a fault takes memory.
+/// Reads a line, which has no LF. Want of memory is answered only to a change without a fault.
 pub fn read_said(alloc: Global, schema: &Schema, line: &[u8]) -> Result<Said, NoMemory>
     ensures read { Reads result (said schema.now line.now) }
     ensures lies { IfOk result (SaidLies schema.now) }

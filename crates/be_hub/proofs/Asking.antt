@@ -34,9 +34,9 @@ split_counted s s' (NoName m) c = c.0
 split_counted s s' (Other m id) c = c.0
 split_counted s s' NoMemory c = c.0
 
-pub asked : (schema : Attributes) (tends : ℕ) (s s' : SeatState) (r : Request) (answer : Answer) → Continues s s' → Counts s s' answer → Answers (word_of s) (word_of s') r answer → IsWellFormed s'.glass.known → s.splits ≤ last_count
-    → Asked (board_of schema tends s) (board_of schema tends s') r answer
-asked schema tends s s' r answer goes counts answers formed most =
+pub asked : (per_tend : ℕ) (schema : Attributes) (tends : ℕ) (s s' : SeatState) (r : Request) (answer : Answer) → Continues s s' → Counts s s' answer → Answers (word_of s) (word_of s') r answer → IsWellFormed s'.glass.known → s.splits ≤ last_count
+    → Asked (board_of per_tend schema tends s) (board_of per_tend schema tends s') r answer
+asked per_tend schema tends s s' r answer goes counts answers formed most =
     let reads = ap (λ (g : GlassState). g.reads) goes.glass in
     let shuts = ap (λ (g : GlassState). g.shuts) goes.glass in
     let fulls = ap (λ (q : Passes). q.fulls) goes.passes in
@@ -47,6 +47,7 @@ asked schema tends s s' r answer goes counts answers formed most =
         schema = refl;
         session = goes.session;
         alone = refl;
+        per_tend = refl;
         known = goes.known;
         counts = record {
           reads = omega (arith, reads);
@@ -57,6 +58,7 @@ asked schema tends s s' r answer goes counts answers formed most =
           puts = subst (λ (q : Passes). put_count s.passes ≤ put_count q) (sym goes.passes) (omega arith);
           tends = omega arith;
         };
+        tends = refl;
       };
       letters = record {
         notes = ap (λ (q : Passes). map letter_in q.taken) goes.passes;

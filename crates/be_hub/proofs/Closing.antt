@@ -15,7 +15,7 @@ use Rattle.be_mail.specs.Settled.{TakenWerePut}
 use Rattle.be_mail.proofs.AllPut.{taken_are_such}
 use Rattle.be_board.specs.Word.{IsDelivered}
 use Rattle.be_board.proofs.Delivered.{delivered_along}
-use Rattle.be_desk.specs.Seats.{SeatState}
+use Rattle.be_desk.specs.Seats.{SeatState, IsKeptSeat}
 use Rattle.be_desk.specs.Closing.{AreKept}
 use Rattle.be_hub.specs.Closing.{KeepsAll, IsShown}
 
@@ -25,12 +25,11 @@ was_pushed {X} b now more less ok is = subst (λ (c : Bool). now ≡ if c then m
 abbrev passes_in : SeatState → Passes
 passes_in s = s.passes
 
--- each letter that a seat put tells of a row that is live in the list
-letters_stand : (boxes : List TableId) (h published : List Entry) (s : SeatState) → BeginsWith h published → IsShown boxes published s → AllPut (IsDelivered h) s.passes
-letters_stand boxes h published s begins shown =
-    let more : BeginsWith h s.glass.known = BeginsWith-along h published s.glass.known begins shown.known in
+-- each letter that a seat put tells of a row that is live in each list that begins with what the seat knows
+pub letters_stand : (boxes : List TableId) (h : List Entry) (s : SeatState) → BeginsWith h s.glass.known → IsKeptSeat boxes s → AllPut (IsDelivered h) s.passes
+letters_stand boxes h s more kept =
     All-weaker (λ (letters : List PlainLetter). All (IsDelivered s.glass.known) letters) (λ (letters : List PlainLetter). All (IsDelivered h) letters)
-    (λ letters each. All-weaker (IsDelivered s.glass.known) (IsDelivered h) (λ l d. delivered_along s.glass.known h l more d) letters each) s.passes.puts shown.kept.delivered
+    (λ letters each. All-weaker (IsDelivered s.glass.known) (IsDelivered h) (λ l d. delivered_along s.glass.known h l more d) letters each) s.passes.puts kept.delivered
 
 pub keeps_all : (boxes : List TableId) (h published : List Entry) (seats : List SeatState) → IsWellFormed h → BeginsWith h published → All (IsShown boxes published) seats → AreKept boxes h seats
     → TakenWerePut (map (λ (s : SeatState). s.passes) seats) → All (KeepsAll boxes h) seats
@@ -39,7 +38,7 @@ keeps_all boxes h published seats formed begins shown kept were_put i d within k
     let qs : List Passes = map passes_in seats in
     let Told : Posting → Type 0 = λ x. Any (λ (p : Passes). (p.seat ≡ x.from) × IsDelivered h x.letter) qs in
     let puts : All (λ (q : Passes). AllPut (IsDelivered h) q) qs =
-    All-map (λ (q : Passes). AllPut (IsDelivered h) q) passes_in seats (λ j e less. letters_stand boxes h published (get_or seats j e) begins (shown j e less)) in
+    All-map (λ (q : Passes). AllPut (IsDelivered h) q) passes_in seats (λ j e less. letters_stand boxes h (get_or seats j e) (BeginsWith-along h published (get_or seats j e).glass.known begins (shown j e less).known) (shown j e less).kept) in
     let taken : All Told s.passes.taken =
     subst (λ (q : Passes). All Told q.taken) (get_or-map passes_in seats i d d.passes within)
     (taken_are_such (λ (q : Passes) (l : PlainLetter). IsDelivered h l) qs puts were_put i d.passes (omega (arith, within, length-map seats passes_in))) in

@@ -28,7 +28,7 @@ use Rattle.be_protocol.specs.declared.ends.SessionEnd.TheVariants.{Eof, Quit, Re
 use Rattle.be_hub.specs.Closing.{KeepsAll}
 use Rattle.be_hub.specs.Files.{is_split_end}
 use Rattle.be_hub.specs.Links.{MayStart, session_at, IsCounted, IsOfLink, SeatVisit, WorkerServed}
-use Rattle.be_hub.specs.Serving.{IsLegalLink, ServedLink, IsServedLink, AreApart, session_and_link, told_of, AreKept, LinksAreServed}
+use Rattle.be_hub.specs.Serving.{ServedLink, IsServedLink, AreApart, session_and_link, told_of, AreKept, LinksAreServed}
 use Rattle.be_hub.specs.Settling.{IsUnbroken, CountsSplits}
 use Rattle.be_hub.proofs.Ends.{there, at_its_place}
 use Rattle.be_hub.proofs.Pairs.{get_map, one_at, map_at}
@@ -261,13 +261,18 @@ module _ {L : Type 0} (told : L → LinkState) {E : Type 0} (seat_in : E → Sea
             let l = w.links.served f.2 v.0 v.1 in
             let end_at = ended_at f.0 of.0 of.2.0 f.2 v.0 v.1 in
             let seat_back : slice_get back f.0 ≡ Some (seat_in of.0) = there_mapped seat_in ends back is f.0 of.0 of.1 in
-            let legal = legal_link s boxes (length opening) h k (first_seat opening boxes f.0) (seat_in of.0) v.0 l (at_of_all (KeepsAll boxes h) back f.0 (seat_in of.0) keeps_all seat_back)
+            let how = legal_link s boxes (length opening) h k (first_seat opening boxes f.0) (seat_in of.0) v.0 l (at_of_all (KeepsAll boxes h) back f.0 (seat_in of.0) keeps_all seat_back)
             (omega arith) (unbroken_at f.0 of.0 of.2.0 f.2 v.0 v.1) in
             let count_at = map_at count_in ends f.0 of.0 of.1 in
             subst (IsServedLink s (length opening) h (with_counts no_sums counts)) v.2 (record {
               somebody = subst (λ n. 0 < n) (sym l.session_is) l.somebody;
-              legal = subst (λ n. IsLegalLink s n (length opening) h (shut_at f.0 of.0 of.2.0 f.2 v.0 v.1) v.0.link v.0.end) (sym l.session_is) legal;
-              counted = counted_in counts f.0 (count_in of.0) v.0.end count_at (at_of_all (IsCounted (sums_of (count_in of.0))) (ends_in of.0) f.2 v.0.end w.links.counted end_at);
+              legal = record {
+                unused = l.unused;
+                is_unused = l.is_unused;
+                whole = l.served.whole;
+                ends = how;
+                counted = counted_in counts f.0 (count_in of.0) v.0.end count_at (at_of_all (IsCounted (sums_of (count_in of.0))) (ends_in of.0) f.2 v.0.end w.links.counted end_at);
+              };
             })
 
         -- no reply says that a reader was refused where no seat counted one

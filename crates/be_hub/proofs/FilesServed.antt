@@ -38,20 +38,20 @@ ends_weaker P Q s before after b b' Spent f e = e
 ends_weaker P Q s before after b b' NoMemory f (inl u) = inl (f u)
 ends_weaker P Q s before after b b' NoMemory f (inr e) = inr e
 
-pub file_served : (P : Type 0) (s s' : Attributes) (file : List ℕ) (seat seat' : SeatState) (out : List ℕ) (end : SessionEnd) (before after : LinkState) (b b' : BoardState) → s' ≡ s → before ≡ file_link file → b ≡ board_of s 0 seat
-    → b' ≡ board_of s 0 seat' → (P → (seat' ≡ seat) × (out ≡ [])) → after.sink.held ≡ Some out → IsCalm after → SessionEnds P s' before after b b' end → BoardLeft b b' → FileServed s file seat seat' out end
+pub file_served : (P : Type 0) (s s' : Attributes) (file : List ℕ) (seat seat' : SeatState) (out : List ℕ) (end : SessionEnd) (before after : LinkState) (b b' : BoardState) → s' ≡ s → before ≡ file_link file → b ≡ board_of 0 s 0 seat
+    → b' ≡ board_of 0 s 0 seat' → (P → (seat' ≡ seat) × (out ≡ [])) → after.sink.held ≡ Some out → IsCalm after → SessionEnds P s' before after b b' end → BoardLeft b b' → FileServed s file seat seat' out end
 file_served P s s' file seat seat' out end before after b b' schema is was now same wrote calm ends board =
-    let here : SessionEnds P s (file_link file) after (board_of s 0 seat) (board_of s 0 seat') end =
-    subst (λ (x : Attributes). SessionEnds P x (file_link file) after (board_of s 0 seat) (board_of s 0 seat') end) schema
-    (subst (λ (x : LinkState). SessionEnds P s' x after (board_of s 0 seat) (board_of s 0 seat') end) is
-    (subst (λ (x : BoardState). SessionEnds P s' before after x (board_of s 0 seat') end) was
+    let here : SessionEnds P s (file_link file) after (board_of 0 s 0 seat) (board_of 0 s 0 seat') end =
+    subst (λ (x : Attributes). SessionEnds P x (file_link file) after (board_of 0 s 0 seat) (board_of 0 s 0 seat') end) schema
+    (subst (λ (x : LinkState). SessionEnds P s' x after (board_of 0 s 0 seat) (board_of 0 s 0 seat') end) is
+    (subst (λ (x : BoardState). SessionEnds P s' before after x (board_of 0 s 0 seat') end) was
     (subst (λ (x : BoardState). SessionEnds P s' before after b x end) now ends))) in
     record {
       after = after;
-      session = ends_weaker P ((seat' ≡ seat) × (out ≡ [])) s (file_link file) after (board_of s 0 seat) (board_of s 0 seat') end same here;
+      session = ends_weaker P ((seat' ≡ seat) × (out ≡ [])) s (file_link file) after (board_of 0 s 0 seat) (board_of 0 s 0 seat') end same here;
       wrote = wrote;
-      board = subst (λ (x : BoardState). BoardLeft x (board_of s 0 seat')) was (subst (λ (x : BoardState). BoardLeft b x) now board);
-      quiet = ends_calm P s file after (board_of s 0 seat) (board_of s 0 seat') end calm here;
+      board = subst (λ (x : BoardState). BoardLeft x (board_of 0 s 0 seat')) was (subst (λ (x : BoardState). BoardLeft b x) now board);
+      quiet = ends_calm P s file after (board_of 0 s 0 seat) (board_of 0 s 0 seat') end calm here;
     }
 
 -- what the two objects of a new link tell
@@ -71,5 +71,5 @@ link_is source sink file is held refusals =
 pub few_taken : (source source' : MemSourceState) → IsQuietSource source → source ≡ source' → source'.taken ≤ FILE_BYTES
 few_taken source source' quiet is = subst (λ (x : MemSourceState). x.taken ≤ FILE_BYTES) is (omega (arith, quiet.parts, quiet.few))
 
-pub board_same : (s : Attributes) (m n : ℕ) (seat seat' : SeatState) → m ≡ n → seat ≡ seat' → board_of s m seat ≡ board_of s n seat'
-board_same s m n seat seat' a b = ap (λ (k : ℕ). board_of s k seat) a ∙ ap (board_of s n) b
+pub board_same : (per_tend : ℕ) (s : Attributes) (m n : ℕ) (seat seat' : SeatState) → m ≡ n → seat ≡ seat' → board_of per_tend s m seat ≡ board_of per_tend s n seat'
+board_same per_tend s m n seat seat' a b = ap (λ (k : ℕ). board_of per_tend s k seat) a ∙ ap (board_of per_tend s n) b

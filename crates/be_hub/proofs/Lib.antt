@@ -6,8 +6,9 @@ pub mod Pairs
 pub mod Choices
 pub mod Closing
 pub mod Ends
-mod Shuts
+pub mod Shuts
 mod Transcripts
+mod Posted
 mod FilesClosed
 pub mod Places
 mod Entered

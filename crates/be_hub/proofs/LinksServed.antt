@@ -118,7 +118,7 @@ went_nowhere k s = record {
   splits = omega arith;
 }
 
-module _ (schema : Attributes) (seats n : ℕ) (first last e seat' : SeatState) (calls calls' : ℕ) (ent : Enters schema seats n first last e) (board : BoardLeft (board_of schema calls e) (board_of schema calls' seat')) where
+module _ (schema : Attributes) (seats n : ℕ) (first last e seat' : SeatState) (tends : ℕ) (ent : Enters schema seats n first last e) (board : BoardLeft (board_of 1 schema 0 e) (board_of 1 schema tends seat')) where
   abbrev new : List (ℕ × Entry)
   new = board.own.0
 
@@ -159,7 +159,7 @@ module _ (schema : Attributes) (seats n : ℕ) (first last e seat' : SeatState) 
   )
 
 -- a session's SPLIT is counted
-pub splits_of : (P : Type 0) (s : Attributes) (before after : LinkState) (calls calls' : ℕ) (seat seat' : SeatState) (end : SessionEnd) → SessionEnds P s before after (board_of s calls seat) (board_of s calls' seat') end → is_split_end end ≡ true
+pub splits_of : (P : Type 0) (s : Attributes) (before after : LinkState) (calls calls' : ℕ) (seat seat' : SeatState) (end : SessionEnd) → SessionEnds P s before after (board_of 1 s calls seat) (board_of 1 s calls' seat') end → is_split_end end ≡ true
     → HasRisen seat.splits seat'.splits
 splits_of P s before after calls calls' seat seat' (Split i j) e is =
     let r = e.replied in
@@ -224,7 +224,7 @@ module _ {L : Type 0} (told : L → LinkState) where
       some_raised a b some = omega (arith, some)
 
   new_counted : (P : Type 0) (s : Attributes) (before : LinkState) (c : CountState L) (session : SessionNo) (link : L) (after : LinkState) (calls calls' : ℕ) (e seat' : SeatState) (end : SessionEnd)
-      → SessionEnds P s before after (board_of s calls e) (board_of s calls' seat') end → IsCounted (sums_of (after_back c session link after)) end
+      → SessionEnds P s before after (board_of 1 s calls e) (board_of 1 s calls' seat') end → IsCounted (sums_of (after_back c session link after)) end
   new_counted P s before c session link after calls calls' e seat' Eof x = tt
   new_counted P s before c session link after calls calls' e seat' Quit x = tt
   new_counted P s before c session link after calls calls' e seat' (Split i j) x = tt
@@ -242,9 +242,9 @@ module _ {L : Type 0} (told : L → LinkState) where
       risen : (a b d : ℕ) → HasRisenBy SOURCE_BYTES a b → SOURCE_BYTES ≤ max d b
       risen a b d h = omega (arith, h)
 
-  module _ (s : Attributes) (boxes : List TableId) (first last e seat' : SeatState) (c : CountState L) (ends : List SessionEnd) (session : SessionNo) (link : L) (before : LinkState) (end : SessionEnd) (calls calls' : ℕ)
+  module _ (s : Attributes) (boxes : List TableId) (first last e seat' : SeatState) (c : CountState L) (ends : List SessionEnd) (session : SessionNo) (link : L) (before : LinkState) (end : SessionEnd) (calls : ℕ)
       (l : LinksServed told s boxes first last c ends calls) (sound : IsSound c) (ent : Enters s (length boxes) (length ends) first last e) (is : session.0 ≡ e.session) (kept_seat : IsKeptSeat boxes e)
-      (unused : IsUnused before) (served : SessionServed s e seat' before (told link) end calls calls')
+      (unused : IsUnused before) (served : SessionServed s e seat' before (told link) end)
     where
       abbrev after : LinkState
       after = told link
@@ -275,8 +275,6 @@ module _ {L : Type 0} (told : L → LinkState) where
       new_visit = record {
         unused = before;
         is_unused = unused;
-        calls = calls;
-        calls' = calls';
         somebody = kept_seat.somebody;
         session_is = refl;
         seat_is = kept_seat.seat_is ∙ sym served.board.goes.seat;
@@ -290,14 +288,12 @@ module _ {L : Type 0} (told : L → LinkState) where
       old_visit k v some o = record {
         unused = o.unused;
         is_unused = o.is_unused;
-        calls = o.calls;
-        calls' = o.calls';
         somebody = o.somebody;
         session_is = o.session_is;
-        seat_is = o.seat_is ∙ sym (seat_same s (length boxes) n first last e seat' calls calls' ent served.board);
+        seat_is = o.seat_is ∙ sym (seat_same s (length boxes) n first last e seat' served.tends ent served.board);
         known = o.known;
         served = o.served;
-        went_on = went_further s (length boxes) n first last e seat' calls calls' ent served.board k v.left
+        went_on = went_further s (length boxes) n first last e seat' served.tends ent served.board k v.left
             (λ same. absurd (omega (arith, same, o.went_on.session, ent.later some, o.session_is, o.served.board.goes.session))) o.went_on;
       }
 
@@ -329,25 +325,25 @@ module _ {L : Type 0} (told : L → LinkState) where
         link = refl;
       })
 
-      pub one_served : (calls'' : ℕ) → n + 1 ≤ calls'' → LinksServed told s boxes first seat' c' ends' calls''
-      one_served calls'' swept = record {
+      pub one_served : (calls' : ℕ) → n + 1 ≤ calls' → LinksServed told s boxes first seat' c' ends' calls'
+      one_served calls' swept = record {
         back = ap (λ m. m + 1) l.back ∙ sym one_more;
-        seat = seat_same s (length boxes) n first last e seat' calls calls' ent served.board ∙ l.seat;
+        seat = seat_same s (length boxes) n first last e seat' served.tends ent served.board ∙ l.seat;
         session = served.board.goes.session ∙ (ent.session ∙ ap (session_at (length boxes) first.session) (less n (length ends') one_more));
-        known = BeginsWith-along seat'.glass.known last.glass.known first.glass.known (knows_more s (length boxes) n first last e seat' calls calls' ent served.board) l.known;
+        known = BeginsWith-along seat'.glass.known last.glass.known first.glass.known (knows_more s (length boxes) n first last e seat' served.tends ent served.board) l.known;
         splits = omega (arith, l.splits, served.board.goes.counts.splits, ent.splits);
-        own = subst (λ m. AddsOfLinks (length boxes) m first seat') (sym one_more) (adds s (length boxes) n first last e seat' calls calls' ent served.board l.own);
+        own = subst (λ m. AddsOfLinks (length boxes) m first seat') (sym one_more) (adds s (length boxes) n first last e seat' served.tends ent served.board l.own);
         visits = visits';
         ends_are = ap (λ es. es ++ end ∷ []) l.ends_are ∙ sym (map-append (λ (v : SeatVisit). v.end) l.visits (visit ∷ []));
         chain = follows_on s (length boxes) first last l.visits visit l.chain (λ none. ent.same (sym many ∙ none)) (λ some. ent.next (omega (arith, some, many)));
         served = λ i v at. served_there i v (in_push l.visits visit i v at);
         kept = λ i x at. kept_there i x (kept_before c.keeps refl i x at);
         counted = All-push (IsCounted (sums_of c')) ends end (All-weaker (IsCounted (sums_of c)) (IsCounted (sums_of c')) (counted_on c c' (raised_by c session link after)) ends l.counted)
-            (new_counted _ s before c session link after calls calls' e seat' end served.session);
+            (new_counted _ s before c session link after 0 served.tends e seat' end served.session);
         split = All-push (λ (x : SessionEnd). is_split_end x ≡ true → HasRisen first.splits seat'.splits) ends end
             (All-weaker (λ (x : SessionEnd). is_split_end x ≡ true → HasRisen first.splits last.splits) (λ (x : SessionEnd). is_split_end x ≡ true → HasRisen first.splits seat'.splits)
             (λ x f y. risen_on first.splits last.splits e.splits seat'.splits (f y) ent.splits served.board.goes.counts.splits) ends l.split)
-            (λ y. risen_since first.splits last.splits e.splits seat'.splits l.splits ent.splits (splits_of _ s before after calls calls' e seat' end served.session y));
+            (λ y. risen_since first.splits last.splits e.splits seat'.splits l.splits ent.splits (splits_of _ s before after 0 served.tends e seat' end served.session y));
         failed = λ some. (raised_by c session link after).read_faults (l.failed some);
         swept = omega (arith, one_more, swept);
       }

@@ -1,8 +1,8 @@
 -- Whether replies say that a reader was refused, and the count of those that were.
-use Rattle.std.proofs.Common.{◌≡◌, ℕ, zero, suc, Bool, true, false, not, ◌&&◌, ◌||◌, List, [], ◌∷◌, length, Option, Some, None, slice_get, refl, sym, ap, ◌∙◌, arith}
+use Rattle.std.proofs.Common.{◌≡◌, ℕ, zero, suc, Bool, true, false, ◌||◌, List, [], ◌∷◌, length, Option, Some, None, slice_get, refl, sym, ap, ◌∙◌, arith}
 use Rattle.std.specs.Prelude.{if◌then◌else◌}
 use Rattle.std.specs.Option.{option_or}
-use Rattle.std.specs.List.{All, list_all, list_any, filter}
+use Rattle.std.specs.List.{All, list_any, filter}
 use Rattle.std.proofs.lemmas.List.Elements.{All-cons, All-head, All-nil, All-tail}
 use Rattle.std.proofs.lemmas.List.Folds.{list_any_at}
 use Rattle.std.proofs.lemmas.Option.{slice_get_within, get_or_from_slice_get}
@@ -15,17 +15,8 @@ use Rattle.be_hub.specs.Links.{SeatVisit, FollowLeft, FollowOn}
 use Rattle.be_hub.specs.Transcripts.{says_shut, ShutsOnly}
 use Rattle.be_hub.proofs.Entered.{glass_same}
 
--- what isn't counted isn't there
-none_counted : (ps : List Exchange) → length (filter is_shut ps) ≡ 0 → list_all (λ (p : Exchange). not (is_shut p)) ps ≡ true
-none_counted [] few = refl
-none_counted (p ∷ ps) few = go (is_shut p) few (none_counted ps)
-  where
-    go : (b : Bool) → length (if b then p ∷ filter is_shut ps else filter is_shut ps) ≡ 0
-        → (length (filter is_shut ps) ≡ 0 → list_all (λ (q : Exchange). not (is_shut q)) ps ≡ true) → (not b && list_all (λ (q : Exchange). not (is_shut q)) ps) ≡ true
-    go true few rest = absurd (omega (arith, few))
-    go false few rest = rest few
-
-none_says : (ps : List Exchange) → length (filter is_shut ps) ≡ 0 → says_shut ps ≡ false
+-- what isn't counted no reply says
+pub none_says : (ps : List Exchange) → length (filter is_shut ps) ≡ 0 → says_shut ps ≡ false
 none_says [] few = refl
 none_says (p ∷ ps) few = go (is_shut p) few (none_says ps)
   where
@@ -49,8 +40,7 @@ stays_none : (n before after : ℕ) → RisesBy n before after → n ≡ 0 → b
 stays_none n before after rise few is = omega (arith, rise, few, is)
 
 pub shuts_only : (shuts : Bool) (ps : List Exchange) (before after : ℕ) → RisesBy (length (filter is_shut ps)) before after → (shuts ≡ false → after ≡ 0) → ShutsOnly shuts ps
-shuts_only true ps before after rise quiet = tt
-shuts_only false ps before after rise quiet = none_counted ps (no_rise (length (filter is_shut ps)) before after rise (quiet refl))
+shuts_only shuts ps before after rise quiet = λ is. none_says ps (no_rise (length (filter is_shut ps)) before after rise (quiet is))
 
 -- what replies say agrees with the count before and after them
 pub record Agrees (shut : Bool) (before after : ℕ) : Type 0 where
@@ -64,10 +54,6 @@ agrees ps before after rise = record {
 }
 
 -- tests
-pub not_false : (b : Bool) → (b ≡ false → ⊥) → b ≡ true
-not_false true never = refl
-not_false false never = absurd (never refl)
-
 pub same_test : (a b : Bool) → (a ≡ false → b ≡ false) → (b ≡ false → a ≡ false) → a ≡ b
 same_test true true there back = refl
 same_test true false there back = back refl

@@ -23,8 +23,9 @@ use Rattle.be_protocol.specs.declared.ends.SessionEnd.{SessionEnd}
 use Rattle.be_protocol.specs.declared.ends.SessionEnd.TheVariants.{Eof, Quit, ReadFault, WriteFault, Spent, Split, NoMemory}
 use Rattle.be_protocol.specs.Ends.{end_after, is_on, goes_on}
 use Rattle.be_protocol.specs.Conversation.{Replied}
+use Rattle.be_session.specs.Given.{GivesLetters}
 use Rattle.be_session.specs.Served.{SessionEnds, session_terms}
-use Rattle.be_session.specs.Tied.{is_split}
+use Rattle.be_session.specs.Tied.{is_split, TiedPuts}
 use Rattle.be_session.proofs.Quits.{Ended, by_split, by_quit, by_none, ended_of, has_no_quit, quits_at}
 use Rattle.be_hub.specs.Files.{file_link, FileServed, IsRead, is_split_end, IsEndOf}
 use Rattle.be_hub.specs.Transcripts.{AreServedLines, says_shut, IsTranscript}
@@ -54,7 +55,7 @@ on_by_none : (end : Option SessionEnd) (i j : ℕ) → is_on end ≡ true → en
 on_by_none None i j on is = absurd cc
 on_by_none (Some e) i j on is = absurd cc
 
-abbrev pub plain : Exchange → Bool
+abbrev plain : Exchange → Bool
 plain p = not (is_split p)
 
 on_is_plain : (p : Exchange) → goes_on p ≡ true → plain p ≡ true
@@ -64,28 +65,34 @@ quit_is_plain : (p : Exchange) → end_after p.0 p.1 ≡ Some Quit → plain p �
 quit_is_plain p by = not_split p.0 p.1 (λ i j is. absurd cc)
 
 -- where no reply ended the session, or the last one to a QUIT, none is a SPLIT
-pub all_plain : (ps : List Exchange) → list_all goes_on ps ≡ true → list_all plain ps ≡ true
+all_plain : (ps : List Exchange) → list_all goes_on ps ≡ true → list_all plain ps ≡ true
 all_plain [] on = refl
 all_plain (p ∷ ps) on =
     let parts = and_parts (goes_on p) (list_all goes_on ps) on in
     and_from (plain p) (list_all plain ps) (on_is_plain p parts.0) (all_plain ps parts.1)
 
-pub all_plain_last : (ps : List Exchange) (p : Exchange) → list_all goes_on ps ≡ true → end_after p.0 p.1 ≡ Some Quit → list_all plain (ps ++ p ∷ []) ≡ true
+all_plain_last : (ps : List Exchange) (p : Exchange) → list_all goes_on ps ≡ true → end_after p.0 p.1 ≡ Some Quit → list_all plain (ps ++ p ∷ []) ≡ true
 all_plain_last [] p on by = and_from (plain p) true (quit_is_plain p by) refl
 all_plain_last (q ∷ ps) p on by =
     let parts = and_parts (goes_on q) (list_all goes_on ps) on in
     and_from (plain q) (list_all plain (ps ++ p ∷ [])) (on_is_plain q parts.0) (all_plain_last ps p parts.1 by)
 
--- a legal transcript. The seat's count stays 0 where none of its replies says that a reader was refused
-abbrev pub Told : Attributes → (k z : ℕ) → List Entry → (shuts : Bool) → (file out : List ℕ) → (after : ℕ) → Type 0
-Told s k z h shuts file out after = (t : IsTranscript s k z h shuts file out) × (says_shut t.exchanges ≡ false → after ≡ 0)
+-- what exchanges say of the board that they leave. Its count of refused reads stays 0 where no reply says that one was
+pub record Leave (ps : List Exchange) (b b' : BoardState) : Type 0 where
+  pub shuts : says_shut ps ≡ false → b'.counts.shuts ≡ 0
+  pub letters : GivesLetters b.box ps b b'
+  pub puts : TiedPuts ps b b'
+
+-- a legal transcript
+abbrev pub Told : Attributes → (k z : ℕ) → List Entry → (shuts : Bool) → (file out : List ℕ) → BoardState → BoardState → Type 0
+Told s k z h shuts file out b b' = (t : IsTranscript s k z h shuts file out) × Leave t.exchanges b b'
 
 out_is : (out text : List ℕ) → Some out ≡ Some text → out ≡ text
 out_is out text e = cc
 
 transcript_from : (s : Attributes) (z : ℕ) (h : List Entry) (shuts : Bool) (file out : List ℕ) (served : List TextLine) (end : Option SessionEnd) (before after : SinkState) (b b' : BoardState)
     → AreServedLines s file served → (r : Replied (session_terms s b b') served end before after) → list_all plain r.exchanges ≡ true → before.held ≡ Some [] → after.held ≡ Some out
-    → Keeps h b'.word → z ≤ length b.word.known → (shuts ≡ false → b'.counts.shuts ≡ 0) → b.counts.shuts ≡ 0 → Told s b.word.session z h shuts file out b'.counts.shuts
+    → Keeps h b'.word → z ≤ length b.word.known → (shuts ≡ false → b'.counts.shuts ≡ 0) → b.counts.shuts ≡ 0 → Told s b.word.session z h shuts file out b b'
 transcript_from s z h shuts file out served end before after b b' read r whole empty wrote keeps within quiet first = (
   record {
     served = served;
@@ -96,7 +103,11 @@ transcript_from s z h shuts file out served end before after b b' read r whole e
     whole = whole;
     refused = shuts_only shuts r.exchanges b.counts.shuts b'.counts.shuts r.legal.tied.shuts quiet;
   },
-  λ few. (agrees r.exchanges b.counts.shuts b'.counts.shuts r.legal.tied.shuts).stays few first,
+  record {
+    shuts = λ few. (agrees r.exchanges b.counts.shuts b'.counts.shuts r.legal.tied.shuts).stays few first;
+    letters = r.legal.letters;
+    puts = r.legal.puts;
+  },
 )
 
 told_end : (file : List ℕ) (o : Option (List ℕ)) (ls : List TextLine) → ReadToEnd (Some file) o ls → ls ≡ lines LINE_BYTES true file
@@ -109,18 +120,18 @@ told_first file (Some a) ls w = w.first
 
 -- a file that was read to its end or to a QUIT
 pub transcript_of : (s : Attributes) (z : ℕ) (h : List Entry) (shuts : Bool) (file out : List ℕ) (seat seat' : SeatState) (end : SessionEnd) → FileServed s file seat seat' out end → IsRead end → Keeps h (word_of seat')
-    → z ≤ length seat.glass.known → (shuts ≡ false → seat'.glass.shuts ≡ 0) → seat.glass.shuts ≡ 0 → Told s seat.session z h shuts file out seat'.glass.shuts
+    → z ≤ length seat.glass.known → (shuts ≡ false → seat'.glass.shuts ≡ 0) → seat.glass.shuts ≡ 0 → Told s seat.session z h shuts file out (board_of 0 s 0 seat) (board_of 0 s 0 seat')
 transcript_of s z h shuts file out seat seat' end f read keeps within quiet first = by_end end f.session read
   where
-    by_end : (x : SessionEnd) → SessionEnds ((seat' ≡ seat) × (out ≡ [])) s (file_link file) f.after (board_of s 0 seat) (board_of s 0 seat') x → IsRead x → Told s seat.session z h shuts file out seat'.glass.shuts
+    by_end : (x : SessionEnd) → SessionEnds ((seat' ≡ seat) × (out ≡ [])) s (file_link file) f.after (board_of 0 s 0 seat) (board_of 0 s 0 seat') x → IsRead x → Told s seat.session z h shuts file out (board_of 0 s 0 seat) (board_of 0 s 0 seat')
     by_end Eof e is =
-        transcript_from s z h shuts file out e.lines None (file_link file).sink f.after.sink (board_of s 0 seat) (board_of s 0 seat')
+        transcript_from s z h shuts file out e.lines None (file_link file).sink f.after.sink (board_of 0 s 0 seat) (board_of 0 s 0 seat')
         (inl (told_end file f.after.source.left e.lines e.read, has_no_quit s e.lines e.replied.exchanges e.replied.asked e.replied.ends))
         e.replied (all_plain e.replied.exchanges e.replied.ends) refl f.wrote keeps within quiet first
     by_end Quit e is =
         let r = e.replied in
         let asked = subst (λ (ps : List Exchange). requests ps ≡ map (reading s) e.lines) r.ends.2 r.asked in
-        transcript_from s z h shuts file out e.lines (Some Quit) (file_link file).sink f.after.sink (board_of s 0 seat) (board_of s 0 seat')
+        transcript_from s z h shuts file out e.lines (Some Quit) (file_link file).sink f.after.sink (board_of 0 s 0 seat) (board_of 0 s 0 seat')
         (inr (told_first file f.after.source.left e.lines e.read, quits_at s e.lines r.ends.0 r.ends.1 asked r.ends.3 r.ends.4))
         r (subst (λ (ps : List Exchange). list_all plain ps ≡ true) (sym r.ends.2) (all_plain_last r.ends.0 r.ends.1 r.ends.3 r.ends.4)) refl f.wrote keeps within quiet first
     by_end (Split i j) e is = absurd is
@@ -166,7 +177,7 @@ some_rise n before after rise some = omega (arith, rise, some)
 pub end_of_file : (s : Attributes) (file out : List ℕ) (seat seat' : SeatState) (end : SessionEnd) → FileServed s file seat seat' out end → IsEndOf seat' end
 end_of_file s file out seat seat' end f = record { quiet = f.quiet; counted = by_end end f.session }
   where
-    by_end : (x : SessionEnd) → SessionEnds ((seat' ≡ seat) × (out ≡ [])) s (file_link file) f.after (board_of s 0 seat) (board_of s 0 seat') x → is_split_end x ≡ true → 0 < seat'.splits
+    by_end : (x : SessionEnd) → SessionEnds ((seat' ≡ seat) × (out ≡ [])) s (file_link file) f.after (board_of 0 s 0 seat) (board_of 0 s 0 seat') x → is_split_end x ≡ true → 0 < seat'.splits
     by_end Eof e is = absurd cc
     by_end Quit e is = absurd cc
     by_end (Split i j) e is =

@@ -1,46 +1,48 @@
 -- Where no link has a fault, all were read.
-use Rattle.std.proofs.Common.{◌≡◌, ℕ, zero, suc, ◌+◌, ◌<◌, inr, Bool, false, List, length, sym, ap, ◌∙◌, subst, arith}
+use Rattle.std.proofs.Common.{◌≡◌, ℕ, zero, suc, ◌+◌, ◌<◌, inr, Bool, false, List, length, sym, ap, ◌∙◌, arith}
 use Rattle.be_base.specs.declared.names.SessionNo.{SessionNo}
 use Rattle.be_io.specs.Outside.{LinkState}
 use Rattle.be_model.specs.Schemas.{Attributes}
 use Rattle.be_change.specs.History.{Entry}
 use Rattle.be_door.specs.declared.sums.Sums.{Sums}
+use Rattle.be_protocol.specs.Conversation.{Terms}
 use Rattle.be_protocol.specs.declared.ends.SessionEnd.{SessionEnd}
 use Rattle.be_protocol.specs.declared.ends.SessionEnd.TheVariants.{Eof, Quit, ReadFault, WriteFault, Spent, Split, NoMemory}
 use Rattle.be_hub.specs.Files.{IsRead}
-use Rattle.be_hub.specs.Links.{IsCounted}
 use Rattle.be_base.specs.Counts.{raised, HasRisenBy}
 use Rattle.be_door.specs.Door.{DoorState}
-use Rattle.be_hub.specs.Serving.{IsLegalLink, ServedLink, IsServedLink, AreFaultless, LinksAreServed, WereRead, served_door, IsTried}
+use Rattle.be_hub.specs.Serving.{legal_terms, IsServedUnder, ServedLink, IsServedLink, AreFaultless, LinksAreServed, WereRead, served_door, IsTried}
 use Rattle.be_hub.proofs.Places.{all_from_places, at_of_all}
 use Rattle.be_hub.proofs.Shuts.{none_at}
 
-read_by : (s : Attributes) (k z : ℕ) (h : List Entry) (shut : Bool) (link : LinkState) (sums : Sums) (end : SessionEnd) → IsLegalLink s k z h shut link end → IsCounted sums end → AreFaultless sums → IsRead end
-read_by s k z h shut link sums Eof l c none = tt
-read_by s k z h shut link sums Quit l c none = tt
-read_by s k z h shut link sums ReadFault l c none = absurd (omega (arith, c, none.0))
-read_by s k z h shut link sums WriteFault l c none = absurd (omega (arith, c, none.1))
-read_by s k z h shut link sums Spent l c none = absurd (omega (arith, c, none.2))
-read_by s k z h shut link sums (Split i j) l c none = absurd l
-read_by s k z h shut link sums NoMemory l c none = absurd l
+-- without a fault of any link its session ended by the input's end or by a QUIT
+pub read_by : (t : Terms) (sums : Sums) (link : LinkState) (end : SessionEnd) → IsServedUnder t sums link end → AreFaultless sums → IsRead end
+read_by t sums link Eof l none = tt
+read_by t sums link Quit l none = tt
+read_by t sums link ReadFault l none = absurd (omega (arith, l.counted, none.0))
+read_by t sums link WriteFault l none = absurd (omega (arith, l.counted, none.1))
+read_by t sums link Spent l none = absurd (omega (arith, l.counted, none.2))
+read_by t sums link (Split i j) l none = absurd l.ends
+read_by t sums link NoMemory l none = absurd l.ends
+
+-- where none failed, all were given out
+pub all_given : (given failed links : ℕ) → given + failed ≡ links → (0 < failed → ⊥) → given ≡ links
+all_given given zero links is never = omega (arith, is)
+all_given given (suc n) links is never = absurd (never (omega arith))
 
 module _ {L : Type 0} (told : L → LinkState) (s : Attributes) (opening h : List Entry) (shuts : Bool) (links : ℕ) (sums : Sums) (keeps : Bool) (kept : List (SessionNo × L)) where
-  pub were_read : (l : LinksAreServed told s opening h shuts links sums keeps kept) → shuts ≡ false → AreFaultless sums → WereRead s opening h links sums l.served
+  pub were_read : (l : LinksAreServed told s opening h shuts links sums keeps kept) → shuts ≡ false → AreFaultless sums → WereRead links sums l.served
   were_read l is none =
-      let all : sums.given ≡ links = none_failed sums.given sums.failed links l.all (λ some. absurd (omega (arith, l.failed some, none.0))) in
+      let all : sums.given ≡ links = all_given sums.given sums.failed links l.all (λ some. absurd (omega (arith, l.failed some, none.0))) in
       record {
         given = all;
         back = l.back ∙ all;
-        each = all_from_places (λ (x : ServedLink). IsRead x.end × IsLegalLink s x.session (length opening) h false x.link x.end) l.served
-            (λ i x at.
-            let k = at_of_all (IsServedLink s (length opening) h sums) l.served i x l.each at in
-            let quiet : x.shut ≡ false = none_at (λ (y : ServedLink). y.shut) l.served i x (sym l.some_shut ∙ is) at in
-            (read_by s x.session (length opening) h x.shut x.link sums x.end k.legal k.counted none, subst (λ b. IsLegalLink s x.session (length opening) h b x.link x.end) quiet k.legal));
+        each = all_from_places (λ (x : ServedLink). IsRead x.end × (x.shut ≡ false)) l.served
+            (λ i x at. (
+              read_by (legal_terms s x.session (length opening) h x.shut) sums x.link x.end (at_of_all (IsServedLink s (length opening) h sums) l.served i x l.each at).legal none,
+              none_at (λ (y : ServedLink). y.shut) l.served i x (sym l.some_shut ∙ is) at,
+            ));
       }
-    where
-      none_failed : (a b c : ℕ) → a + b ≡ c → (0 < b → ⊥) → a ≡ c
-      none_failed a zero c is never = omega (arith, is)
-      none_failed a (suc b) c is never = absurd (never (omega arith))
 
 -- a door that was settled was tried
 pub served_tried : {L : Type 0} (door door' : DoorState L) (port links workers : ℕ) (sums : Sums) (kept : List (SessionNo × L)) → door' ≡ served_door door port links workers sums kept → IsTried door door' port

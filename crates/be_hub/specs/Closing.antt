@@ -5,6 +5,7 @@ use Rattle.be_base.specs.Lists.{BeginsWith}
 use Rattle.be_change.specs.History.{Entry, IsWellFormed}
 use Rattle.be_mail.specs.Letters.{seat_of}
 use Rattle.be_mail.specs.Mailbox.{BoxId, Mailbox}
+use Rattle.be_mail.specs.Passes.{AreOfSeat}
 use Rattle.be_mail.specs.Settled.{AreKept, TakenWerePut}
 use Rattle.be_board.specs.Word.{Keeps}
 use Rattle.be_model.specs.Schemas.{Attributes}
@@ -21,9 +22,11 @@ abbrev pub KeepsAll : List TableId → List Entry → SeatState → Type 0
 KeepsAll boxes h s = (k : ℕ) → 0 < k → seat_of (length boxes) k ≡ s.passes.seat → Keeps h (record (word_of s) { session = k })
 
 -- what the mail shows of the letters of all seats: of what a seat put into a mailbox, the letters that were taken out and then those
--- that are left there are, in order, all, each once; and a seat took no letter that none put into its mailbox
-pub record AreInOrder (schema : Attributes) (count : ℕ) (found : BoxId → Mailbox → Type 0) (boxes : List TableId) (seats : List SeatState) : Type 0 where
-  pub kept : AreKept schema count found boxes (map (λ (s : SeatState). s.passes) seats)
+-- that are left there are, in order, all, each once; and a seat took no letter that none put into its mailbox. Each seat has a list for
+-- each mailbox
+pub record AreInOrder (schema : Attributes) (found : BoxId → Mailbox → Type 0) (boxes : List TableId) (seats : List SeatState) : Type 0 where
+  pub form : All AreOfSeat (map (λ (s : SeatState). s.passes) seats)
+  pub kept : AreKept schema (length boxes) found boxes (map (λ (s : SeatState). s.passes) seats)
   pub taken : TakenWerePut (map (λ (s : SeatState). s.passes) seats)
 
 -- the seat's reader, shown what is published, knows no more than that

@@ -26,9 +26,9 @@ IsFileEnd end = ⊥
 -- the session of the seat was served over the file, and wrote the transcript. The desk was never tended through its board
 pub record FileServed (s : Attributes) (file : List ℕ) (seat seat' : SeatState) (transcript : List ℕ) (end : SessionEnd) : Type 0 where
   pub after : LinkState
-  pub session : SessionEnds ((seat' ≡ seat) × (transcript ≡ [])) s (file_link file) after (board_of s 0 seat) (board_of s 0 seat') end
+  pub session : SessionEnds ((seat' ≡ seat) × (transcript ≡ [])) s (file_link file) after (board_of 0 s 0 seat) (board_of 0 s 0 seat') end
   pub wrote : after.sink.held ≡ Some transcript
-  pub board : BoardLeft (board_of s 0 seat) (board_of s 0 seat')
+  pub board : BoardLeft (board_of 0 s 0 seat) (board_of 0 s 0 seat')
   pub quiet : IsFileEnd end
 
 -- the file was read to its end or to a QUIT

@@ -28,10 +28,11 @@ use Rattle.be_session.specs.Served.{SessionEnds, BoardLeft}
 abbrev pub session_at : ℕ → ℕ → ℕ → ℕ
 session_at seats first i = first + i * seats
 
--- the seat's session was served over the link
-pub record SessionServed (s : Attributes) (seat seat' : SeatState) (before after : LinkState) (end : SessionEnd) (calls calls' : ℕ) : Type 0 where
-  pub session : SessionEnds ((after ≡ before) × (seat' ≡ seat)) s before after (board_of s calls seat) (board_of s calls' seat') end
-  pub board : BoardLeft (board_of s calls seat) (board_of s calls' seat')
+-- the seat's session was served over the link, by a board that counts its tends from 0
+pub record SessionServed (s : Attributes) (seat seat' : SeatState) (before after : LinkState) (end : SessionEnd) : Type 0 where
+  pub tends : ℕ
+  pub session : SessionEnds ((after ≡ before) × (seat' ≡ seat) × (tends ≡ 0)) s before after (board_of 1 s 0 seat) (board_of 1 s tends seat') end
+  pub board : BoardLeft (board_of 1 s 0 seat) (board_of 1 s tends seat')
   -- all bytes that the link gives from first to last are the same ones
   pub whole : after.source.whole ≡ before.source.whole
 
@@ -75,13 +76,11 @@ FollowOn s seats first (v ∷ vs) last = (v.entered ≡ first) × FollowLeft s s
 pub record LinkServed (s : Attributes) (boxes : List TableId) (k : ℕ) (first last : SeatState) (visit : SeatVisit) : Type 0 where
   pub unused : LinkState
   pub is_unused : IsUnused unused
-  pub calls : ℕ
-  pub calls' : ℕ
   pub somebody : 0 < k
   pub session_is : visit.entered.session ≡ k
   pub seat_is : seat_of (length boxes) k ≡ last.passes.seat
   pub known : BeginsWith visit.entered.glass.known first.glass.known
-  pub served : SessionServed s visit.entered visit.left unused visit.link visit.end calls calls'
+  pub served : SessionServed s visit.entered visit.left unused visit.link visit.end
   pub went_on : WentOn k visit.left last
 
 -- what the visits added to a count of the seat, together
@@ -101,8 +100,8 @@ AddUp count visits first last = count last ≡ count first + added_by count visi
 abbrev pub AddUpWith : (SeatState → ℕ) → List SeatVisit → SeatState → SeatState → Type 0
 AddUpWith count visits first last = count last ≡ count first + added_between count first visits + added_by count visits
 
--- so it is of each count to which a session's replies are tied: no rise of it belongs to two visits. Between two visits only the
--- look that found the mailbox empty is counted
+-- so it is of each count to which a session's replies are tied, but that of tends, which begins anew: no rise of it belongs to two
+-- visits. Between two visits only the look that found the mailbox empty is counted
 pub record CountsAddUp (visits : List SeatVisit) (first last : SeatState) : Type 0 where
   pub reads : AddUp (λ x. x.glass.reads) visits first last
   pub shuts : AddUp (λ x. x.glass.shuts) visits first last
@@ -155,7 +154,7 @@ module _ {L : Type 0} (told : L → LinkState) where
     pub split : All (λ (end : SessionEnd). is_split_end end ≡ true → HasRisen first.splits last.splits) ends
     -- an accept failed only where the count of faults says it
     pub failed : 0 < count.failed → 0 < count.read_faults
-    -- the desk was tended at least as often as sessions have ended
+    -- behind the sessions the desk was tended at least as often as sessions have ended
     pub swept : length ends ≤ calls
 
   -- a worker has met the end of the links, and all that it was given are back

@@ -1,24 +1,21 @@
 -- What the links of a door gave and hold, over one list of changes, and what was made of the door.
-use Rattle.std.specs.Prelude.{◌≡◌, ℕ, ◌+◌, ◌<◌, ◌≤◌, ◌++◌, ◌⊎◌, Bool, true, false, not, List, [], ◌∷◌, length, map, All, Any, None, IfSome, Some, slice_get}
-use Rattle.std.specs.List.{list_all, list_any}
+use Rattle.std.specs.Prelude.{◌≡◌, ℕ, ◌+◌, ◌<◌, ◌≤◌, ◌++◌, ◌⊎◌, Bool, true, false, List, [], ◌∷◌, length, map, All, Any, None, Some, slice_get}
+use Rattle.std.specs.List.{list_any}
 use Rattle.be_base.specs.Counts.{raised, HasRisen, HasRisenBy}
 use Rattle.be_base.specs.Lists.{BeginsWith}
 use Rattle.be_base.specs.declared.limits.TheConstants.{SOURCE_BYTES}
 use Rattle.be_base.specs.declared.names.SessionNo.{SessionNo}
-use Rattle.be_io.specs.Lines.{TextLine}
 use Rattle.be_io.specs.Outside.{LinkState}
-use Rattle.be_io.specs.Sink.{SinkState}
 use Rattle.be_model.specs.Schemas.{Attributes}
 use Rattle.be_change.specs.History.{Entry, session_of, IsWellFormed}
-use Rattle.be_change.specs.Requests.{Exchange}
-use Rattle.be_protocol.specs.LinesRead.{ReadToEnd, ReadInPart, ReadFirstLines}
-use Rattle.be_protocol.specs.Runs.{HasNoQuit, EndsWithQuit}
-use Rattle.be_protocol.specs.Transcript.{AreExchanges, OutputBroke, texts}
 use Rattle.be_door.specs.Door.{DoorState, after_try}
+use Rattle.be_door.specs.Links.{IsUnused}
 use Rattle.be_door.specs.declared.sums.Sums.{Sums}
+use Rattle.be_protocol.specs.Conversation.{Terms, ConversationEnds}
+use Rattle.be_protocol.specs.Readings.{reading}
+use Rattle.be_protocol.specs.Transcript.{AreExchanges}
 use Rattle.be_protocol.specs.declared.ends.SessionEnd.{SessionEnd}
-use Rattle.be_protocol.specs.declared.ends.SessionEnd.TheVariants.{Eof, Quit, ReadFault, WriteFault, Spent}
-use Rattle.be_session.specs.Tied.{is_split}
+use Rattle.be_protocol.specs.declared.ends.SessionEnd.TheVariants.{Split, NoMemory}
 use Rattle.be_hub.specs.Files.{IsRead}
 use Rattle.be_hub.specs.Links.{IsCounted}
 use Rattle.be_hub.specs.Transcripts.{says_shut}
@@ -29,44 +26,32 @@ use Rattle.be_io.specs.declared.faults.ListenFault.TheVariants as listen
 use Rattle.be_hub.specs.declared.serving.ServeFault.{ServeFault}
 use Rattle.be_hub.specs.declared.serving.ServeFault.TheVariants as fault
 
--- lines that were read so were answered, one reply a line, in order, and the link holds these replies and no other byte, where it
--- tells what it holds, and handed all of them on. They are legal over the list as session k's, which was told z entries before.
--- `shut` is whether one of them says that a reader was refused
-pub record AnsweredWhole (Read : List TextLine → Type 0) (s : Attributes) (k z : ℕ) (h : List Entry) (shut : Bool) (sink : SinkState) : Type 0 where
-  pub lines : List TextLine
-  pub read : Read lines
-  pub exchanges : List Exchange
-  pub legal : AreExchanges s k z h lines exchanges
-  pub text : IfSome sink.held (λ out. out ≡ texts s exchanges)
-  pub handed : sink.kept_back ≡ 0
-  pub whole : list_all (λ (p : Exchange). not (is_split p)) exchanges ≡ true
-  pub refused : says_shut exchanges ≡ shut
+-- session k's conversation over the list, of which it was told z entries before. `shut` is whether some reply says that a reader was
+-- refused
+abbrev pub legal_terms : Attributes → (k z : ℕ) → List Entry → (shut : Bool) → Terms
+legal_terms s k z h shut = record {
+  schema = s;
+  asks = reading s;
+  Whole = λ end lines ps. AreExchanges s k z h lines ps × (says_shut ps ≡ shut);
+  InPart = λ lines ps p out. AreExchanges s k z h lines (ps ++ p ∷ []) × (says_shut (ps ++ p ∷ []) ≡ shut);
+}
 
--- the same, but that the output broke off at the last reply, which counts for `shut` as well
-pub record AnsweredInPart (Read : List TextLine → Type 0) (s : Attributes) (k z : ℕ) (h : List Entry) (shut : Bool) (sink : SinkState) : Type 0 where
-  pub lines : List TextLine
-  pub read : Read lines
-  pub exchanges : List Exchange
-  pub last : Exchange
-  pub legal : AreExchanges s k z h lines (exchanges ++ last ∷ [])
-  pub text : IfSome sink.held (λ out. OutputBroke s exchanges last out sink.kept_back)
-  pub refused : says_shut (exchanges ++ last ∷ []) ≡ shut
+-- how the conversation with a link that is told of may have ended: memory wasn't wanting to it, and it didn't end by two numbers that
+-- differ
+abbrev pub LinkEnds : Terms → LinkState → LinkState → SessionEnd → Type 0
+LinkEnds t before after (Split seen written) = ⊥
+LinkEnds t before after NoMemory = ⊥
+LinkEnds t before after end = ConversationEnds ⊥ t before after end
 
--- by how the session ended, what a link gave and what it holds. It breaks off only where a write to it or a flush failed
-abbrev pub IsLegalLink : Attributes → (k z : ℕ) → List Entry → Bool → LinkState → SessionEnd → Type 0
--- read to its end
-IsLegalLink s k z h shut link Eof =
-    AnsweredWhole (λ lines. ReadToEnd link.source.whole link.source.left lines × HasNoQuit s lines) s k z h shut link.sink
--- read to a QUIT
-IsLegalLink s k z h shut link Quit =
-    AnsweredWhole (λ lines. ReadFirstLines link.source.whole link.source.left lines × EndsWithQuit s lines) s k z h shut link.sink
-IsLegalLink s k z h shut link ReadFault =
-    (0 < link.source.faults) × AnsweredWhole (λ lines. ReadInPart link.source.whole link.source.left lines × HasNoQuit s lines) s k z h shut link.sink
-IsLegalLink s k z h shut link Spent =
-    (SOURCE_BYTES ≤ link.source.taken) × AnsweredWhole (λ lines. ReadInPart link.source.whole link.source.left lines × HasNoQuit s lines) s k z h shut link.sink
-IsLegalLink s k z h shut link WriteFault =
-    (0 < link.sink.faults) × AnsweredInPart (λ lines. ReadFirstLines link.source.whole link.source.left lines) s k z h shut link.sink
-IsLegalLink s k z h shut link end = ⊥
+-- a link that nobody had used was served under these terms, and stands so now. These numbers of all links say it where that ended by a
+-- fault
+pub record IsServedUnder (t : Terms) (sums : Sums) (link : LinkState) (end : SessionEnd) : Type 0 where
+  pub unused : LinkState
+  pub is_unused : IsUnused unused
+  -- all bytes that the link gives from first to last are the same ones
+  pub whole : link.source.whole ≡ unused.source.whole
+  pub ends : LinkEnds t unused link end
+  pub counted : IsCounted sums end
 
 -- no fault of any link was counted, and none gave 2^40 bytes
 abbrev pub AreFaultless : Sums → Type 0
@@ -80,19 +65,18 @@ pub record ServedLink : Type 0 where
   pub end : SessionEnd
   pub shut : Bool
 
--- the link is legal by how its session ended, and these numbers of all links say it where that was by a fault
+-- the link was served over the list as the session that it names. Session 0 is nobody
 pub record IsServedLink (s : Attributes) (z : ℕ) (h : List Entry) (sums : Sums) (l : ServedLink) : Type 0 where
   pub somebody : 0 < l.session
-  pub legal : IsLegalLink s l.session z h l.shut l.link l.end
-  pub counted : IsCounted sums l.end
+  pub legal : IsServedUnder (legal_terms s l.session z h l.shut) sums l.link l.end
 
 -- no two of these links have the same session
 abbrev pub AreApart : List ServedLink → Type 0
 AreApart ls = (i j : ℕ) (x y : ServedLink) → slice_get ls i ≡ Some x → slice_get ls j ≡ Some y → x.session ≡ y.session → i ≡ j
 
--- the links were read to their end or to a QUIT and are legal, and none says that a reader was refused
-abbrev pub AreRead : Attributes → ℕ → List Entry → List ServedLink → Type 0
-AreRead s z h ls = All (λ (l : ServedLink). IsRead l.end × IsLegalLink s l.session z h false l.link l.end) ls
+-- each was read to its end or to a QUIT, and none says that a reader was refused
+abbrev pub AreRead : List ServedLink → Type 0
+AreRead ls = All (λ (l : ServedLink). IsRead l.end × (l.shut ≡ false)) ls
 
 abbrev pub session_and_link : ServedLink → ℕ × LinkState
 session_and_link l = (l.session, l.link)
@@ -126,12 +110,11 @@ module _ {L : Type 0} (told : L → LinkState) where
     pub sessions : (place : ℕ) (e : Entry) → length opening ≤ place → slice_get h place ≡ Some e → Any (λ (l : ServedLink). l.session ≡ session_of e) served
     pub kept_are : AreKept keeps kept served
 
--- all links were given out and came back, each was read to its end or to a QUIT and is legal, and none says that a reader was
--- refused
-pub record WereRead (s : Attributes) (opening h : List Entry) (links : ℕ) (sums : Sums) (served : List ServedLink) : Type 0 where
+-- all links were given out and came back, each was read to its end or to a QUIT, and none says that a reader was refused
+pub record WereRead (links : ℕ) (sums : Sums) (served : List ServedLink) : Type 0 where
   pub given : sums.given ≡ links
   pub back : sums.back ≡ links
-  pub each : AreRead s (length opening) h served
+  pub each : AreRead served
 
 module _ {L : Type 0} where
   -- the door after one listen that was settled, with these numbers and these links

@@ -10,6 +10,7 @@ use Rattle.be_change.specs.Requests.{Exchange}
 use Rattle.be_protocol.specs.Runs.{HasNoQuit, EndsWithQuit}
 use Rattle.be_protocol.specs.Transcript.{AreExchanges, texts}
 use Rattle.be_session.specs.Tied.{is_shut, is_split}
+use Rattle.be_hub.specs.Posted.{SessionBox, IsBoxOf}
 
 -- these are all lines of the file, none of which is a QUIT, or those up to the first QUIT
 abbrev pub AreServedLines : Attributes → List ℕ → List TextLine → Type 0
@@ -20,10 +21,9 @@ AreServedLines s file served =
 abbrev pub says_shut : List Exchange → Bool
 says_shut ps = list_any is_shut ps
 
--- nothing where some session's read was refused, else that no reply says so
-abbrev pub ShutsOnly : Bool → List Exchange → Type 0
-ShutsOnly true ps = Unit {0}
-ShutsOnly false ps = list_all (λ (p : Exchange). not (is_shut p)) ps ≡ true
+-- where no session's read was refused, no reply says so
+abbrev pub ShutsOnly : (shuts : Bool) → List Exchange → Type 0
+ShutsOnly shuts ps = shuts ≡ false → says_shut ps ≡ false
 
 -- the transcript of session k's file, legal over the list, of which the session was told z entries before: one reply a line, in
 -- order, and no other byte
@@ -37,7 +37,8 @@ pub record IsTranscript (s : Attributes) (k z : ℕ) (h : List Entry) (shuts : B
   pub refused : ShutsOnly shuts exchanges
 
 -- file i, from 1, was served as session i, over one well formed list that begins with the opening and has changes of these
--- sessions alone behind it. Where a session's read was refused its entry, the transcript of some file says so
+-- sessions alone behind it. Where a session's read was refused its entry, the transcript of some file says so. Each session has a box
+-- of letters, and its transcript says what was put and what was taken out
 pub record AreServed (s : Attributes) (opening h : List Entry) (shuts : Bool) (files transcripts : List (List ℕ)) : Type 0 where
   pub formed : IsWellFormed h
   pub begins : BeginsWith h opening
@@ -48,3 +49,8 @@ pub record AreServed (s : Attributes) (opening h : List Entry) (shuts : Bool) (f
   pub some_shut : shuts ≡ true
       → (i : ℕ) × (file : List ℕ) × (transcript : List ℕ) × (here : slice_get files i ≡ Some file) × (there : slice_get transcripts i ≡ Some transcript)
       × (says_shut (each i file transcript here there).exchanges ≡ true)
+  -- one a session
+  pub boxes : List SessionBox
+  pub box_count : length boxes ≡ length files
+  pub letters : (i : ℕ) (file transcript : List ℕ) (box : SessionBox) (here : slice_get files i ≡ Some file) (there : slice_get transcripts i ≡ Some transcript)
+      → slice_get boxes i ≡ Some box → IsBoxOf h boxes (i + 1) (each i file transcript here there).exchanges box

@@ -1,6 +1,7 @@
 //! A seat with the shared desk and the mail, as the board of its session.
 
-ghost use Rattle.std.specs.Prelude.{◌≡◌, true, false};
+ghost use Rattle.std.specs.Prelude.{◌≡◌, ◌≤◌, min, true, false};
+ghost use Rattle.be_base.specs.Counts.{RisesBy};
 ghost use Rattle.be_board.specs.Changes.{Asked};
 ghost use Rattle.be_desk.specs.Asks.{request_of, ask_lies};
 ghost use Rattle.be_desk.specs.Boards.{board_of};
@@ -17,16 +18,19 @@ use be_published::{Naming, Sheet};
 use std::alloc::Global;
 use std::sync::{Arc, MutexGuard, Wait};
 
-/// A seat at the shared desk. Its reads and its letters take no lock; its changes take that of the desk. It tends the desk only
+/// A seat at the shared desk. Its reads and its letters take no lock; its changes take that of the desk. It is to tend the desk only
 /// where `TENDS` isn't 0.
 #[derive(Drop)]
 pub struct DeskBoard<'a, T: Sheet<J>, J: Naming + BoxNames, S: Post, R: Wait, const TENDS: u8> {
     rt: &'a R,
     hub: &'a Hub<T, J, S>,
     seat: Seat<T, J>,
+    // The tends that it was asked for, where it is to tend at all.
+    calls: u64,
+    // Those of them at which nobody else was at the desk. No contract tells how many.
     tended: TendCount,
-    // Where it tends nothing its count is 0.
-    ghost still: { TENDS ≡ 0 → tended ≡ 0 },
+    // Where it isn't to tend both are 0.
+    ghost still: { TENDS ≡ 0 → (calls ≡ 0) × (tended ≡ 0) },
 }
 
 impl<'a, T: Sheet<J>, J: Naming + BoxNames, S: Post, R: Wait, const TENDS: u8> DeskBoard<
@@ -45,25 +49,26 @@ impl<'a, T: Sheet<J>, J: Naming + BoxNames, S: Post, R: Wait, const TENDS: u8> D
     ) -> DeskBoard<'a, T, J, S, R, TENDS>
         requires still { TENDS ≡ 0 → tended ≡ 0 }
         ensures seat { result.seat ≡ seat }
-        ensures tended { result.tended ≡ tended }
+        ensures calls { result.calls ≡ 0 }
     {
         DeskBoard {
             rt,
             hub,
             seat,
+            calls: 0,
             tended,
         }
     }
 
     pub(crate) fn take(self) -> (Seat<T, J>, TendCount)
         ensures seat { result.0 ≡ self.entry.seat }
-        ensures tended { result.1 ≡ self.entry.tended }
-        ensures still { TENDS ≡ 0 → result.1 ≡ 0 }
+        ensures still { TENDS ≡ 0 → self.entry.calls ≡ 0 }
     {
         let DeskBoard {
             rt: _,
             hub: _,
             seat,
+            calls: _,
             tended,
         } = self;
         (seat, tended)
@@ -73,7 +78,7 @@ impl<'a, T: Sheet<J>, J: Naming + BoxNames, S: Post, R: Wait, const TENDS: u8> D
     fn change(&mut self, alloc: Global, ask: Ask) -> Answer
         requires present { is_over self.old.seat ≡ false }
         requires lies { ask_lies J.schema ask ≡ true }
-        ensures { Asked (board_of J.schema self.old.tended self.old.seat) (board_of J.schema self.new.tended self.new.seat) (request_of ask) result }
+        ensures { Asked (board_of (min TENDS 1) J.schema self.old.calls self.old.seat) (board_of (min TENDS 1) J.schema self.new.calls self.new.seat) (request_of ask) result }
     {
         // That the count isn't past its type's end comes to light here.
         let _ = self.seat.splits();
@@ -87,9 +92,10 @@ impl<'a, T: Sheet<J>, J: Naming + BoxNames, S: Post, R: Wait, const TENDS: u8> D
 
 impl<'a, T: Sheet<J>, J: Naming + BoxNames, S: Post, R: Wait, const TENDS: u8> Board
     for DeskBoard<'a, T, J, S, R, TENDS> {
+    ghost use Rattle.std.specs.Prelude.{min};
     ghost use Rattle.be_desk.specs.Boards.{board_of};
 
-    ghost state = { λ b. board_of J.schema b.tended b.seat };
+    ghost state = { λ b. board_of (min TENDS 1) J.schema b.calls b.seat };
 
     fn subscribe(&mut self, alloc: Global, name: Name, conj: Conj) -> Answer {
         self.change(alloc, Ask::Subscribe { name, conj })
@@ -144,8 +150,7 @@ impl<'a, T: Sheet<J>, J: Naming + BoxNames, S: Post, R: Wait, const TENDS: u8> B
 
     fn tend(&mut self) {
         if TENDS > 0 {
-            // That the count isn't past its type's end comes to light here.
-            let _ = self.tended.calls();
+            self.calls = one_more(self.calls);
             // Whoever is at the desk isn't waited for: the next tend will do.
             let hub = self.hub;
             if let Some(guard) = hub.desk.try_lock() {
@@ -155,4 +160,11 @@ impl<'a, T: Sheet<J>, J: Naming + BoxNames, S: Post, R: Wait, const TENDS: u8> B
             }
         }
     }
+}
+
+// The count, one higher. At its type's end it stays there.
+fn one_more(count: u64) -> u64
+    ensures { (count ≤ result) × RisesBy 1 count result }
+{
+    count.saturating_add(1)
 }

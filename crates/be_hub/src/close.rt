@@ -3,6 +3,7 @@
 ghost use Rattle.std.specs.Prelude.{◌≡◌, length, map, All, IfOk, IfErr};
 ghost use Rattle.be_base.specs.Lists.{BeginsWith};
 ghost use Rattle.be_change.specs.Sound.{Sound};
+ghost use Rattle.be_mail.specs.Passes.{AreOfSeat};
 ghost use Rattle.be_mail.specs.Settled.{AreAll};
 ghost use Rattle.be_desk.specs.Closing.{AreRecorded};
 ghost use Rattle.be_desk.specs.Desks.{IsOpened};
@@ -47,7 +48,7 @@ impl<T: Sheet<J>, J: Naming + BoxNames, S: Post> Hub<T, J, S> {
         ensures opened { IfOk result (λ closed. IsOpened J.opening closed.log.list) }
         ensures keeps { IfOk result (λ closed. All (KeepsAll J.boxes closed.log.list) seats.items) }
         ensures recorded { IfOk result (λ closed. AreRecorded (length closed.log.list) closed.log.list seats.items) }
-        ensures letters { IfOk result (λ _. AreInOrder S.schema S.seats S.found J.boxes seats.items) }
+        ensures letters { IfOk result (λ _. AreInOrder S.schema S.found J.boxes seats.items) }
         ensures fault { IfErr result (λ fault. IsRefused J.opening J.boxes seats.items fault) }
     {
         let Hub {
@@ -84,7 +85,7 @@ fn compare<T: Sheet<J>, J: Naming + BoxNames, S: Post, R: Wait>(
     ensures begins { BeginsWith desk.now.list desk.now.published }
     ensures keeps { IfOk result (λ _. All (KeepsAll J.boxes desk.now.list) seats.items) }
     ensures recorded { IfOk result (λ _. AreRecorded (length desk.now.list) desk.now.list seats.items) }
-    ensures letters { IfOk result (λ _. AreInOrder S.schema S.seats S.found J.boxes seats.items) }
+    ensures letters { IfOk result (λ _. AreInOrder S.schema S.found J.boxes seats.items) }
     ensures fault { IfErr result (λ fault. IsFault J.boxes desk.now.published desk.now.list seats.items fault) }
 {
     // That the list is well formed comes to light at its length.
@@ -96,6 +97,8 @@ fn compare<T: Sheet<J>, J: Naming + BoxNames, S: Post, R: Wait>(
     match found {
         Some(stray) => Err(CloseFault::Stray(stray)),
         None => {
+            // How many mailboxes there are comes to light here.
+            let _ = mail.seats();
             mail.settle(passes);
             Ok(())
         }
@@ -110,6 +113,7 @@ fn part_all<T: Sheet<J>, J: Naming + BoxNames, R: Wait>(
     seats: Vec<Seat<T, J>>,
 ) -> Result<Vec<MailPasses>, CloseFault>
     ensures passes { IfOk result (λ passes. passes.items ≡ map (λ s. s.passes) seats.items) }
+    ensures form { IfOk result (λ passes. All AreOfSeat passes.items) }
     ensures shown { IfOk result (λ _. All (IsShown J.boxes desk.now.published) seats.items) }
     ensures fault { IfErr result (λ fault. IsLate desk.now.published seats.items fault) }
 {
@@ -134,6 +138,7 @@ fn part<T: Sheet<J>, J: Naming + BoxNames, R: Wait>(
     seat: Seat<T, J>,
 ) -> Result<MailPasses, Rift>
     ensures passes { IfOk result (λ passes. passes ≡ seat.passes) }
+    ensures form { IfOk result (λ passes. AreOfSeat passes) }
     ensures shown { IfOk result (λ _. IsShown J.boxes desk.now.published seat) }
     ensures ahead { IfErr result (λ rift. IsAhead desk.now.published (numbers_of rift) seat) }
 {
@@ -143,6 +148,11 @@ fn part<T: Sheet<J>, J: Naming + BoxNames, R: Wait>(
     desk.show(rt, &mut seat);
     match desk.ahead(&seat) {
         Some(rift) => Err(rift),
-        None => Ok(seat.into_passes()),
+        None => {
+            let passes = seat.into_passes();
+            // That each mailbox has its list comes to light here.
+            let _ = passes.seat();
+            Ok(passes)
+        }
     }
 }

@@ -1,12 +1,13 @@
 //! Files served and the hub closed, in one call.
 
-ghost use Rattle.std.specs.Prelude.{◌≡◌, ◌≤◌, ◌↔◌, None, length, map, find, option_copied, All, IfOk};
+ghost use Rattle.std.specs.Prelude.{◌≡◌, ℕ, ◌≤◌, ◌↔◌, None, Some, slice_get, length, map, find, option_copied, All, IfOk};
 ghost use Rattle.std.specs.List.{list_any, range_with_len};
 ghost use Rattle.std.specs.Option.{is_some};
 ghost use Rattle.be_base.specs.declared.limits.TheConstants.{FILE_BYTES, SEATS, ROUNDS};
 ghost use Rattle.be_change.specs.Sound.{Sound};
 ghost use Rattle.be_desk.specs.Seats.{first_seat, IsKeptSeat};
 ghost use Rattle.be_hub.specs.Files.{IsRead, lacks_memory, is_split_end, IsEndOf};
+ghost use Rattle.be_hub.specs.Posted.{WasBox};
 ghost use Rattle.be_hub.specs.Transcripts.{AreServed};
 
 use crate::close::{CloseFault, Closed};
@@ -65,6 +66,9 @@ impl<T: Sheet<J> + Send + Sync, J: Naming + BoxNames + Send + Sync, S: Post + Se
         requires rounds { rounds ≤ ROUNDS }
         ensures served { IfOk result (λ drilled. AreServed J.schema J.opening drilled.log.list (is_some drilled.shade)
             (map (λ file. file.items) files.items) (map (λ transcript. transcript.items) drilled.transcripts.items)) }
+        ensures letters { IfOk result (λ drilled. (served : AreServed J.schema J.opening drilled.log.list (is_some drilled.shade)
+            (map (λ file. file.items) files.items) (map (λ transcript. transcript.items) drilled.transcripts.items))
+            × ((i : ℕ) (box : _) → slice_get served.boxes i ≡ Some box → WasBox S.found J.boxes i box)) }
         ensures sound { IfOk result (λ drilled. Sound J.schema drilled.log.list) }
         ensures rounds { IfOk result (λ drilled. drilled.broom ≡ rounds) }
     {

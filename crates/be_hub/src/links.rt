@@ -32,20 +32,22 @@ pub const FIRST_END: u64 = 2305843009213693952;
 const TRIES: u64 = 8;
 
 /// What a worker leaves of the links that it served: its seat and its count, how each session ended, in the order in which the
-/// links were given back, and how often it tended the desk.
+/// links were given back, how often it tended the desk behind a link, and how often between replies.
 #[derive(Drop)]
 pub struct WorkEnd<T: Sheet<J>, J: Naming + BoxNames, L> {
     pub seat: Seat<T, J>,
     pub count: DoorCount<L>,
     pub ends: Vec<SessionEnd>,
     pub tended: TendCount,
+    /// No contract speaks of it: a tend isn't made where another one is at the desk.
+    pub between: TendCount,
 }
 
 // A link that was served, what served it, and how its session ended.
 #[derive(Drop)]
 struct Visit<T: Sheet<J>, J: Naming + BoxNames, L> {
     seat: Seat<T, J>,
-    tended: TendCount,
+    between: TendCount,
     link: L,
     end: SessionEnd,
 }
@@ -77,6 +79,7 @@ pub(crate) fn serve_links<
         count: task,
         ends: Vec::new(alloc),
         tended: TendCount::make(),
+        between: TendCount::make(),
     };
     loop {
         work.ends.reserve(1)?;
@@ -124,16 +127,17 @@ fn serve_next<
         seat,
         mut count,
         mut ends,
-        tended,
+        mut tended,
+        between,
     } = work;
     let seat = next_seat(rt, hub, seat, ends.is_empty());
     let session = seat.session();
     let Visit {
         seat,
-        mut tended,
+        between,
         link,
         end,
-    } = serve_session(rt, alloc, hub, gate, worker, seat, tended, link);
+    } = serve_session(rt, alloc, hub, gate, worker, seat, between, link);
     publish_held(rt, hub, &mut tended);
     door.give_back(&mut count, session, link);
     ends.push_reserved(end);
@@ -142,6 +146,7 @@ fn serve_next<
         count,
         ends,
         tended,
+        between,
     }
 }
 
@@ -176,19 +181,19 @@ fn serve_session<T: Sheet<J>, J: Naming + BoxNames, S: Post, R: Wait, L: Link, G
     gate: &G,
     worker: u32,
     seat: Seat<T, J>,
-    tended: TendCount,
+    between: TendCount,
     link: L,
 ) -> Visit<T, J, L>
     requires fresh { own_in (word_of seat) ≡ [] }
-    ensures { SessionServed J.schema seat result.seat (link_state L.Source L.Sink link) (link_state L.Source L.Sink result.link) result.end tended result.tended }
+    ensures { SessionServed J.schema seat result.seat (link_state L.Source L.Sink link) (link_state L.Source L.Sink result.link) result.end }
 {
     let mut link = link;
-    let mut board = DeskBoard::<T, J, S, R, 1>::make(rt, hub, seat, tended);
+    let mut board = DeskBoard::<T, J, S, R, 1>::make(rt, hub, seat, between);
     let end = serve_link(alloc, &hub.schema, &mut board, &mut link, gate, worker);
-    let (seat, tended) = board.take();
+    let (seat, between) = board.take();
     Visit {
         seat,
-        tended,
+        between,
         link,
         end,
     }

@@ -18,13 +18,13 @@ use Rattle.be_door.specs.Sums.{no_sums}
 use Rattle.be_door.specs.declared.sums.Sums.{Sums}
 use Rattle.be_hub.specs.Files.{lacks_memory, is_split_end}
 use Rattle.be_hub.specs.Links.{IsCounted}
-use Rattle.be_hub.specs.Serving.{told_of}
+use Rattle.be_hub.specs.Serving.{LinkEnds, told_of}
 use Rattle.be_protocol.specs.Conversation.{ConversationEnds}
 use Rattle.be_protocol.specs.declared.ends.SessionEnd.{SessionEnd}
 use Rattle.be_protocol.specs.declared.ends.SessionEnd.TheVariants.{Eof, Quit, ReadFault, WriteFault, Spent, Split, NoMemory}
 use Rattle.be_published.specs.States.{GlassState}
 use Rattle.be_mirror.specs.Links.{IsQuiet, WasRead, ReadWorkerServed}
-use Rattle.be_mirror.specs.Serving.{ReadLink, IsReadLink, LinkEnds, list_terms, number_and_link, ReadLinksAreKept, LinksAreRead}
+use Rattle.be_mirror.specs.Serving.{ReadLink, IsReadLink, list_terms, number_and_link, ReadLinksAreKept, LinksAreRead}
 
 -- these numbers say what a count's say
 record Covers (sums : Sums) {L : Type 0} (c : CountState L) : Type 0 where

@@ -9,10 +9,14 @@ use Rattle.be_follow.specs.Feeds.{Fed, Means}
 use Rattle.be_follow.specs.Followers.{FollowerState, Follows}
 use Rattle.be_protocol.specs.Conversation.{TakesWithin}
 use Rattle.be_protocol.proofs.LinesGoing.{rises-along}
-use Rattle.be_mirror.specs.Feeding.{IsFed}
+use Rattle.be_mirror.specs.Feeding.{IsFed, TakesNext}
 use Rattle.be_mirror.specs.Serving.{Feeds, FeedEnds, IsFew, IsShort}
 use Rattle.be_mirror.specs.declared.feeding.FeedEnd.{FeedEnd}
 use Rattle.be_mirror.specs.declared.feeding.FeedEnd.TheVariants as feed
+
+-- what is said of an answer is said of the one that it is
+pub takes_as : {most : ℕ} {before after : SourceState} {f g : FollowerState} {r q : Result ℕ FeedEnd} → r ≡ q → TakesNext most before after f g r → TakesNext most before after f g q
+takes_as {most} {before} {after} {f} {g} is t = subst (λ (x : Result ℕ FeedEnd). TakesNext most before after f g x) is t
 
 told_same : (before after : Option (List ℕ)) → after ≡ before → WhereTold before after (λ b a. b ≡ [] ++ a)
 told_same None after is = subst (λ o. WhereTold None o (λ b a. b ≡ [] ++ a)) (sym is) tt

@@ -2,7 +2,6 @@ pub mod Stepping
 pub mod Said
 pub mod Tying
 pub mod Showing
-pub mod Taking
 pub mod Handing
 pub mod Commanding
 pub mod FeedGoing

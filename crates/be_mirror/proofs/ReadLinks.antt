@@ -1,7 +1,6 @@
 -- What a session of reads says holds on, and one more link was served.
-use Rattle.std.proofs.Common.{◌≡◌, ℕ, ◌<◌, ◌≤◌, Bool, true, false, ◌&&◌, List, [], ◌∷◌, ◌++◌, length, map, max, refl, sym, ap, ◌∙◌, subst, length-append, arith}
-use Rattle.std.specs.Prelude.{if◌then◌else◌, not, filter}
-use Rattle.std.specs.List.{list_all}
+use Rattle.std.proofs.Common.{◌≡◌, ℕ, ◌<◌, ◌≤◌, Bool, true, false, List, [], ◌∷◌, ◌++◌, length, map, max, refl, sym, ap, ◌∙◌, subst, length-append, arith}
+use Rattle.std.specs.Prelude.{filter}
 use Rattle.std.proofs.lemmas.List.{map-append}
 use Rattle.std.proofs.lemmas.List.Elements.{All-nil, All-push, All-weaker}
 use Rattle.atomic_table.specs.Seated.{TableId}
@@ -21,6 +20,7 @@ use Rattle.be_hub.specs.Files.{is_split_end}
 use Rattle.be_hub.specs.Links.{IsCounted}
 use Rattle.be_hub.specs.Serving.{told_of}
 use Rattle.be_hub.specs.Transcripts.{ShutsOnly}
+use Rattle.be_hub.proofs.Shuts.{none_says}
 use Rattle.be_protocol.specs.Conversation.{ConversationEnds}
 use Rattle.be_protocol.specs.declared.ends.SessionEnd.{SessionEnd}
 use Rattle.be_protocol.specs.declared.ends.SessionEnd.TheVariants.{Eof, Quit, ReadFault, WriteFault, Spent, Split, NoMemory}
@@ -31,16 +31,6 @@ use Rattle.be_mirror.specs.Links.{IsQuiet, WasRead, ReadLinksServed}
 use Rattle.be_mirror.specs.Reading.{mirror_terms, MirrorSessionEnds}
 use Rattle.be_mirror.specs.Serving.{ReadLink, list_terms, number_and_link, ReadLinksAreKept}
 
--- what isn't counted isn't there
-none_counted : (ps : List Exchange) → length (filter is_shut ps) ≡ 0 → list_all (λ (p : Exchange). not (is_shut p)) ps ≡ true
-none_counted [] few = refl
-none_counted (p ∷ ps) few = go (is_shut p) few (none_counted ps)
-  where
-    go : (b : Bool) → length (if b then p ∷ filter is_shut ps else filter is_shut ps) ≡ 0
-        → (length (filter is_shut ps) ≡ 0 → list_all (λ (q : Exchange). not (is_shut q)) ps ≡ true) → (not b && list_all (λ (q : Exchange). not (is_shut q)) ps) ≡ true
-    go true h rest = absurd (omega (arith, h))
-    go false h rest = rest h
-
 no_rise : (n before after : ℕ) → HasRisenBy n before after → after ≡ 0 → n ≡ 0
 no_rise n before after rise is = omega (arith, rise, is)
 
@@ -48,8 +38,7 @@ none_before : (n before after : ℕ) → HasRisenBy n before after → after ≡
 none_before n before after rise is = omega (arith, rise, is)
 
 shuts_only : (shuts : Bool) (ps : List Exchange) (before after : ℕ) → HasRisenBy (length (filter is_shut ps)) before after → (shuts ≡ false → after ≡ 0) → ShutsOnly shuts ps
-shuts_only true ps before after rise quiet = tt
-shuts_only false ps before after rise quiet = none_counted ps (no_rise (length (filter is_shut ps)) before after rise (quiet refl))
+shuts_only shuts ps before after rise quiet = λ is. none_says ps (no_rise (length (filter is_shut ps)) before after rise (quiet is))
 
 -- no session of a mirror ends by two numbers that differ
 conversed : (U : Type 0) (s : Attributes) (before after : LinkState) (g g' : GlassState) (end : SessionEnd) → MirrorSessionEnds U s before after g g' end → ConversationEnds U (mirror_terms s g g') before after end

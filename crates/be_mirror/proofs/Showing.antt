@@ -1,5 +1,5 @@
 -- What the exchanges of a conversation made of the glass, from exchange to exchange, and how the conversation ended by that.
-use Rattle.std.proofs.Common.{◌≡◌, inl, inr, ℕ, ◌≤◌, Bool, true, false, List, [], ◌∷◌, ◌++◌, length, map, Option, Some, None, refl, sym, ap, ◌∙◌, subst, append_assoc}
+use Rattle.std.proofs.Common.{◌≡◌, inl, inr, ℕ, ◌+◌, ◌≤◌, ◌&&◌, Bool, true, false, List, [], ◌∷◌, ◌++◌, length, map, Option, Some, None, refl, sym, ap, ◌∙◌, subst, append_assoc}
 use Rattle.std.specs.List.{list_all}
 use Rattle.std.proofs.lemmas.List.{append-nil}
 use Rattle.be_base.specs.Lists.{BeginsWith}
@@ -12,7 +12,7 @@ use Rattle.be_change.specs.History.{Entry}
 use Rattle.be_change.specs.Requests.{Request, quit, split, Exchange}
 use Rattle.be_change.specs.Walk.{Walk, beginning_at}
 use Rattle.be_published.specs.States.{GlassState}
-use Rattle.be_protocol.specs.Conduct.{Rests, Trace, RepliesSoFar, LeavesIf, Led, LedInPart, leading}
+use Rattle.be_protocol.specs.Conduct.{is_sixteenth, TendsIf, Trace, RepliesSoFar, LeavesIf, Led, LedInPart, leading}
 use Rattle.be_protocol.specs.Conversation.{EndedByReply, ConversationEnds}
 use Rattle.be_protocol.specs.Ends.{end_after, goes_on, is_on, EndsBy}
 use Rattle.be_protocol.specs.Runs.{is_quit}
@@ -74,22 +74,22 @@ no_quit (quit, _) on = absurd cc
 no_quit (_, _) on = refl
 
 -- a glass stays as it is between two lines
-rested : (s : Attributes) (a b : GlassState) → Rests (mirror_conduct s) a b → b ≡ a
-rested s a b (inl same) = same
-rested s a b (inr same) = same
+rested : (s : Attributes) (due : Bool) (a b : GlassState) → TendsIf (mirror_conduct s) due a b → b ≡ a
+rested s true a b same = same
+rested s false a b same = same
 
 -- exchanges none of which ended the session
-shows_all : (s : Attributes) (qs ps : List Exchange) (a b c : GlassState) → Shows s false ps a b → list_all goes_on qs ≡ true → Trace (mirror_conduct s) qs b c → Shows s false (ps ++ qs) a c
-shows_all s [] ps a b c f on t = subst (λ (x : GlassState). Shows s false (ps ++ []) a x) (sym t) (subst (λ (xs : List Exchange). Shows s false xs a b) (sym (append-nil ps)) f)
-shows_all s (q ∷ qs) ps a b c f on (d, e, replies, rests, t) =
+shows_all : (s : Attributes) (n : ℕ) (qs ps : List Exchange) (a b c : GlassState) → Shows s false ps a b → list_all goes_on qs ≡ true → Trace (mirror_conduct s) n qs b c → Shows s false (ps ++ qs) a c
+shows_all s n [] ps a b c f on t = subst (λ (x : GlassState). Shows s false (ps ++ []) a x) (sym t) (subst (λ (xs : List Exchange). Shows s false xs a b) (sym (append-nil ps)) f)
+shows_all s n (q ∷ qs) ps a b c f on (d, e, replies, tends, t) =
     let goes : is_quit q.0 ≡ false = no_quit q (and_left (goes_on q) (list_all goes_on qs) on) in
     let one : Shows s false (ps ++ q ∷ []) a d = subst (λ (x : Bool). Shows s x (ps ++ q ∷ []) a d) goes (shows_on s ps q a b d f replies) in
-    let later : Shows s false (ps ++ q ∷ []) a e = subst (λ (x : GlassState). Shows s false (ps ++ q ∷ []) a x) (sym (rested s d e rests)) one in
+    let later : Shows s false (ps ++ q ∷ []) a e = subst (λ (x : GlassState). Shows s false (ps ++ q ∷ []) a x) (sym (rested s (goes_on q && is_sixteenth (n + 1)) d e tends)) one in
     subst (λ (xs : List Exchange). Shows s false xs a c) (append_assoc ps (q ∷ []) qs)
-    (shows_all s qs (ps ++ q ∷ []) a e c later (and_right (goes_on q) (list_all goes_on qs) on) t)
+    (shows_all s (n + 1) qs (ps ++ q ∷ []) a e c later (and_right (goes_on q) (list_all goes_on qs) on) t)
 
-shows_going : (s : Attributes) (ps : List Exchange) (g g' : GlassState) → list_all goes_on ps ≡ true → Trace (mirror_conduct s) ps g g' → Shows s false ps g g'
-shows_going s ps g g' on t = shows_all s ps [] g g g' (nothing_shown s g) on t
+shows_going : (s : Attributes) (ps : List Exchange) (g g' : GlassState) → list_all goes_on ps ≡ true → Trace (mirror_conduct s) 0 ps g g' → Shows s false ps g g'
+shows_going s ps g g' on t = shows_all s 0 ps [] g g g' (nothing_shown s g) on t
 
 each_is : (ended : Bool) (asked answered : List Request) → answered ≡ asked → AnswersEach ended asked answered
 each_is true asked answered same = ([], sym same ∙ sym (append-nil answered))
@@ -110,14 +110,12 @@ left_so s true g g' same = same
 left_so s false g g' same = same
 
 -- the exchanges of a conversation, the last of which ended it or none did
-showed : (s : Attributes) (end : Option SessionEnd) (lines : List TextLine) (ps : List Exchange) (g g' : GlassState) → requests ps ≡ map (mirror_reading s) lines → EndsBy end ps → Trace (mirror_conduct s) ps g g' → Showed s lines ps g g'
+showed : (s : Attributes) (end : Option SessionEnd) (lines : List TextLine) (ps : List Exchange) (g g' : GlassState) → requests ps ≡ map (mirror_reading s) lines → EndsBy end ps → Trace (mirror_conduct s) 0 ps g g' → Showed s lines ps g g'
 showed s None lines ps g g' same on t = showed_by s false lines ps g g' same (shows_going s ps g g' on t)
 showed s (Some end) lines ps g g' same (front, last, is, on, by) t =
-    let pop = trace_pop (mirror_conduct s) front last g g' (subst (λ (xs : List Exchange). Trace (mirror_conduct s) xs g g') is t) in
-    let all : Shows s (is_quit last.0) (front ++ last ∷ []) g pop.1 = shows_on s front last g pop.0 pop.1 (shows_going s front g pop.0 on pop.2) pop.3 in
-    showed_by s (is_quit last.0) lines ps g g' same
-    (subst (λ (xs : List Exchange). Shows s (is_quit last.0) xs g g') (sym is)
-    (subst (λ (x : GlassState). Shows s (is_quit last.0) (front ++ last ∷ []) g x) (sym (rested s pop.1 g' pop.4)) all))
+    let pop = trace_pop (mirror_conduct s) front last g g' (ap is_on by) (subst (λ (xs : List Exchange). Trace (mirror_conduct s) 0 xs g g') is t) in
+    let all : Shows s (is_quit last.0) (front ++ last ∷ []) g g' = shows_on s front last g pop.0 g' (shows_going s front g pop.0 on pop.1) pop.2 in
+    showed_by s (is_quit last.0) lines ps g g' same (subst (λ (xs : List Exchange). Shows s (is_quit last.0) xs g g') (sym is) all)
 
 led_showed : (s : Attributes) (end : Option SessionEnd) (lines : List TextLine) (ps : List Exchange) (g g' : GlassState) → requests ps ≡ map (mirror_reading s) lines → EndsBy end ps → Led (mirror_conduct s) (is_on end) ps g g' → Showed s lines ps g g'
 led_showed s end lines ps g g' same ends l =
@@ -146,8 +144,8 @@ ends_unsplit s g g' i j before after e = by e.replied.ends
     by : EndsBy (Some (ends.Split i j)) e.replied.exchanges → ⊥
     by (front, last, is, on, split_so) =
         let l = e.replied.legal in
-        let pop = trace_pop (mirror_conduct s) front last g l.last (subst (λ (xs : List Exchange). Trace (mirror_conduct s) xs g l.last) is l.trace) in
-        not_so last pop.0 pop.1 pop.3 split_so
+        let pop = trace_pop (mirror_conduct s) front last g l.last (ap is_on split_so) (subst (λ (xs : List Exchange). Trace (mirror_conduct s) 0 xs g l.last) is l.trace) in
+        not_so last pop.0 l.last pop.2 split_so
 
 -- what its exchanges made of the glass, however it ended
 ended_under : (U V : Type 0) (s : Attributes) (g g' : GlassState) (before after : LinkState) (end : SessionEnd) → (U → V) → ConversationEnds U (leading (mirror_conduct s) g g') before after end

@@ -9,14 +9,11 @@ use Rattle.be_io.specs.Told.{WhereTold}
 use Rattle.be_model.specs.Schemas.{Attributes}
 use Rattle.be_change.specs.History.{Entry}
 use Rattle.be_door.specs.Door.{DoorState, after_try}
-use Rattle.be_door.specs.Links.{IsUnused}
 use Rattle.be_door.specs.declared.sums.Sums.{Sums}
 use Rattle.be_follow.specs.Feeds.{Fed, Means}
-use Rattle.be_protocol.specs.Conversation.{Terms, ConversationEnds}
+use Rattle.be_protocol.specs.Conversation.{Terms}
 use Rattle.be_protocol.specs.declared.ends.SessionEnd.{SessionEnd}
-use Rattle.be_protocol.specs.declared.ends.SessionEnd.TheVariants.{Split, NoMemory}
-use Rattle.be_hub.specs.Links.{IsCounted}
-use Rattle.be_hub.specs.Serving.{IsTried, served_door, told_of}
+use Rattle.be_hub.specs.Serving.{IsServedUnder, IsTried, served_door, told_of}
 use Rattle.be_hub.specs.Transcripts.{ShutsOnly}
 use Rattle.be_published.specs.Reads.{IsBeyond}
 use Rattle.be_published.specs.declared.beyond.Beyond.{Beyond}
@@ -74,27 +71,15 @@ list_terms s h shuts = record {
   InPart = λ lines ps p out. AreReads s 0 h lines (ps ++ p ∷ []) × ShutsOnly shuts (ps ++ p ∷ []);
 }
 
--- how the conversation with a link that is told of may have ended: memory wasn't wanting to it, and no reply tells two numbers that
--- differ
-abbrev pub LinkEnds : Terms → LinkState → LinkState → SessionEnd → Type 0
-LinkEnds t before after (Split seen written) = ⊥
-LinkEnds t before after NoMemory = ⊥
-LinkEnds t before after end = ConversationEnds ⊥ t before after end
-
 -- a link that was given out and served: its number, the link as it stood when it came back, and how its session ended
 pub record ReadLink : Type 0 where
   pub number : ℕ
   pub link : LinkState
   pub end : SessionEnd
 
--- a link that nobody had used was served over the list, and these numbers of all links say it where that ended by a fault
-pub record IsReadLink (s : Attributes) (h : List Entry) (shuts : Bool) (sums : Sums) (l : ReadLink) : Type 0 where
-  pub unused : LinkState
-  pub is_unused : IsUnused unused
-  -- all bytes that the link gives from first to last are the same ones
-  pub whole : l.link.source.whole ≡ unused.source.whole
-  pub ends : LinkEnds (list_terms s h shuts) unused l.link l.end
-  pub counted : IsCounted sums l.end
+-- the link was served over the list
+abbrev pub IsReadLink : Attributes → List Entry → (shuts : Bool) → Sums → ReadLink → Type 0
+IsReadLink s h shuts sums l = IsServedUnder (list_terms s h shuts) sums l.link l.end
 
 abbrev pub number_and_link : ReadLink → ℕ × LinkState
 number_and_link l = (l.number, l.link)

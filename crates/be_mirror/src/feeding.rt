@@ -1,20 +1,19 @@
 //! How a feed is taken from an input.
 
-ghost use Rattle.std.specs.Prelude.{◌≡◌, ◌≢◌, ◌<◌, ◌≤◌, None, [], length, IfOk, IfErr, OnOk};
-ghost use Rattle.be_base.specs.Counts.{RisesBy};
+ghost use Rattle.std.specs.Prelude.{◌≡◌, ◌≢◌, ◌<◌, None, [], length};
 ghost use Rattle.be_io.specs.Outside.{source_state};
-ghost use Rattle.be_io.specs.Source.{SourceState};
 ghost use Rattle.be_follow.specs.Followers.{Follows};
 ghost use Rattle.be_protocol.specs.Conversation.{TakesWithin};
 ghost use Rattle.be_mirror.specs.Feeders.{new_feeder, IsAllPublished};
-ghost use Rattle.be_mirror.specs.Feeding.{IsFed, GivesAtMost};
-ghost use Rattle.be_mirror.specs.Serving.{Feeds, FeedEnds};
+ghost use Rattle.be_mirror.specs.Feeding.{TakesNext};
+ghost use Rattle.be_mirror.specs.Serving.{Feeds};
 
 use crate::feeder::Feeder;
-use be_base::{READ_BYTES, SOURCE_BYTES};
-use be_follow::{FeedFault, FeedKind};
+use crate::printing::Printer;
+use be_base::{NoMemory, READ_BYTES, SOURCE_BYTES};
+use be_follow::{FeedFault, FeedKind, Follower};
+use be_index::ListIndex;
 use be_io::{Failed, Source};
-use be_published::{Naming, Sheet};
 use std::alloc::Global;
 use std::sync::Wait;
 use std::sync::atomic::{AtomicBool, Ordering};
@@ -39,16 +38,36 @@ pub enum FeedEnd {
 
 // Takes a feed from the input, and publishes all that it brings, until it ends or all links are served. It looks for the latter
 // before each read.
-pub(crate) fn take_feed<T: Sheet<J>, J: Naming, S: Source, R: Threads + Wait>(
+pub(crate) fn take_feed<P: Printer + Send, S: Source, R: Threads + Wait + Sync>(
     rt: &R,
     alloc: Global,
-    feeder: &mut Feeder<T, J>,
+    feeder: &mut Feeder<P>,
     source: &mut S,
     over: &AtomicBool,
 ) -> FeedEnd
-    requires new { (feeder.old ≡ new_feeder J.schema) × Follows [] feeder.old.took }
-    ensures feeds { result ≢ FeedEnd.NoMemory → Feeds J.schema (source_state S.Source source.old) (source_state S.Source source.new) result feeder.new.took.fed }
+    requires new { (feeder.old ≡ new_feeder P.schema) × Follows [] feeder.old.took }
+    ensures feeds { result ≢ FeedEnd.NoMemory → Feeds P.schema (source_state S.Source source.old) (source_state S.Source source.new) result feeder.new.took.fed }
     ensures shown { result ≢ FeedEnd.NoMemory → IsAllPublished feeder.new }
+    ensures within { TakesWithin (S.taken source.old) (S.taken source.new) }
+    ensures beside { S.kept_by_read source.new ≡ S.kept_by_read source.old }
+{
+    let end = take_pieces(rt, alloc, feeder, source, over);
+    match feeder.publish(rt) {
+        Ok(()) => end,
+        Err(NoMemory) => FeedEnd::NoMemory,
+    }
+}
+
+// The same, but that what the last piece brought may not be published.
+fn take_pieces<P: Printer + Send, S: Source, R: Threads + Wait + Sync>(
+    rt: &R,
+    alloc: Global,
+    feeder: &mut Feeder<P>,
+    source: &mut S,
+    over: &AtomicBool,
+) -> FeedEnd
+    requires new { (feeder.old ≡ new_feeder P.schema) × Follows [] feeder.old.took }
+    ensures feeds { result ≢ FeedEnd.NoMemory → Feeds P.schema (source_state S.Source source.old) (source_state S.Source source.new) result feeder.new.took.fed }
     ensures within { TakesWithin (S.taken source.old) (S.taken source.new) }
     ensures beside { S.kept_by_read source.new ≡ S.kept_by_read source.old }
 {
@@ -61,7 +80,7 @@ pub(crate) fn take_feed<T: Sheet<J>, J: Naming, S: Source, R: Threads + Wait>(
             return FeedEnd::Left;
         }
         let most = READ_BYTES.min(left as usize);
-        match take_piece(rt, feeder, source, &mut buffer[..most]) {
+        match feeder.read(rt, source, &mut buffer[..most]) {
             Ok(count) => left -= count as u64,
             Err(end) => return end,
         }
@@ -69,25 +88,15 @@ pub(crate) fn take_feed<T: Sheet<J>, J: Naming, S: Source, R: Threads + Wait>(
     FeedEnd::Spent
 }
 
-// Takes the next piece of a feed, and says how long it was, or why there is none or no more.
-fn take_piece<T: Sheet<J>, J: Naming, S: Source, R: Threads + Wait>(
-    rt: &R,
-    feeder: &mut Feeder<T, J>,
+// Reads the next piece of a feed into the buffer and takes it, and says how long it was, or why there is none or no more.
+pub(crate) fn read_piece<S: Source>(
+    ledger: &mut Follower<ListIndex>,
     source: &mut S,
     buffer: &mut [u8],
 ) -> Result<usize, FeedEnd>
     requires some { 0 < length buffer.old }
-    requires sound { feeder.old.took.fed.fault ≡ None }
-    requires shown { IsAllPublished feeder.old }
-    ensures fed { result ≢ Err FeedEnd.NoMemory → (before : SourceState) → IsFed J.schema before (source_state S.Source source.old) feeder.old.took
-        → IsFed J.schema before (source_state S.Source source.new) feeder.new.took }
-    ensures taken { IfOk result (λ k. (0 < k) × (k ≤ length buffer.old) × RisesBy k (S.taken source.old) (S.taken source.new)) }
-    ensures sound { OnOk result ((S.read_faults source.new ≡ S.read_faults source.old) × (feeder.new.took.fed.fault ≡ None)) }
-    ensures shown { result ≢ Err FeedEnd.NoMemory → IsAllPublished feeder.new }
-    ensures ends { IfErr result (λ end. end ≢ FeedEnd.NoMemory → FeedEnds (source_state S.Source source.old) (source_state S.Source source.new) end feeder.new.took.fed) }
-    ensures stays { result ≢ Err FeedEnd.Left }
-    ensures still { result ≡ Err FeedEnd.Ended → RisesBy 0 (S.taken source.old) (S.taken source.new) }
-    ensures within { GivesAtMost (length buffer.old) (source_state S.Source source.old) (source_state S.Source source.new) }
+    requires fine { ledger.old.fed.fault ≡ None }
+    ensures takes { TakesNext (length buffer.old) (source_state S.Source source.old) (source_state S.Source source.new) ledger.old ledger.new result }
     ensures beside { S.kept_by_read source.new ≡ S.kept_by_read source.old }
 {
     let count = match source.read(buffer) {
@@ -95,7 +104,7 @@ fn take_piece<T: Sheet<J>, J: Naming, S: Source, R: Threads + Wait>(
         Ok(count) => count,
         Err(Failed) => return Err(FeedEnd::ReadFault),
     };
-    match feeder.feed(rt, &buffer[..count]) {
+    match ledger.feed(&buffer[..count]) {
         Ok(()) => Ok(count),
         Err(FeedFault::Bad { line, kind }) => Err(FeedEnd::Bad { line, kind }),
         Err(FeedFault::NoMemory { .. }) => Err(FeedEnd::NoMemory),

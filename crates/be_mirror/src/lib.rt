@@ -22,5 +22,6 @@ mod workers;
 
 pub use feeder::Feeder;
 pub use feeding::FeedEnd;
+pub use printing::Printer;
 pub use serving::{MirrorFault, Mirrored, run_mirror};
 pub use session::Session;

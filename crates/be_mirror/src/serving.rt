@@ -12,13 +12,14 @@ ghost use Rattle.be_io.specs.Outside.{link_state, source_state};
 ghost use Rattle.be_protocol.specs.Conversation.{TakesWithin};
 ghost use Rattle.be_published.specs.States.{new_glass};
 ghost use Rattle.be_published.specs.declared.beyond.Beyond.{Beyond};
-ghost use Rattle.be_mirror.specs.Feeders.{new_feeder};
+ghost use Rattle.be_mirror.specs.Feeders.{new_feeder, IsAllPublished};
 ghost use Rattle.be_mirror.specs.Links.{Listened, ReadWorkerServed};
 ghost use Rattle.be_mirror.specs.Serving.{Feeds, Mirrors, IsAhead, DoorAfterMirrorFault, IsSomeBeyond, mirror_fault_of_listen};
 
 use crate::feeder::Feeder;
 use crate::feeding::{FeedEnd, take_feed};
 use crate::links::{Job, WorkEnd};
+use crate::printing::Printer;
 use crate::session::Session;
 use crate::settling::{LinksLeft, settle_links};
 use crate::workers::{jobs_for, serve_jobs};
@@ -26,7 +27,7 @@ use be_base::NoMemory;
 use be_door::{Door, DoorCount, Sums};
 use be_io::{Gate, Link, ListenFault, Source};
 use be_model::Schema;
-use be_published::{Beyond, Glass, Naming, Shade, Sheet};
+use be_published::{Beyond, Glass, Naming, Press, Shade, Sheet};
 use std::alloc::Global;
 use std::sync::atomic::{AtomicBool, Ordering};
 use std::sync::{Arc, Wait};
@@ -102,7 +103,7 @@ pub fn run_mirror<
     rt: &R,
     alloc: Global,
     schema: Arc<Schema>,
-    feeder: Feeder<T, J>,
+    feeder: Feeder<Press<T, J>>,
     glasses: Vec<Glass<T, J>>,
     source: &mut S,
     door: &mut D,
@@ -160,7 +161,7 @@ fn mirror<
     rt: &R,
     alloc: Global,
     schema: Arc<Schema>,
-    feeder: &mut Feeder<T, J>,
+    feeder: &mut Feeder<Press<T, J>>,
     glasses: Vec<Glass<T, J>>,
     source: &mut S,
     door: &mut D,
@@ -204,64 +205,9 @@ fn mirror<
     })
 }
 
-// A list that a feed is put into. A closure captures one behind a type parameter: the borrow checker covers none that captures a
-// reference to a type that names an associated one.
-trait FeedTaker {
-    ghost use Rattle.std.specs.Prelude.{List};
-    ghost use Rattle.be_change.specs.History.{Entry};
-    ghost use Rattle.be_model.specs.Schemas.{Attributes};
-    ghost use Rattle.be_follow.specs.Feeds.{Fed};
-
-    ghost of: { Attributes };
-
-    ghost is_new: { Self → Type 0 };
-
-    ghost fed: { Self → Fed };
-
-    ghost published: { Self → List Entry };
-
-    // Takes a feed from the input, until it ends or all links are served.
-    fn take<S: Source, R: Threads + Wait>(
-        &mut self,
-        rt: &R,
-        alloc: Global,
-        source: &mut S,
-        over: &AtomicBool,
-    ) -> FeedEnd
-        requires new { is_new self.old }
-        ensures feeds { result ≢ FeedEnd.NoMemory → Feeds of (source_state S.Source source.old) (source_state S.Source source.new) result (fed self.new) }
-        ensures shown { result ≢ FeedEnd.NoMemory → published self.new ≡ (fed self.new).list }
-        ensures within { TakesWithin (S.taken source.old) (S.taken source.new) }
-        ensures beside { S.kept_by_read source.new ≡ S.kept_by_read source.old };
-}
-
-impl<T: Sheet<J>, J: Naming> FeedTaker for Feeder<T, J> {
-    ghost use Rattle.std.specs.Prelude.{◌≡◌, []};
-    ghost use Rattle.be_follow.specs.Followers.{Follows};
-    ghost use Rattle.be_mirror.specs.Feeders.{new_feeder};
-
-    ghost of = { J.schema };
-
-    ghost is_new = { λ f. (f ≡ new_feeder J.schema) × Follows [] f.took };
-
-    ghost fed = { λ f. f.took.fed };
-
-    ghost published = { λ f. f.published };
-
-    fn take<S: Source, R: Threads + Wait>(
-        &mut self,
-        rt: &R,
-        alloc: Global,
-        source: &mut S,
-        over: &AtomicBool,
-    ) -> FeedEnd {
-        take_feed(rt, alloc, self, source, over)
-    }
-}
-
 // Takes the feed beside the workers, each of which does a job.
 fn run_beside<
-    F: FeedTaker,
+    P: Printer + Send,
     T: Sheet<J> + Send + Sync,
     J: Naming + Send + Sync,
     R: Threads + Wait + Sync,
@@ -272,17 +218,17 @@ fn run_beside<
 >(
     rt: &R,
     alloc: Global,
-    feeder: &mut F,
+    feeder: &mut Feeder<P>,
     jobs: Vec<Job<T, J, L>>,
     source: &mut S,
     door: &D,
     gate: &G,
 ) -> (Result<Vec<WorkEnd<T, J, L>>, NoMemory>, FeedEnd)
-    requires feeder { F.is_new feeder.old }
+    requires feeder { (feeder.old ≡ new_feeder P.schema) × Follows [] feeder.old.took }
     requires few { length jobs.items ≤ SEATS }
     requires jobs { All (λ job. (job.worker ≤ SEATS) × IsNew (D.state door.now) job.count) jobs.items }
-    ensures feeds { result.1 ≢ FeedEnd.NoMemory → Feeds F.of (source_state S.Source source.old) (source_state S.Source source.new) result.1 (F.fed feeder.new) }
-    ensures shown { result.1 ≢ FeedEnd.NoMemory → F.published feeder.new ≡ (F.fed feeder.new).list }
+    ensures feeds { result.1 ≢ FeedEnd.NoMemory → Feeds P.schema (source_state S.Source source.old) (source_state S.Source source.new) result.1 feeder.new.took.fed }
+    ensures shown { result.1 ≢ FeedEnd.NoMemory → IsAllPublished feeder.new }
     ensures within { TakesWithin (S.taken source.old) (S.taken source.new) }
     ensures beside { S.kept_by_read source.new ≡ S.kept_by_read source.old }
     ensures count { IfOk result.0 (λ ends. length ends.items ≡ length jobs.items) }
@@ -313,19 +259,25 @@ fn run_beside<
 }
 
 // Takes the feed beside the work.
-fn take_beside<R: Threads + Wait + Sync, W: FnMut() -> A + Send, A: Send, F: FeedTaker, S: Source>(
+fn take_beside<
+    R: Threads + Wait + Sync,
+    W: FnMut() -> A + Send,
+    A: Send,
+    P: Printer + Send,
+    S: Source,
+>(
     rt: &R,
     alloc: Global,
     work: &mut W,
-    feeder: &mut F,
+    feeder: &mut Feeder<P>,
     source: &mut S,
     over: &AtomicBool,
 ) -> (A, FeedEnd)
     requires work { W.pre work.old }
-    requires feeder { F.is_new feeder.old }
+    requires feeder { (feeder.old ≡ new_feeder P.schema) × Follows [] feeder.old.took }
     ensures works { W.step work.old result.0 work.new }
-    ensures feeds { result.1 ≢ FeedEnd.NoMemory → Feeds F.of (source_state S.Source source.old) (source_state S.Source source.new) result.1 (F.fed feeder.new) }
-    ensures shown { result.1 ≢ FeedEnd.NoMemory → F.published feeder.new ≡ (F.fed feeder.new).list }
+    ensures feeds { result.1 ≢ FeedEnd.NoMemory → Feeds P.schema (source_state S.Source source.old) (source_state S.Source source.new) result.1 feeder.new.took.fed }
+    ensures shown { result.1 ≢ FeedEnd.NoMemory → IsAllPublished feeder.new }
     ensures within { TakesWithin (S.taken source.old) (S.taken source.new) }
     ensures beside { S.kept_by_read source.new ≡ S.kept_by_read source.old }
 {
@@ -333,21 +285,21 @@ fn take_beside<R: Threads + Wait + Sync, W: FnMut() -> A + Send, A: Send, F: Fee
         rt,
         work,
         &mut || -> FeedEnd
-            requires { F.is_new feeder.now }
-            ensures feeds { result ≢ FeedEnd.NoMemory → Feeds F.of (source_state S.Source source.entry.now) (source_state S.Source source.exit.now) result (F.fed feeder.exit.now) }
-            ensures shown { result ≢ FeedEnd.NoMemory → F.published feeder.exit.now ≡ (F.fed feeder.exit.now).list }
+            requires { (feeder.now ≡ new_feeder P.schema) × Follows [] feeder.now.took }
+            ensures feeds { result ≢ FeedEnd.NoMemory → Feeds P.schema (source_state S.Source source.entry.now) (source_state S.Source source.exit.now) result feeder.exit.now.took.fed }
+            ensures shown { result ≢ FeedEnd.NoMemory → IsAllPublished feeder.exit.now }
             ensures within { TakesWithin (S.taken source.entry.now) (S.taken source.exit.now) }
             ensures beside { S.kept_by_read source.exit.now ≡ S.kept_by_read source.entry.now }
-        { feeder.take(rt, alloc, source, over) },
+        { take_feed(rt, alloc, feeder, source, over) },
     )
 }
 
 // Shows each session what is published. None knows more than that then.
-fn show_all<T: Sheet<J>, J: Naming>(
-    feeder: &Feeder<T, J>,
+fn show_all<T: Sheet<J> + Send + Sync, J: Naming + Send + Sync>(
+    feeder: &Feeder<Press<T, J>>,
     sessions: Vec<Session<T, J>>,
 ) -> Result<(), Beyond>
-    ensures shown { OnOk result (All (λ session. BeginsWith feeder.now.took.fed.list session.known) sessions.items) }
+    ensures shown { OnOk result (All (λ session. BeginsWith feeder.now.published session.known) sessions.items) }
     ensures beyond { IfErr result (IsSomeBeyond feeder.now.published) }
 {
     for session in sessions {
@@ -356,13 +308,15 @@ fn show_all<T: Sheet<J>, J: Naming>(
     Ok(())
 }
 
-fn show<T: Sheet<J>, J: Naming>(feeder: &Feeder<T, J>, session: Session<T, J>) -> Result<(), Beyond>
-    ensures shown { OnOk result (BeginsWith feeder.now.took.fed.list session.known) }
+fn show<T: Sheet<J> + Send + Sync, J: Naming + Send + Sync>(
+    feeder: &Feeder<Press<T, J>>,
+    session: Session<T, J>,
+) -> Result<(), Beyond>
+    ensures shown { OnOk result (BeginsWith feeder.now.published session.known) }
     ensures beyond { IfErr result (IsSomeBeyond feeder.now.published) }
 {
-    // That what is published begins the list comes to light at its length.
-    let _ = feeder.published();
+    let press = feeder.press();
     let mut session = session;
-    session.learn(feeder.tell());
-    session.within(&feeder.tell())
+    session.learn(press.tell());
+    session.within(&press.tell())
 }

@@ -22,7 +22,7 @@ use Rattle.be_protocol.specs.declared.ends.SessionEnd.{SessionEnd}
 use Rattle.be_protocol.specs.declared.ends.SessionEnd.TheVariants as ends
 use Rattle.be_protocol.specs.declared.replier.Turn.{Turn}
 use Rattle.be_protocol.proofs.LinesGoing.{read_to_end, read_in_part, first_lines, spent, rises-along}
-use Rattle.be_protocol.proofs.Going.{trace_push, turn_is, texts-push, one_more, written_with}
+use Rattle.be_protocol.proofs.Going.{trace_ended, turn_is, texts-push, one_more, written_with}
 
 -- the output broke off at a reply behind these
 broke_off_at : (s : Attributes) (ps : List Exchange) (p : Exchange) (fault : SinkFault) (out : List ℕ) (before after : SinkState) → StopsAt (reply_text s p.1) fault out before after
@@ -85,7 +85,7 @@ module _ {S : Type 0} (U : Type 0) (m : Conduct S) (link : LinkState) (a : S) (b
           asked = one.asked;
           written = written_with m link a before after g (m.asks line) (Some end) w;
           ends = (g.ps, p, refl, g.on, w.ends);
-          legal = record { last = after.state; trace = trace_push m g.ps p a before.state after.state g.trace w.replies; left = still };
+          legal = record { last = after.state; trace = trace_ended m g.ps p a before.state after.state (ap is_on w.ends) g.trace w.replies; left = still };
         };
       }
 

@@ -1,6 +1,6 @@
 -- What answers the lines of a conversation: what a line asks of it, what each of its calls makes of its state, and what a whole
 -- conversation makes of it.
-use Rattle.std.specs.Prelude.{◌≡◌, ℕ, ◌<◌, ◌++◌, ◌⊎◌, Bool, true, false, List, [], ◌∷◌, length, Option, Result, Ok, Err}
+use Rattle.std.specs.Prelude.{◌≡◌, ℕ, ◌+◌, ◌<◌, ◌%◌, ◌==◌, ◌++◌, ◌⊎◌, ◌&&◌, Bool, true, false, List, [], ◌∷◌, length, Option, Result, Ok, Err}
 use Rattle.be_base.specs.Counts.{HasRisen}
 use Rattle.be_io.specs.Lines.{TextLine}
 use Rattle.be_io.specs.Told.{HoldsMore}
@@ -13,7 +13,8 @@ use Rattle.be_protocol.specs.Replies.{reply_text}
 use Rattle.be_protocol.specs.Transcript.{texts}
 use Rattle.be_protocol.specs.declared.ends.SessionEnd.{SessionEnd}
 use Rattle.be_protocol.specs.Conversation.{Terms, RefusedOnce}
-use Rattle.be_protocol.specs.Ends.{end_after, is_on}
+use Rattle.be_protocol.specs.Ends.{end_after, is_on, goes_on}
+use Rattle.be_protocol.specs.declared.conversing.TheConstants.{REPLIES_TENDED}
 
 -- what answers lines, over its state
 pub record Conduct (S : Type 0) : Type 1 where
@@ -35,14 +36,21 @@ pub record KeptByReplier : Type 0 where
   -- the objects that it borrows to change them
   pub references : List ℕ
 
--- nothing happened, or it was tended
-abbrev pub Rests : {S : Type 0} → Conduct S → S → S → Type 0
-Rests m a b = (b ≡ a) ⊎ m.Tends a b
+-- of n replies the last one is a sixteenth
+abbrev pub is_sixteenth : ℕ → Bool
+is_sixteenth n = n % REPLIES_TENDED == 0
 
--- these exchanges, one after another, lead from the one state to the other. Behind each it may have been tended
-abbrev pub Trace : {S : Type 0} → Conduct S → List Exchange → S → S → Type 0
-Trace m [] a b = b ≡ a
-Trace {S} m (p ∷ ps) a d = (b c : S) × m.Replies p a b × Rests m b c × Trace m ps c d
+-- where it is due it was tended, and else nothing happened
+abbrev pub TendsIf : {S : Type 0} → Conduct S → (due : Bool) → S → S → Type 0
+TendsIf m true a b = m.Tends a b
+TendsIf m false a b = b ≡ a
+
+-- these exchanges, one after another, lead from the one state to the other, behind n others of the conversation. It was tended behind
+-- each sixteenth reply that didn't end the conversation, and never else
+abbrev pub Trace : {S : Type 0} → Conduct S → (n : ℕ) → List Exchange → S → S → Type 0
+Trace m n [] a b = b ≡ a
+Trace {S} m n (p ∷ ps) a d =
+    (b c : S) × m.Replies p a b × TendsIf m (goes_on p && is_sixteenth (n + 1)) b c × Trace m (n + 1) ps c d
 
 -- this much was written of the reply: all of its text, or a part
 abbrev pub RepliesSoFar : {S : Type 0} → Conduct S → Exchange → List ℕ → S → S → Type 0
@@ -56,13 +64,13 @@ LeavesIf m false a b = b ≡ a
 -- these exchanges, and the end, lead from the one state to the other
 pub record Led {S : Type 0} (m : Conduct S) (on : Bool) (ps : List Exchange) (a d : S) : Type 0 where
   pub last : S
-  pub trace : Trace m ps a last
+  pub trace : Trace m 0 ps a last
   pub left : LeavesIf m on last d
 
 -- the same where the output broke off at the last reply
 pub record LedInPart {S : Type 0} (m : Conduct S) (ps : List Exchange) (p : Exchange) (out : List ℕ) (a d : S) : Type 0 where
   pub before : S
-  pub trace : Trace m ps a before
+  pub trace : Trace m 0 ps a before
   pub part : List ℕ
   pub is_out : out ≡ texts m.schema ps ++ part
   pub last : S

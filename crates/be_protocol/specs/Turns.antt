@@ -142,7 +142,7 @@ LinesGoOn false start unread rest done =
 pub record IsGoingOn {S : Type 0} (m : Conduct S) (link : LinkState) (a : S) (now : TurnState S) : Type 0 where
   pub ps : List Exchange
   pub done : List TextLine
-  pub trace : Trace m ps a now.state
+  pub trace : Trace m 0 ps a now.state
   pub asked : requests ps ≡ map m.asks done
   pub on : list_all goes_on ps ≡ true
   pub written : HoldsMore link.sink.held now.link.sink.held (texts m.schema ps)

@@ -5,7 +5,7 @@ ghost use Rattle.be_base.specs.declared.limits.TheConstants.{SOURCE_BYTES};
 ghost use Rattle.be_io.specs.Lines as line;
 ghost use Rattle.be_io.specs.Outside.{link_state, sink_state};
 ghost use Rattle.be_io.specs.Lines.{has_lf};
-ghost use Rattle.be_protocol.specs.Conduct.{GivesReply, leading, LeavesIf, Rests};
+ghost use Rattle.be_protocol.specs.Conduct.{GivesReply, is_sixteenth, leading, LeavesIf, TendsIf};
 ghost use Rattle.be_protocol.specs.Conversation.{ConversationEnds, TakesWithin, KeepsBeside};
 ghost use Rattle.be_protocol.specs.Ends.{is_on};
 ghost use Rattle.be_protocol.specs.Turns.{TurnState, IsReading, TakesAlike, Turned, Given, GivenOn, HandsOver, is_due};
@@ -16,8 +16,8 @@ use be_base::LINE_BYTES;
 use be_io::{Gate, Line, LineFault, LineReader, Link, Sink, hand_on};
 use std::alloc::Global;
 
-/// The replier is tended after so many replies.
-const REPLIES_TENDED: u64 = 16;
+/// A replier is tended behind each so many replies.
+pub const REPLIES_TENDED: u64 = 16;
 
 // Where a worker stands: at a line of its conversation, counted from 1.
 #[derive(Drop)]
@@ -39,7 +39,8 @@ impl<G: Gate> Station<'_, G> {
 
 /// Answers the lines of a link until a reply, the end of the input or a fault ends the conversation. Where no reply ended it, the
 /// replier leaves, unless memory was wanting before the first line. Replies are handed on before a read that may wait, and at the end. The gate is called by the worker's number before
-/// and after each line, and the replier is tended after every sixteenth reply.
+/// and after each line. The replier is tended behind every sixteenth reply, unless that ends the conversation or the output breaks off
+/// at it.
 pub fn converse<A: Replier, L: Link, G: Gate>(
     alloc: Global,
     replier: &mut A,
@@ -100,10 +101,10 @@ fn leave_unless<A: Replier>(replier: &mut A, by: Option<SessionEnd>)
     }
 }
 
-// Tends behind every sixteenth line.
+// Tends behind every sixteenth reply, of which so many were given.
 fn tend_behind<A: Replier>(replier: &mut A, lines: u64)
     requires ready { A.IsReady replier.old }
-    ensures rests { Rests (A.conduct (A.kept replier.old).schema) (A.state replier.old) (A.state replier.new) }
+    ensures tends { TendsIf (A.conduct (A.kept replier.old).schema) (is_sixteenth lines) (A.state replier.old) (A.state replier.new) }
     ensures ready { A.IsReady replier.new }
     ensures kept { A.kept replier.new ≡ A.kept replier.old }
 {

@@ -18,7 +18,7 @@ mod saying;
 mod short;
 mod texts;
 
-pub use conversing::converse;
+pub use conversing::{REPLIES_TENDED, converse};
 pub use ends::SessionEnd;
 pub use noting::{say_end, send_note};
 pub use replier::{Replier, Turn};

@@ -115,7 +115,7 @@ impl Command {
     }
 }
 
-/// Reads a line. Only a line without a fault takes memory.
+/// Reads a line. Want of memory is answered only to a line without a fault.
 #[tactic(auto, using(crate::proofs::Commanded::request_word))]
 pub fn read_line(alloc: Global, schema: &Schema, text: &[u8]) -> Result<Request, NoMemory>
     ensures read { Reads result (reading schema.now (line.text text.now)) }

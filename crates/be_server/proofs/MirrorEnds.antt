@@ -1,5 +1,5 @@
 -- How `mirror` ends: its schema is read, its links are served beside the feed, and what came of it is written.
-use Rattle.std.proofs.Common.{◌≡◌, ◌⊎◌, inl, inr, ℕ, zero, suc, ◌+◌, ◌<◌, Bool, List, Ok, Err, refl, sym, ap, subst, ◌∙◌, arith}
+use Rattle.std.proofs.Common.{◌≡◌, ◌⊎◌, inl, inr, ℕ, ◌<◌, Bool, List, Ok, Err, refl, sym, ap, subst, ◌∙◌, arith}
 use Rattle.std.proofs.lemmas.List.Elements.{All-weaker}
 use Rattle.be_base.specs.Counts.{raised}
 use Rattle.be_base.specs.declared.limits.TheConstants.{SOURCE_BYTES}
@@ -8,20 +8,17 @@ use Rattle.be_change.specs.History.{Entry}
 use Rattle.be_door.specs.Door.{DoorState}
 use Rattle.be_door.specs.declared.sums.Sums.{Sums}
 use Rattle.be_hub.specs.Files.{IsRead}
-use Rattle.be_hub.specs.Links.{IsCounted}
 use Rattle.be_hub.specs.Serving.{AreFaultless, served_door}
-use Rattle.be_hub.proofs.WereRead.{served_tried}
+use Rattle.be_hub.proofs.WereRead.{read_by, all_given, served_tried}
 use Rattle.be_io.specs.Counts.{HasRisen, HasRisenBy}
 use Rattle.be_io.specs.Outside.{LinkState}
-use Rattle.be_mirror.specs.Serving.{FeedEnds, Mirrors, IsAhead, LinksAreRead, ReadLink, IsReadLink, LinkEnds, list_terms}
+use Rattle.be_mirror.specs.Serving.{FeedEnds, Mirrors, IsAhead, LinksAreRead, ReadLink, IsReadLink, list_terms}
 use Rattle.be_mirror.specs.declared.feeding.FeedEnd.{FeedEnd}
 use Rattle.be_mirror.specs.declared.feeding.FeedEnd.TheVariants as feed
 use Rattle.be_mirror.specs.declared.serving.MirrorFault.{MirrorFault}
 use Rattle.be_mirror.specs.declared.serving.MirrorFault.TheVariants as fault
 use Rattle.be_model.specs.Schemas.{Attributes}
 use Rattle.be_published.specs.declared.beyond.Beyond.{Beyond}
-use Rattle.be_protocol.specs.declared.ends.SessionEnd.{SessionEnd}
-use Rattle.be_protocol.specs.declared.ends.SessionEnd.TheVariants as ends
 use Rattle.be_server.specs.declared.status.Status.{Status}
 use Rattle.be_server.specs.declared.status.Status.TheVariants.{Done, Words, SchemaBad, LoadBad, FeedBad, NoMemory, ReadFault, LongFile, WriteFault, Spent, Split, Ahead, Stray, Shut}
 use Rattle.be_server.specs.Files.{ToldFile, IsSchemaOf, LoadsSchema}
@@ -30,30 +27,16 @@ use Rattle.be_server.specs.Outside.{Passage}
 use Rattle.be_server.specs.Serve.{AreQuiet}
 use Rattle.be_server.specs.Status.{status_of_mirror}
 
--- without a fault of any link its session ended by the input's end or by a QUIT
-read_by : (s : Attributes) (h : List Entry) (shuts : Bool) (sums : Sums) (before after : LinkState) (end : SessionEnd) → LinkEnds (list_terms s h shuts) before after end → IsCounted sums end → AreFaultless sums → IsRead end
-read_by s h shuts sums before after ends.Eof l c none = tt
-read_by s h shuts sums before after ends.Quit l c none = tt
-read_by s h shuts sums before after ends.ReadFault l c none = absurd (omega (arith, c, none.0))
-read_by s h shuts sums before after ends.WriteFault l c none = absurd (omega (arith, c, none.1))
-read_by s h shuts sums before after ends.Spent l c none = absurd (omega (arith, c, none.2))
-read_by s h shuts sums before after (ends.Split i j) l c none = absurd l
-read_by s h shuts sums before after ends.NoMemory l c none = absurd l
-
 module _ {L : Type 0} (told : L → LinkState) where
   were_read : (s : Attributes) (h : List Entry) (shuts : Bool) (links : ℕ) (sums : Sums) (keeps : Bool) (kept : List (SessionNo × L)) → (l : LinksAreRead told s h shuts links sums keeps kept) → AreFaultless sums
       → MirrorLinksWereRead links sums l.served
   were_read s h shuts links sums keeps kept l none =
-      let all : sums.given ≡ links = none_failed sums.given sums.failed links l.all (λ some. absurd (omega (arith, l.failed some, none.0))) in
+      let all : sums.given ≡ links = all_given sums.given sums.failed links l.all (λ some. absurd (omega (arith, l.failed some, none.0))) in
       record {
         given = all;
         back = l.back ∙ all;
-        each = All-weaker (IsReadLink s h shuts sums) (λ (x : ReadLink). IsRead x.end) (λ x k. read_by s h shuts sums k.unused x.link x.end k.ends k.counted none) l.served l.each;
+        each = All-weaker (IsReadLink s h shuts sums) (λ (x : ReadLink). IsRead x.end) (λ x k. read_by (list_terms s h shuts) sums x.link x.end k none) l.served l.each;
       }
-    where
-      none_failed : (a b c : ℕ) → a + b ≡ c → (0 < b → ⊥) → a ≡ c
-      none_failed a zero c is never = omega (arith, is)
-      none_failed a (suc b) c is never = absurd (never (omega arith))
 
   module _ (InputKept OutKept : Type 0) (s : Attributes) (port seats links : ℕ) (before after : LinkState) (door door' : DoorState L) where
     -- the links were served, and the line was printed so

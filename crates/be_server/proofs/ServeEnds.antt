@@ -29,7 +29,7 @@ module _ {L : Type 0} (told : L → LinkState) (Kept : Type 0) (port seats links
       subst (RunsServe told Kept s rows port seats links door door' before after) (sym kept.1) (inl (kept.0, inr (served_tried door door' port links seats sums door'.kept is)))
   serve_printed s rows list sums shuts status served is (inr logs) = go status logs
     where
-      made : (x : Status) → Logs s list sums shuts before after x → (x ≡ Done → WereRead s (opening_of rows) list links sums served.served) → Served told s rows port seats links door door' before after x
+      made : (x : Status) → Logs s list sums shuts before after x → (x ≡ Done → WereRead links sums served.served) → Served told s rows port seats links door door' before after x
       made x l done = record { list = list; sums = sums; shuts = shuts; served = served; door_is = is; logs = l; done = done }
 
       go : (x : Status) → Logs s list sums shuts before after x → RunsServe told Kept s rows port seats links door door' before after x

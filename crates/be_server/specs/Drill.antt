@@ -91,7 +91,7 @@ drill_text s transcripts h = headed 1 transcripts ++ log_text s h
 
 -- the sessions of the files were served over one list, which was printed behind their transcripts: whole, or a beginning of it
 -- all, or whole and not all handed on. Each transcript is legal over the list, which is well formed, begins with the rows, and has the sessions' changes alone
--- behind them. Where a session's read was refused, some reply is SHUT; otherwise none is
+-- behind them. Where a session's read was refused, some reply is SHUT; otherwise none is. Each session has a box of letters
 pub record Printed (s : Attributes) (rows : List Row) (scripts : List Text) (shuts : Bool) (before after : SinkState) (result : Result (Unit {0}) SinkFault) : Type 0 where
   pub list : List Entry
   pub transcripts : List Text

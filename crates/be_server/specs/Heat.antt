@@ -22,8 +22,8 @@ use Rattle.be_server.specs.Output.{WroteOut}
 abbrev pub IsTranscriptOf : Attributes → ℕ → ℕ → List Entry → Bool → List ℕ → List ℕ → List Exchange → Type 0
 IsTranscriptOf s k z h shuts file transcript ps = (t : IsTranscript s k z h shuts file transcript) × (t.exchanges ≡ ps)
 
--- the files were served, and the exchanges of each are these. That some reply is SHUT is said of the exchanges in `served`, which
--- have the same texts
+-- the files were served, and the exchanges of each are these. That some reply is SHUT, and the letters, are said of the exchanges in
+-- `served`, which have the same texts
 pub record AreServedBy (s : Attributes) (opening h : List Entry) (shuts : Bool) (files transcripts : List (List ℕ)) (sessions : List (List Exchange)) : Type 0 where
   pub served : AreServed s opening h shuts files transcripts
   pub count : length sessions ≡ length files

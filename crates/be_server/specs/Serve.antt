@@ -60,7 +60,7 @@ module _ {L : Type 0} (told : L → LinkState) where
     pub door_is : door' ≡ served_door door port links seats sums door'.kept
     pub logs : Logs s list sums shuts before after status
     -- where all is done, all links were given out and came back, and were read to their end or to a QUIT
-    pub done : status ≡ Done → WereRead s (opening_of rows) list links sums served.served
+    pub done : status ≡ Done → WereRead links sums served.served
 
   -- how the sessions may end. Kept says that the output is as it was
   abbrev pub RunsServe : Type 0 → Attributes → List Row → (port seats links : ℕ) → DoorState L → DoorState L → SinkState → SinkState → Status → Type 0

@@ -27,7 +27,7 @@ use be_index::ListIndex;
 use be_io::{Gate, Link, Shelf, Sink, SinkFault, Source};
 use be_mirror::{FeedEnd, Feeder, MirrorFault, Mirrored, run_mirror};
 use be_model::Schema;
-use be_published::{Glass, Naming, Opened, Page, make_pair};
+use be_published::{Glass, Naming, Opened, Page, Press, make_pair};
 use be_tree::BeTree;
 use itoa::Buffer;
 use std::alloc::Global;
@@ -154,13 +154,19 @@ fn run_pair<
 }
 
 // The side that is fed, over two trees, and as many readers as there are seats.
-fn sides_of<J: Naming, R: Wait>(
+fn sides_of<J: Naming + Send + Sync, R: Wait>(
     rt: &R,
     alloc: Global,
     opened: Opened,
     schema: &Arc<Schema>,
     seats: u32,
-) -> Result<(Feeder<Page<BeTree, J>, J>, Vec<Glass<Page<BeTree, J>, J>>), NoMemory>
+) -> Result<
+    (
+        Feeder<Press<Page<BeTree, J>, J>>,
+        Vec<Glass<Page<BeTree, J>, J>>,
+    ),
+    NoMemory,
+>
     requires named { (opened.seen.book ≡ J.book) × (arc_value schema.now ≡ J.schema) }
     requires some { 0 < seats }
     ensures feeder { IfOk result (λ sides. (sides.0 ≡ new_feeder J.schema) × Follows [] sides.0.took) }

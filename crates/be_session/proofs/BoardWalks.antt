@@ -20,7 +20,7 @@ use Rattle.be_change.proofs.Owners.{live_owned}
 use Rattle.be_protocol.specs.Runs.{is_opened, comes_in_run, length_told, IsTold, TellsCounts, RemovalMayWant, RemovalsMayWant}
 use Rattle.be_board.specs.State.{BoardState}
 use Rattle.be_board.specs.Word.{own_of, own_in, Keeps}
-use Rattle.be_board.proofs.Going.{GoesOn-same, GoesOn-along}
+use Rattle.be_board.proofs.Going.{GoesOn-same, gone_on, HasGoneOn-along}
 use Rattle.be_session.specs.Bearing.{Bears}
 use Rattle.be_protocol.specs.Ends.{goes_on}
 use Rattle.be_session.specs.Served.{BeginsAlone}
@@ -45,7 +45,7 @@ not_gone k (p ∷ ps) e = by_session (not_gone k ps) (session_of p.1 == k) refl 
 
 pub serves_first : (s : Attributes) (b : BoardState) → own_in b.word ≡ [] → BoardServes s true [] b b
 serves_first s b first = record {
-  goes = GoesOn-same b;
+  goes = gone_on b b (GoesOn-same b);
   own = adds_none b.word b.word refl;
   notes = BeginsWith-same b.word.notes;
   places = ap places_in first;
@@ -202,7 +202,7 @@ runs_on s ps p b c d g st a =
 -- one more exchange
 pub serves_step : (s : Attributes) (ps : List Exchange) (p : Exchange) (b c d : BoardState) → BoardServes s true ps b c → Steps s p c d → BoardServes s (goes_on p) (ps ++ p ∷ []) b d
 serves_step s ps p b c d g st = record {
-  goes = GoesOn-along b c d g.goes st.goes;
+  goes = HasGoneOn-along b c d g.goes (gone_on c d st.goes);
   own = adds_along b.word c.word d.word g.goes.session g.own st.own;
   notes = BeginsWith-along d.word.notes c.word.notes b.word.notes st.notes g.notes;
   places = places_on s ps p c d g.places st;

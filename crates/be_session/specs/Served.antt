@@ -16,11 +16,11 @@ use Rattle.be_protocol.specs.Ends.{end_after, is_on}
 use Rattle.be_protocol.specs.Readings.{reading}
 use Rattle.be_protocol.specs.Runs.{AreAlone}
 use Rattle.be_protocol.specs.Transcript.{AreExchanges}
-use Rattle.be_board.specs.State.{BoardState, GoesOn}
+use Rattle.be_board.specs.State.{BoardState, HasGoneOn}
 use Rattle.be_board.specs.Word.{Keeps}
 use Rattle.be_session.specs.Given.{GivesLetters, GivesInPart}
 use Rattle.be_session.specs.Bearing.{AddsOwn}
-use Rattle.be_session.specs.Tied.{Tied, TiedFull, TiedPuts}
+use Rattle.be_session.specs.Tied.{Tied, TiedFull, TiedPuts, TiedTends}
 
 -- every list that keeps the word at return bears the exchanges out, as those of a session that was told of any of the
 -- changes known at entry
@@ -55,6 +55,7 @@ pub record Upheld (s : Attributes) (on : Bool) (lines : List TextLine) (ps : Lis
   pub borne : AreBorneOut s lines ps b b'
   pub tied : Tied on ps ps b.counts b'.counts
   pub puts : TiedPuts ps b b'
+  pub tends : TiedTends ps b b'
   pub letters : GivesLetters b.box ps b b'
   pub alone : BeginsAlone b → RanOver s on lines ps b b'
 
@@ -63,6 +64,7 @@ pub record UpheldInPart (s : Attributes) (lines : List TextLine) (ps : List Exch
   pub borne : AreBorneOut s lines (ps ++ last ∷ []) b b'
   pub tied : Tied (is_on (end_after last.0 last.1)) (ps ++ last ∷ []) ps b.counts b'.counts
   pub puts : TiedPuts (ps ++ last ∷ []) b b'
+  pub tends : TiedTends ps b b'
   pub letters : GivesInPart b.box s ps last out b b'
   pub alone : BeginsAlone b → RanOver s (is_on (end_after last.0 last.1)) lines (ps ++ last ∷ []) b b'
 
@@ -80,6 +82,6 @@ SessionEnds Untouched s before after b b' end = ConversationEnds Untouched (sess
 
 -- how the board went on: its list and its letters only grew, and what was accepted is the session's
 pub record BoardLeft (b b' : BoardState) : Type 0 where
-  pub goes : GoesOn b b'
+  pub goes : HasGoneOn b b'
   pub own : AddsOwn b.word b'.word
   pub notes : BeginsWith b'.word.notes b.word.notes

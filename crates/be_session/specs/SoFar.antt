@@ -7,7 +7,7 @@ use Rattle.be_change.specs.Made.{made, changes_made}
 use Rattle.be_change.specs.Requests.{Exchange}
 use Rattle.be_change.specs.Walk.{Walk, beginning_at, IsLegal, accepted}
 use Rattle.be_protocol.specs.Runs.{AreAlone}
-use Rattle.be_board.specs.State.{BoardState, GoesOn, is_gone}
+use Rattle.be_board.specs.State.{BoardState, HasGoneOn, is_gone}
 use Rattle.be_board.specs.Word.{own_in, Keeps}
 use Rattle.be_session.specs.Bearing.{Bears, Stands, AddsOwn}
 use Rattle.be_session.specs.Given.{GivesLetters}
@@ -34,7 +34,7 @@ pub record RunsOver (s : Attributes) (ps : List Exchange) (b b' : BoardState) : 
 
 -- the board gave these exchanges, and the session goes on or not
 pub record BoardServes (s : Attributes) (on : Bool) (ps : List Exchange) (b b' : BoardState) : Type 0 where
-  pub goes : GoesOn b b'
+  pub goes : HasGoneOn b b'
   pub own : AddsOwn b.word b'.word
   pub notes : BeginsWith b'.word.notes b.word.notes
   pub places : places_in (own_in b'.word) ≡ accepted ps

@@ -1,9 +1,11 @@
 -- What a session's replies owe the counts of its board.
-use Rattle.std.specs.Prelude.{ℕ, ◌+◌, ◌-◌, ◌⊎◌, Bool, true, false, List, length, filter, take, nat_lt}
+use Rattle.std.specs.Prelude.{ℕ, ◌+◌, ◌-◌, ◌*◌, ◌/◌, ◌⊎◌, Bool, true, false, List, length, filter, take, nat_lt}
 use Rattle.std.specs.List.{sum_by}
 use Rattle.be_base.specs.Counts.{HasRisenBy, RisesBy}
 use Rattle.be_change.specs.History.{Entry, is_of, hit_rows}
 use Rattle.be_change.specs.Requests.{fetching, sending, hit, cost, listed, sent, notes, dumped, tailed, split, shut, Exchange}
+use Rattle.be_protocol.specs.Ends.{goes_on}
+use Rattle.be_protocol.specs.declared.conversing.TheConstants.{REPLIES_TENDED}
 use Rattle.be_board.specs.State.{BoardCounts, BoardState, CountsPuts}
 
 -- the reply tells what a read found
@@ -65,3 +67,11 @@ TiedFull h ps before after = HasRisenBy (sum_by (full_letters h) ps) before.full
 -- tell its box
 abbrev pub TiedPuts : List Exchange → BoardState → BoardState → Type 0
 TiedPuts ps b b' = CountsPuts b.box (sum_by letters_put ps) b.counts b'.counts
+
+-- how many tends are due behind these replies: one behind each sixteenth that didn't end the session
+abbrev pub tends_behind : List Exchange → ℕ
+tends_behind ps = length (filter goes_on ps) / REPLIES_TENDED
+
+-- the board counted the tends that were due, as it counts one, and no others
+abbrev pub TiedTends : List Exchange → BoardState → BoardState → Type 0
+TiedTends ps b b' = RisesBy (tends_behind ps * b.per_tend) b.counts.tends b'.counts.tends

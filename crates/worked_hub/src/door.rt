@@ -40,5 +40,6 @@ pub fn tends<
     let mut door = MemDoor::make(rt, alloc, links, Vec::new(alloc));
     let counts = door.listen(0, 1, seats.len() as u32).ok()?;
     let ends = hub.run_door(rt, alloc, seats, &door, counts, &NoGate).ok()?;
-    Some(ends.get(0)?.tended.calls())
+    let end = ends.get(0)?;
+    end.tended.calls().checked_add(end.between.calls())
 }

@@ -1,44 +1,62 @@
-use Rattle.std.proofs.Common.{◌≡◌, ℕ, ◌+◌, [], ◌∷◌, subst, option_map, length, length-append, ap, ◌∙◌, sym}
+use Rattle.std.proofs.Common.{◌≤◌, List, [], ◌∷◌, ◌++◌, Some, length, length-append, option_map, option_and_then, subst, refl, sym, ◌∙◌, ap, arith}
+use Rattle.std.proofs.lemmas.Bool.{false≢true}
 use Rattle.be_base.specs.Tokens.{tokens}
-use Rattle.be_expr.specs.Parts.{end_of}
-use Rattle.be_expr.specs.Build.{FinePreds}
+use Rattle.be_base.specs.Readers.{following}
+use Rattle.be_model.specs.declared.preds.Pred.{Pred}
+use Rattle.be_expr.specs.Faults.{preds_in}
 use Rattle.be_expr.proofs.Joining.{preds_left}
-use Rattle.be_expr.proofs.BuiltPreds.{meant_behind, first_is_fine, fewer_than_all, end_is_there, one_more_built, rest_is_fine}
+use Rattle.be_expr.proofs.BuiltPreds.{joined, begun, full_is_unbuilt, first_is_unbuilt, end_is_unbuilt, one_more_built, all_built}
 use Rattle.be_expr.proofs.build.build.Goals as goal
 
-pub build_pred-requires : goal.build_pred-requires
-build_pred-requires c =
-    let s = c.args.schema.now in
-    let n = length c.loop-left.conj in
-    first_is_fine s n (tokens c.in-Some.text.now) (subst (λ left. FinePreds s n (preds_left left)) c.in-Some.is c.loop-left.invariant.fine)
+pub loop-left-init : goal.loop-left-init
+loop-left-init c =
+    let o = option_and_then preds_in (tokens c.args.text.now) in
+    record {
+      whole = begun c.args.schema.now o ∙ ap (λ (conj : List Pred). joined c.args.schema.now conj o) (sym c.make-conj.ensures);
+      few = subst (λ (conj : List Pred). length conj ≤ 32) (sym c.make-conj.ensures) (omega arith);
+    }
 
-pub push-requires : goal.push-requires
-push-requires c =
+pub returns-then-is_full : goal.returns-then-is_full
+returns-then-is_full c =
     let s = c.args.schema.now in
-    let n = length c.loop-left.conj in
-    fewer_than_all s n (tokens c.in-Some.text.now) (subst (λ left. FinePreds s n (preds_left left)) c.in-Some.is c.loop-left.invariant.fine)
+    let conj = c.loop-left.conj in
+    sym (c.loop-left.invariant.whole ∙ ap (λ left. joined s conj (preds_left left)) c.in-Some.is
+    ∙ ap (option_map (λ ys. conj ++ ys)) (full_is_unbuilt s (length conj) (tokens c.in-Some.text.now) (c.if-is_full.ensures.0 refl)))
 
-pub unwrap-left-requires : goal.unwrap-left-requires
-unwrap-left-requires c =
+pub returns-in_default-2 : goal.returns-in_default-2
+returns-in_default-2 c =
     let s = c.args.schema.now in
-    let n = length c.loop-left.conj in
-    let fine = subst (λ left. FinePreds s n (preds_left left)) c.in-Some.is c.loop-left.invariant.fine in
-    end_is_there s n c.in_ok-pred.pred (tokens c.in-Some.text.now) (tokens c.in_ok-pred.rest.now) c.read_end.result fine c.in_ok-pred.ensures.pred c.read_end.ensures.end
+    let conj = c.loop-left.conj in
+    let none = sym (ap (following (λ (pred : Pred). pred)) c.in_default-2.is) ∙ c.in_ok-pred.ensures.pred in
+    sym (c.loop-left.invariant.whole ∙ ap (λ left. joined s conj (preds_left left)) c.in-Some.is
+    ∙ ap (option_map (λ ys. conj ++ ys)) (first_is_unbuilt s (length conj) (tokens c.in-Some.text.now) none))
+
+pub returns-in_default-read_end : goal.returns-in_default-read_end
+returns-in_default-read_end c =
+    let s = c.args.schema.now in
+    let conj = c.loop-left.conj in
+    let read = sym (ap (following (λ (pred : Pred). pred)) c.in-Some-2.is) ∙ c.in_ok-pred.ensures.pred in
+    sym (c.loop-left.invariant.whole ∙ ap (λ left. joined s conj (preds_left left)) c.in-Some.is
+    ∙ ap (option_map (λ ys. conj ++ ys)) (end_is_unbuilt s (length conj) c.in-Some-2.pred (tokens c.in-Some.text.now) (tokens c.in-Some-2.rest.now) read c.in_default-read_end.ensures.end))
 
 pub loop-left-preserved : goal.loop-left-preserved
 loop-left-preserved c =
     let s = c.args.schema.now in
     let conj = c.loop-left.conj in
-    let pred = c.in_ok-pred.pred in
-    let o = tokens c.in-Some.text.now in
-    let rest = tokens c.in_ok-pred.rest.now in
-    let left = c.unwrap-left.result in
-    let end = sym (ap end_of c.unwrap-left.ensures) ∙ c.read_end.ensures.end in
+    let pred = c.in-Some-2.pred in
+    let read = sym (ap (following (λ (p : Pred). p)) c.in-Some-2.is) ∙ c.in_ok-pred.ensures.pred in
     let put = c.in_ok-push.ensures.put in
-    let size : length conj + 1 ≡ length c.push.new.self = sym (ap length put ∙ length-append conj (pred ∷ [])) in
-    let fine = subst (λ left. FinePreds s (length conj) (preds_left left)) c.in-Some.is c.loop-left.invariant.fine in
+    let room : ¬ (32 ≤ length conj) = λ full. false≢true (c.if-is_full.ensures.1 full) in
     record {
-      whole = c.loop-left.invariant.whole ∙ ap (λ left. option_map (meant_behind s conj) (preds_left left)) c.in-Some.is
-          ∙ one_more_built s conj c.push.new.self pred o rest left put c.in_ok-pred.ensures.pred end;
-      fine = subst (λ (n : ℕ). FinePreds s n (preds_left left)) size (rest_is_fine s (length conj) pred o rest left fine c.in_ok-pred.ensures.pred end);
+      whole = c.loop-left.invariant.whole ∙ ap (λ left. joined s conj (preds_left left)) c.in-Some.is
+          ∙ one_more_built s conj c.push.new.self pred (tokens c.in-Some.text.now) (tokens c.in-Some-2.rest.now) c.in-Some-read_end.next put read c.in-Some-read_end.ensures.end;
+      few = subst (λ (more : List Pred). length more ≤ 32) (sym put)
+          (omega (arith, length-append conj (pred ∷ []), room));
     }
+
+pub returns : goal.returns
+returns c =
+    let s = c.args.schema.now in
+    let conj = c.loop-left.conj in
+    sym (c.loop-left.invariant.whole ∙ ap (λ left. joined s conj (preds_left left)) c.in_default.is
+    ∙ all_built s conj c.loop-left.invariant.few ∙ ap (λ (x : List Pred). Some x) (sym c.fit.ensures))

@@ -1,4 +1,6 @@
-use Rattle.std.proofs.Common.{sym, subst}
+use Rattle.std.proofs.Common.{length, map, sym, ap, ◌∙◌, subst}
+use Rattle.std.specs.List.{All}
+use Rattle.be_mail.specs.Passes.{AreOfSeat}
 use Rattle.be_mail.specs.Settled.{TakenWerePut}
 use Rattle.be_mail.specs.Settled as mail
 use Rattle.be_desk.specs.Closing.{AreAllSeats, AreKept, IsStray}
@@ -16,7 +18,9 @@ returns-in-None-clause-keeps g c =
 
 pub returns-in-None-clause-letters : goal.returns-in-None-clause-letters
 returns-in-None-clause-letters g c = record {
-  kept = subst (λ qs. mail.AreKept g.S.Post.schema g.S.Post.seats g.S.Post.found g.J.BoxNames.boxes qs) c.in_ok-passes.ensures.passes
-      (subst (λ m. mail.AreKept g.S.Post.schema g.S.Post.seats g.S.Post.found m c.in_ok-passes.passes.items) c.requires.mail c.settle.ensures.kept);
+  form = subst (All AreOfSeat) c.in_ok-passes.ensures.passes c.in_ok-passes.ensures.form;
+  kept = subst (λ n. mail.AreKept g.S.Post.schema n g.S.Post.found g.J.BoxNames.boxes (map (λ s. s.passes) c.args.seats.items)) (sym c.seats.ensures.boxes ∙ ap (λ m. length m) c.requires.mail)
+      (subst (λ qs. mail.AreKept g.S.Post.schema g.S.Post.seats g.S.Post.found g.J.BoxNames.boxes qs) c.in_ok-passes.ensures.passes
+      (subst (λ m. mail.AreKept g.S.Post.schema g.S.Post.seats g.S.Post.found m c.in_ok-passes.passes.items) c.requires.mail c.settle.ensures.kept));
   taken = subst TakenWerePut c.in_ok-passes.ensures.passes c.settle.ensures.taken;
 }

@@ -1,4 +1,4 @@
-use Rattle.std.proofs.Common.{sym, ap, ◌∙◌}
+use Rattle.std.proofs.Common.{refl, sym, ap, ◌∙◌}
 use Rattle.be_desk.specs.Boards.{board_of}
 use Rattle.be_hub.proofs.FilesServed.{board_same}
 use Rattle.be_hub.proofs.SessionsServed.{session_served}
@@ -11,11 +11,11 @@ returns g c =
     let s = g.J.Naming.schema in
     let made = c.make-board.result in
     let left = c.serve_link-end.new.board in
-    session_served _ s c.deref.result.now c.args.seat c.take-seat.result.0 c.args.tended c.take-seat.result.1
+    session_served _ s c.deref.result.now c.args.seat c.take-seat.result.0 left.calls
     (link_state g.L.Source g.L.Sink c.args.link) (link_state g.L.Source g.L.Sink c.serve_link-end.new.link)
-    (board_of s made.tended made.seat) (board_of s left.tended left.seat) c.serve_link-end.result
+    (board_of 1 s made.calls made.seat) (board_of 1 s left.calls left.seat) c.serve_link-end.result
     (c.deref.ensures ∙ c.hub.invariant.2)
-    (board_same s made.tended c.args.tended made.seat c.args.seat c.make-board.ensures.tended c.make-board.ensures.seat)
-    (sym (board_same s c.take-seat.result.1 left.tended c.take-seat.result.0 left.seat c.take-seat.ensures.tended c.take-seat.ensures.seat))
-    (λ u. (ap (link_state g.L.Source g.L.Sink) u.0, c.take-seat.ensures.seat ∙ (ap (λ b. b.seat) u.1 ∙ c.make-board.ensures.seat)))
+    (board_same 1 s made.calls 0 made.seat c.args.seat c.make-board.ensures.calls c.make-board.ensures.seat)
+    (sym (board_same 1 s left.calls left.calls c.take-seat.result.0 left.seat refl c.take-seat.ensures.seat))
+    (λ u. (ap (link_state g.L.Source g.L.Sink) u.0, c.take-seat.ensures.seat ∙ (ap (λ b. b.seat) u.1 ∙ c.make-board.ensures.seat), ap (λ b. b.calls) u.1 ∙ c.make-board.ensures.calls))
     e.beside.whole e.ends e.board

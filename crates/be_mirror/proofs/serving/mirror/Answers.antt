@@ -1,5 +1,9 @@
-use Rattle.std.proofs.Common.{◌≡◌, ◌≢◌, length, Err, IfErr, rules, arith, sym, subst}
+use Rattle.std.proofs.Common.{◌≡◌, ◌≢◌, List, length, Err, IfErr, rules, arith, sym, subst}
+use Rattle.std.specs.List.{All}
 use Rattle.std.specs.Option.{is_some}
+use Rattle.be_base.specs.Lists.{BeginsWith}
+use Rattle.be_change.specs.History.{Entry}
+use Rattle.be_published.specs.States.{GlassState}
 use Rattle.be_hub.proofs.Pairs.{ok_said}
 use Rattle.be_io.specs.Outside.{link_state}
 use Rattle.be_mirror.specs.declared.feeding.FeedEnd.TheVariants as feed
@@ -31,7 +35,7 @@ returns-clause-mirrored g c before port links is =
       len = c.len.ensures;
       served = links_read before (g.D.Door.state c.args.door.now) (g.D.Door.state c.settle_links.new.door) port links (length c.args.glasses.items) is
           (link_state g.L.Source g.L.Sink) (λ end. end.session) (λ end. end.count) (λ end. end.ends.items) g.J.Naming.schema h (is_some left.shade) ends.items served
-          left.sessions.items said.sessions c.in_ok-show_all.ensures.shown (λ none. said.shade (no_shade left.shade none)) said.none_lacked left.sums said.sums said.none_refused said.settled said.links;
+          left.sessions.items said.sessions (subst (λ (k : List Entry). All (λ (x : GlassState). BeginsWith k x.known) left.sessions.items) (c.run_beside-ends.ensures.shown some) c.in_ok-show_all.ensures.shown) (λ none. said.shade (no_shade left.shade none)) said.none_lacked left.sums said.sums said.none_refused said.settled said.links;
     }
 
 pub returns-in_err-show_all-clause-fault : goal.returns-in_err-show_all-clause-fault

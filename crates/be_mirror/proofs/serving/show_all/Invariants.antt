@@ -10,4 +10,4 @@ invariant-loop-session g l =
     (goal.iterator-loop-session g).can_next l.session-iterator
     × (goal.iterator-loop-session g).is_finite l.session-iterator
     × (l.fn.sessions.items ≡ l.yielded ++ l.session-iterator.rest.items)
-    × All (λ (x : GlassState). BeginsWith l.fn.feeder.took.fed.list x.known) l.yielded
+    × All (λ (x : GlassState). BeginsWith l.fn.feeder.published x.known) l.yielded

@@ -32,13 +32,13 @@ pub returns-in_default-clause-sends : goal.returns-in_default-clause-sends
 returns-in_default-clause-sends g c = sends_refused g.J.Naming.schema c.args.self.now c.find.new.self c.find.ensures.looks
 
 pub returns-in_default-clause-refused : goal.returns-in_default-clause-refused
-returns-in_default-clause-refused g c tends = (c.in_ok-n.ensures.read tends).shuts
+returns-in_default-clause-refused g c per_tend tends = (c.in_ok-n.ensures.read per_tend tends).shuts
 
 pub post-put-requires-clause-fit : goal.post-put-requires-clause-fit
 post-put-requires-clause-fit g c =
     let made : map plain_letter c.in-Ok.letters.items ≡ take c.len.result (letters_for c.in_ok-n.n c.args.event.now (rows_in c.rows.result.now)) = search rules in
     let all = made_sound g.J.Naming.schema c.find.new.self.glass.known c.in_ok-n.n c.args.event.now (rows_in c.rows.result.now) c.len.result (map plain_letter c.in-Ok.letters.items)
-    c.count.ensures.sound.formed ((c.in_ok-n.ensures.read 0).length) c.requires.lies made (c.rows.ensures ∙ c.in_ok-n.ensures.found) (c.len.ensures ∙ ap (λ l. length l) c.in_ok-n.ensures.found) in
+    c.count.ensures.sound.formed ((c.in_ok-n.ensures.read 0 0).length) c.requires.lies made (c.rows.ensures ∙ c.in_ok-n.ensures.found) (c.len.ensures ∙ ap (λ l. length l) c.in_ok-n.ensures.found) in
     subst (λ s. All (IsFit s) (map plain_letter c.in-Ok.letters.items)) (sym c.requires.schema)
     (All-weaker (IsSound g.J.Naming.schema c.find.new.self.glass.known) (IsFit g.J.Naming.schema) (λ l one. one.fit) (map plain_letter c.in-Ok.letters.items) all)
 
@@ -46,7 +46,7 @@ pub post-put-requires-clause-delivered : goal.post-put-requires-clause-delivered
 post-put-requires-clause-delivered g c =
     let made : map plain_letter c.in-Ok.letters.items ≡ take c.len.result (letters_for c.in_ok-n.n c.args.event.now (rows_in c.rows.result.now)) = search rules in
     let all = made_sound g.J.Naming.schema c.find.new.self.glass.known c.in_ok-n.n c.args.event.now (rows_in c.rows.result.now) c.len.result (map plain_letter c.in-Ok.letters.items)
-    c.count.ensures.sound.formed ((c.in_ok-n.ensures.read 0).length) c.requires.lies made (c.rows.ensures ∙ c.in_ok-n.ensures.found) (c.len.ensures ∙ ap (λ l. length l) c.in_ok-n.ensures.found) in
+    c.count.ensures.sound.formed ((c.in_ok-n.ensures.read 0 0).length) c.requires.lies made (c.rows.ensures ∙ c.in_ok-n.ensures.found) (c.len.ensures ∙ ap (λ l. length l) c.in_ok-n.ensures.found) in
     All-weaker (IsSound g.J.Naming.schema c.find.new.self.glass.known) (IsDelivered c.find.new.self.glass.known) (λ l one. one.delivered) (map plain_letter c.in-Ok.letters.items) all
 
 letters_are : (g : given.Over) (c : After-len-2 g) → map plain_letter c.in-Ok.letters.items ≡ letters_for c.in_ok-n.n c.args.event.now (rows_of (hit_rows c.find.new.self.glass.known c.args.event.now))

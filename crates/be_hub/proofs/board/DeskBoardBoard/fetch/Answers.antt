@@ -1,4 +1,5 @@
+use Rattle.std.proofs.Common.{min}
 use Rattle.be_hub.proofs.board.DeskBoardBoard.fetch.Goals as goal
 
 pub returns-clause-fetches : goal.returns-clause-fetches
-returns-clause-fetches g c = c.fetch.ensures.fetches c.args.self.now.tended
+returns-clause-fetches g c = c.fetch.ensures.fetches (min g.TENDS 1) c.args.self.now.calls

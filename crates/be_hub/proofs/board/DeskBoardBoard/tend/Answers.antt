@@ -1,9 +1,16 @@
-use Rattle.std.proofs.Common.{refl, arith}
+use Rattle.std.proofs.Common.{ℕ, ◌<◌, min, refl, subst, ◌≡◌, sym, arith}
+use Rattle.be_base.specs.Counts.{RisesBy}
 use Rattle.be_hub.proofs.board.DeskBoardBoard.tend.Goals as goal
 
+-- one tend is counted where it is to tend
+one : (tends : ℕ) → 0 < tends → min tends 1 ≡ 1
+one tends some = omega (arith, some)
+
+counted : (tends before after : ℕ) → 0 < tends → RisesBy 1 before after → RisesBy (min tends 1) before after
+counted tends before after some rise = subst (λ (n : ℕ). RisesBy n before after) (sym (one tends some)) rise
+
 pub returns-in-Some : goal.returns-in-Some
-returns-in-Some g c =
-    let calls = c.calls.ensures in
-    let most = c.calls.type_inv in
-    let more = c.tend.ensures.counted in
-    (c.tend.new.tended, omega (arith, calls, most, more), refl)
+returns-in-Some g c = (c.one_more.result, c.one_more.ensures.0, counted _ _ _ c.in-then.is c.one_more.ensures.1, refl)
+
+pub returns-in-then : goal.returns-in-then
+returns-in-then g c = (c.one_more.result, c.one_more.ensures.0, counted _ _ _ c.in-then.is c.one_more.ensures.1, refl)

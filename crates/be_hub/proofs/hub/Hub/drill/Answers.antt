@@ -31,11 +31,15 @@ close-requires g c = record {
       c.requires.seats c.in-Ok.ensures.count c.in-Ok.ensures.ends);
 }
 
-pub returns-clause-served : goal.returns-clause-served
-returns-clause-served g c =
+pub returns-clause-letters : goal.returns-clause-letters
+returns-clause-letters g c =
     are_served (λ end. end.seat) (λ end. end.transcript.items) (λ end. end.end) (λ file. file.items) g.J.Naming.schema g.J.BoxNames.boxes g.J.Naming.opening c.args.files.items c.in-Ok.run'.ends.items c.args.seats.items
     c.requires.seats c.in-Ok.ensures.count c.in-Ok.ensures.ends
-    c.in_ok-log.field-0.log.list c.in-Ok-left_by.left.seats.items (is_some c.in-Ok-left_by.left.shade) (map (λ t. t.items) c.in-Ok-left_by.left.transcripts.items)
+    g.S.Post.schema g.S.Post.found c.in_ok-log.field-0.log.list c.in-Ok-left_by.left.seats.items (is_some c.in-Ok-left_by.left.shade) (map (λ t. t.items) c.in-Ok-left_by.left.transcripts.items)
     c.in-Ok-left_by.ensures.read c.in-Ok-left_by.ensures.kept c.in-Ok-left_by.ensures.seats c.in-Ok-left_by.ensures.transcripts
     (λ is. c.in-Ok-left_by.ensures.shade.0 (none_is c.in-Ok-left_by.left.shade is)) (λ all. ap is_some (c.in-Ok-left_by.ensures.shade.1 all))
     c.in_ok-log.ensures.sound.formed c.in_ok-log.ensures.keeps c.in_ok-log.ensures.recorded c.in_ok-log.ensures.opened
+    c.in_ok-log.ensures.letters c.requires.count
+
+pub returns-clause-served : goal.returns-clause-served
+returns-clause-served g c = (returns-clause-letters g c).0

@@ -5,4 +5,4 @@ use Rattle.be_session.proofs.serve.SessionReplier.tend.Goals as goal
 
 pub returns-clause-ready : goal.returns-clause-ready
 returns-clause-ready g c =
-    subst (λ (x : BoardState). (is_gone x ≡ false) × (x.schema ≡ c.args.self.now.schema.now)) (sym c.tend.ensures.2) c.requires.ready
+    subst (λ (x : BoardState). (is_gone x ≡ false) × (x.schema ≡ c.args.self.now.schema.now)) (sym c.tend.ensures.3) c.requires.ready

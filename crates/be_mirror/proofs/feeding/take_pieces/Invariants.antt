@@ -1,22 +1,20 @@
--- So much was taken so far, nothing was at fault, and all is published.
+-- So much was taken so far, and nothing was at fault.
 use Rattle.std.proofs.Common.{◌≡◌, ◌-◌, ◌≤◌, None, length}
 use Rattle.be_base.specs.Counts.{RisesBy}
 use Rattle.be_base.specs.declared.limits.TheConstants.{READ_BYTES, SOURCE_BYTES}
 use Rattle.be_io.specs.Outside.{source_state}
-use Rattle.be_mirror.specs.Feeders.{IsAllPublished}
 use Rattle.be_mirror.specs.Feeding.{IsFed}
-use Rattle.be_mirror.proofs.feeding.take_feed.Given as goal
+use Rattle.be_mirror.proofs.feeding.take_pieces.Given as goal
 
 abbrev pub invariant-loop-left : goal.invariant-loop-left
 invariant-loop-left g l = record {
-  fed : IsFed g.J.Naming.schema (source_state g.S.Source l.fn.source) (source_state g.S.Source l.source) l.feeder.took;
+  fed : IsFed g.P.Printer.schema (source_state g.S.Source l.fn.source) (source_state g.S.Source l.source) l.feeder.took;
   sound : l.feeder.took.fed.fault ≡ None;
   bound : l.left ≤ SOURCE_BYTES;
   faults : g.S.Source.read_faults l.source ≡ g.S.Source.read_faults l.fn.source;
   taken : RisesBy (SOURCE_BYTES - l.left) (g.S.Source.taken l.fn.source) (g.S.Source.taken l.source);
   beside : g.S.Source.kept_by_read l.source ≡ g.S.Source.kept_by_read l.fn.source;
   room : length l.buffer.items ≡ READ_BYTES;
-  shown : IsAllPublished l.feeder;
 }
 
 abbrev pub decreases-loop-left : goal.decreases-loop-left

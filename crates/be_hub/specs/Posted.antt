@@ -1,0 +1,57 @@
+-- Where the letters of all sessions came to, and what the sessions' replies say of it.
+use Rattle.std.specs.Prelude.{◌≡◌, ℕ, ◌<◌, ◌≤◌, ◌+◌, ◌==◌, List, ◌++◌, length, map, filter, All}
+use Rattle.std.specs.List.{sum_by}
+use Rattle.atomic_table.specs.Seated.{TableId}
+use Rattle.be_base.specs.declared.limits.TheConstants.{BOX_LETTERS}
+use Rattle.be_change.specs.History.{Entry}
+use Rattle.be_change.specs.Requests.{Note, Exchange}
+use Rattle.be_change.specs.Walk.{IsNoteFor}
+use Rattle.be_mail.specs.Letters.{Posting}
+use Rattle.be_mail.specs.Mailbox.{BoxId, Mailbox}
+use Rattle.be_mail.specs.Passes.{WasFound}
+use Rattle.be_board.specs.Letters.{note_of}
+use Rattle.be_session.specs.Given.{letters_given}
+use Rattle.be_session.specs.Tied.{letters_put}
+
+-- a letter in a box, and the session that sent it
+pub record Mailed : Type 0 where
+  pub sender : ℕ
+  pub note : Note
+
+abbrev pub note_in : Mailed → Note
+note_in x = x.note
+
+-- the letters that were ever put into a session's box, in order: first those that were taken out, then those that are left
+pub record SessionBox : Type 0 where
+  pub taken : List Mailed
+  pub left : List Mailed
+
+abbrev pub all_in : SessionBox → List Mailed
+all_in box = box.taken ++ box.left
+
+-- how many of them session k sent
+abbrev pub count_from : ℕ → SessionBox → ℕ
+count_from k box = length (filter (λ (x : Mailed). x.sender == k) (all_in box))
+
+-- the box of session k, which had these exchanges, among the boxes of all sessions, over the list
+pub record IsBoxOf (h : List Entry) (boxes : List SessionBox) (k : ℕ) (ps : List Exchange) (box : SessionBox) : Type 0 where
+  -- the letters that FETCH gave are those that were taken out, in order
+  pub fetched : letters_given ps ≡ map note_in box.taken
+  -- as many letters as SEND said were put lie in all boxes from session k
+  pub sent : sum_by letters_put ps ≡ sum_by (count_from k) boxes
+  -- each letter in the box is from one of the sessions, and for a row of session k
+  pub senders : All (λ (x : Mailed). (0 < x.sender) × (x.sender ≤ length boxes)) (all_in box)
+  pub notes : All (λ (x : Mailed). IsNoteFor k h x.note) (all_in box)
+  pub room : length box.left ≤ BOX_LETTERS
+
+-- a letter, with the only session of the seat that put it, where seat i is the seat of session i + 1
+abbrev pub mailed : Posting → Mailed
+mailed x = record { sender = x.from + 1; note = note_of x.letter }
+
+-- a mailbox as the box of its seat's only session
+abbrev pub box_in : Mailbox → SessionBox
+box_in m = record { taken = map mailed m.taken; left = map mailed m.queued }
+
+-- the box is what this mailbox, of these, was when it was found
+abbrev pub WasBox : (found : BoxId → Mailbox → Type 0) → List TableId → (mailbox : ℕ) → SessionBox → Type 0
+WasBox found boxes mailbox box = (state : Mailbox) × WasFound found boxes mailbox state × (box ≡ box_in state)

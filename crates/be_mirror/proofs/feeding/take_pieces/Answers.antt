@@ -1,0 +1,96 @@
+use Rattle.std.proofs.Common.{◌+◌, ◌-◌, ◌≤◌, length, Err, refl, sym, ap, subst, ◌∙◌, arith}
+use Rattle.be_base.specs.declared.limits.TheConstants.{SOURCE_BYTES}
+use Rattle.be_io.specs.Outside.{source_state}
+use Rattle.be_protocol.proofs.LinesGoing.{rises-along, spent}
+use Rattle.be_mirror.specs.Feeders.{FeederState}
+use Rattle.be_mirror.proofs.FeedGoing.{takes_as, fed_none, rises_none, ends_on, feeds, few, short_on, within_all, err_one, ok_no_err, front_length, front_short, still_long}
+use Rattle.be_mirror.specs.declared.feeding.FeedEnd.{FeedEnd}
+use Rattle.be_mirror.specs.declared.feeding.FeedEnd.TheVariants as feed
+use Rattle.be_mirror.proofs.feeding.take_pieces.Goals as goal
+
+pub loop-left-init : goal.loop-left-init
+loop-left-init g c =
+    let new = c.requires.new in
+    record {
+      fed = fed_none g.P.Printer.schema (source_state g.S.Source c.args.source.now) c.args.feeder.now.took new.1 (ap (λ (f : FeederState). f.took.schema) new.0);
+      sound = ap (λ (f : FeederState). f.took.fed.fault) new.0;
+      bound = omega arith;
+      faults = refl;
+      taken = rises_none (g.S.Source.taken c.args.source.now) (g.S.Source.taken c.args.source.now) refl;
+      beside = refl;
+      room = omega (arith, c.in-Ok.ensures.len, c.in-Ok.buffer.ok.0);
+    }
+
+pub returns-then-load-clause-feeds : goal.returns-then-load-clause-feeds
+returns-then-load-clause-feeds g c =
+    let i = c.loop-left.invariant in
+    λ _. feeds g.P.Printer.schema (source_state g.S.Source c.args.source.now) (source_state g.S.Source c.loop-left.source) _ c.loop-left.feeder.took i.fed (i.sound, i.faults)
+    (few c.loop-left.left (source_state g.S.Source c.args.source.now) (source_state g.S.Source c.loop-left.source) (omega (arith, c.loop-left-test.true)) i.bound i.taken)
+
+pub returns-then-load-clause-within : goal.returns-then-load-clause-within
+returns-then-load-clause-within g c = let i = c.loop-left.invariant in within_all c.loop-left.left (g.S.Source.taken c.args.source.now) (g.S.Source.taken c.loop-left.source) i.taken
+
+pub returns-then-load-clause-beside : goal.returns-then-load-clause-beside
+returns-then-load-clause-beside g c = c.loop-left.invariant.beside
+
+pub returns-clause-feeds : goal.returns-clause-feeds
+returns-clause-feeds g c =
+    let i = c.loop-left.invariant in
+    λ _. feeds g.P.Printer.schema (source_state g.S.Source c.args.source.now) (source_state g.S.Source c.loop-left.source) _ c.loop-left.feeder.took i.fed (i.sound, spent (g.S.Source.taken c.args.source.now) (g.S.Source.taken c.loop-left.source) (SOURCE_BYTES - c.loop-left.left) i.taken (omega (arith, c.loop-left-test.false)), i.faults) tt
+
+pub returns-clause-within : goal.returns-clause-within
+returns-clause-within g c = let i = c.loop-left.invariant in within_all c.loop-left.left (g.S.Source.taken c.args.source.now) (g.S.Source.taken c.loop-left.source) i.taken
+
+pub returns-clause-beside : goal.returns-clause-beside
+returns-clause-beside g c = c.loop-left.invariant.beside
+
+pub slice_bounds-read-end : goal.slice_bounds-read-end
+slice_bounds-read-end g c = front_length c.min-most.result c.deref_mut.result.now (omega (arith, c.min-most.ensures, ap (λ l. length l) c.deref_mut.ensures.value, c.loop-left.invariant.room))
+
+pub read-requires-clause-some : goal.read-requires-clause-some
+read-requires-clause-some g c =
+    let long = front_length c.min-most.result c.deref_mut.result.now (omega (arith, c.min-most.ensures, ap (λ l. length l) c.deref_mut.ensures.value, c.loop-left.invariant.room)) in
+    omega (arith, long, c.min-most.ensures, c.loop-left-test.true)
+
+pub loop-left-preserved : goal.loop-left-preserved
+loop-left-preserved g c =
+    let i = c.loop-left.invariant in
+    let e = takes_as c.in-Ok-read.is c.read.ensures.takes in
+    let count = c.in-Ok-read.count in
+    let short = front_short c.min-most.result c.deref_mut.result.now in
+    let few : count ≤ c.loop-left.left = omega (arith, e.taken.1, short, c.min-most.ensures) in
+    record {
+      fed = e.fed (λ wanting. ok_no_err wanting) g.P.Printer.schema (source_state g.S.Source c.args.source.now) i.fed;
+      sound = e.sound.1;
+      bound = omega (arith, i.bound);
+      faults = e.sound.0 ∙ i.faults;
+      taken = rises-along (g.S.Source.taken c.args.source.now) (g.S.Source.taken c.loop-left.source) (g.S.Source.taken c.read.new.source) (SOURCE_BYTES - c.loop-left.left) count (SOURCE_BYTES - (c.loop-left.left - count)) i.taken e.taken.2 (omega (arith, few, i.bound));
+      beside = c.read.ensures.beside ∙ i.beside;
+      room = still_long _ c.loop-left.buffer.items c.loop-left.buffer.len (sym c.loop-left.buffer.ok.0) ∙ (c.loop-left.buffer.ok.0 ∙ i.room);
+    }
+
+pub returns-in-Err-clause-feeds : goal.returns-in-Err-clause-feeds
+returns-in-Err-clause-feeds g c = λ not_wanting.
+    let i = c.loop-left.invariant in
+    let before = source_state g.S.Source c.args.source.now in
+    let middle = source_state g.S.Source c.loop-left.source in
+    let after = source_state g.S.Source c.read.new.source in
+    let e = takes_as c.in-Err.is c.read.ensures.takes in
+    let fed = e.fed (λ wanting. not_wanting (err_one (Err c.in-Err.end) c.in-Err.end feed.NoMemory refl wanting)) g.P.Printer.schema before i.fed in
+    feeds g.P.Printer.schema before after c.in-Err.end c.read.new.self.took fed
+    (ends_on before middle after i.fed.bytes (SOURCE_BYTES - c.loop-left.left) c.in-Err.end c.read.new.self.took.fed i.fed.given i.faults i.taken (e.ends not_wanting))
+    (short_on c.loop-left.left before middle after c.in-Err.end (omega (arith, c.loop-left-test.true)) i.bound i.taken
+    (λ is. e.still (ap (λ (x : FeedEnd). Err x) is)) (λ is. e.stays (ap (λ (x : FeedEnd). Err x) is)))
+
+pub returns-in-Err-clause-within : goal.returns-in-Err-clause-within
+returns-in-Err-clause-within g c =
+    let i = c.loop-left.invariant in
+    let more = c.read.ensures.takes.within in
+    let short = front_short c.min-most.result c.deref_mut.result.now in (
+      (SOURCE_BYTES - c.loop-left.left) + more.0,
+      omega (arith, more.1, short, c.min-most.ensures, i.bound),
+      rises-along (g.S.Source.taken c.args.source.now) (g.S.Source.taken c.loop-left.source) (g.S.Source.taken c.read.new.source) (SOURCE_BYTES - c.loop-left.left) more.0 ((SOURCE_BYTES - c.loop-left.left) + more.0) i.taken more.2 refl,
+    )
+
+pub returns-in-Err-clause-beside : goal.returns-in-Err-clause-beside
+returns-in-Err-clause-beside g c = c.read.ensures.beside ∙ c.loop-left.invariant.beside
