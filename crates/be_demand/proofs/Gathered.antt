@@ -11,7 +11,7 @@ use Rattle.be_change.specs.Requests.{Exchange}
 use Rattle.be_heat.specs.Seats.{HeatState, SeatState, AreAllSeats, heat_state, new_seat, at_word, total_of, totals}
 use Rattle.be_model.specs.Schemas.{Attributes}
 use Rattle.be_demand.specs.Counts.{count_of, HasCounted}
-use Rattle.be_demand.specs.Demand.{demand_state, hits, asked, demand, IsOver, AreOver}
+use Rattle.be_demand.specs.Demand.{demand_state, hit_replies, hits_assigning, demand, IsOver, AreOver}
 use Rattle.be_demand.specs.Jobs.{told_by, done, seat_in, place_in, AreJobs, CountsAt}
 use Rattle.be_demand.specs.declared.demand.CountJob.{CountJob}
 
@@ -151,7 +151,7 @@ demand_is s words sessions seats found long is each =
     let all : found ≡ total_of seats 0 ∷ map (total_of seats) (range_with_len 1 (length s)) = is ∙ ap (λ (n : ℕ). totals n seats) more in
     ap told_by all
     ∙ (ap (λ (n : ℕ). demand_state n (map (total_of seats) (range_with_len 1 (length s)))) (each 0 (omega arith))
-    ∙ ap (λ (l : List ℕ). demand_state (sum_by hits sessions) l) (shifted (total_of seats) (λ a. sum_by (asked a) sessions) 0 (length s) (λ i less. each (suc i) (omega arith))))
+    ∙ ap (λ (l : List ℕ). demand_state (sum_by hit_replies sessions) l) (shifted (total_of seats) (λ a. sum_by (hits_assigning a) sessions) 0 (length s) (λ i less. each (suc i) (omega arith))))
 
 -- the next job has the next place
 pub places_more : (jobs all : List CountJob) (job : CountJob) → all ≡ jobs ++ job ∷ [] → job.place ≡ length jobs → map place_in jobs ≡ range_with_len 0 (length jobs)

@@ -9,7 +9,7 @@ use Rattle.be_io.proofs.LineLemmas.{lines-ClosedLine, lines-OpenLine}
 use Rattle.be_model.specs.Schemas.{Attributes}
 use Rattle.be_change.specs.Requests.{Refusal, Request, refused, Reply, refusal, ok, held, bye, dup, none, other, hit, cost, listed, sent, notes, dumped, tailed, split, no_memory, shut, Exchange}
 use Rattle.be_protocol.specs.Readings.{reading}
-use Rattle.be_protocol.specs.Replies.{with_lf, reply_text, first_lines, last_line}
+use Rattle.be_protocol.specs.Replies.{with_lf, reply_text, first_lines, closing_line}
 use Rattle.be_protocol.specs.Transcript.{requests, texts}
 use Rattle.be_demand.specs.Texts.{is_hit, HasLines, TellsFirst}
 use Rattle.be_demand.specs.Demand.{IsFit, IsOver}
@@ -30,7 +30,7 @@ some_lines (l ∷ ls) last = omega (arith, length-append (with_lf l) (flat_map w
 pub no_replies : (s : Attributes) (file transcript : Text) (ps : List Exchange) → IsOver s file transcript ps → length transcript ≡ 0 → ps ≡ []
 no_replies s file transcript [] over empty = refl
 no_replies s file transcript (p ∷ ps) over empty =
-    absurd (omega (arith, empty, ap length over.text, length-append (reply_text s p.1) (texts s ps), some_lines (first_lines s p.1) (last_line p.1)))
+    absurd (omega (arith, empty, ap length over.text, length-append (reply_text s p.1) (texts s ps), some_lines (first_lines s p.1) (closing_line p.1)))
 
 -- no line is left, so no exchange
 pub no_lines : (s : Attributes) (file transcript : Text) (ps : List Exchange) → IsOver s file transcript ps → length file ≡ 0 → ps ≡ []

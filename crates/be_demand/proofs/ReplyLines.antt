@@ -8,7 +8,7 @@ use Rattle.be_model.specs.declared.changes.Row.{Row}
 use Rattle.be_model.specs.Schemas.{Attributes}
 use Rattle.be_change.specs.History.{Entry}
 use Rattle.be_change.specs.Requests.{Refusal, bad, long, unknown_attribute, outside_domain, given_twice, too_many, Note, Reply, refusal, notes, dumped, tailed}
-use Rattle.be_protocol.specs.Replies.{note_line, row_line, change_lines, refusal_line, last_line, first_lines, reply_text}
+use Rattle.be_protocol.specs.Replies.{note_line, row_line, change_lines, refusal_line, closing_line, first_lines, reply_text}
 use Rattle.be_demand.specs.Texts.{goes_on, says_hit, is_hit, is_whole, HasLines}
 use Rattle.be_demand.proofs.Blocks.{IsBlock}
 
@@ -38,7 +38,7 @@ refusal_ends (outside_domain name) = refl
 refusal_ends (given_twice name) = refl
 refusal_ends (too_many count) = refl
 
-last_ends : (r : Reply) → goes_on (last_line r) ≡ false
+last_ends : (r : Reply) → goes_on (closing_line r) ≡ false
 last_ends (refusal r) = refusal_ends r
 last_ends _ = refl
 
@@ -51,13 +51,13 @@ refusal_says (given_twice name) = refl
 refusal_says (too_many count) = refl
 
 -- only the last line of a HIT says so
-pub last_says : (r : Reply) → says_hit (last_line r) ≡ is_hit r
+pub last_says : (r : Reply) → says_hit (closing_line r) ≡ is_hit r
 last_says (refusal r) = refusal_says r
 last_says _ = refl
 
 -- the lines of a reply
-pub reply_block : (s : Attributes) (r : Reply) (bytes rest : Text) → HasLines s r → bytes ≡ reply_text s r ++ rest → IsBlock bytes (first_lines s r) (last_line r) rest
+pub reply_block : (s : Attributes) (r : Reply) (bytes rest : Text) → HasLines s r → bytes ≡ reply_text s r ++ rest → IsBlock bytes (first_lines s r) (closing_line r) rest
 reply_block s r bytes rest h is =
-    let parts = and_parts (list_all is_whole (first_lines s r)) (list_all is_whole (last_line r ∷ [])) (sym (list_all-append is_whole (first_lines s r) (last_line r ∷ [])) ∙ h) in
-    let last = and_parts (is_whole (last_line r)) true parts.1 in
+    let parts = and_parts (list_all is_whole (first_lines s r)) (list_all is_whole (closing_line r ∷ [])) (sym (list_all-append is_whole (first_lines s r) (closing_line r ∷ [])) ∙ h) in
+    let last = and_parts (is_whole (closing_line r)) true parts.1 in
     record { first = first_go s r; ends = last_ends r; whole = parts.0; last_whole = last.0; text = is }

@@ -28,8 +28,8 @@ use Rattle.be_event.specs.declared.events.EventFault.{EventFault}
 use Rattle.be_event.specs.declared.schema_texts.SchemaFault.TheVariants.{Line}
 use Rattle.be_event.specs.declared.schema_texts.SchemaKind.{SchemaKind}
 use Rattle.be_event.specs.Events.{event_of}
-use Rattle.be_event.specs.SchemaTexts.{words, means_nothing, int_domain, sym_domain, domain_of, declared, kind_of, judged, judge, declaration, after_line, schema_from, schema_of}
-use Rattle.be_protocol.specs.Readings.{subscribing, subscription, unsubscribing, removal, asking_of, of_event, number_asked, fetching_at_most, fetch, tailing_at_most, tail, alone, Command, commands, commanded_by, request_of, reading}
+use Rattle.be_event.specs.SchemaTexts.{words, declares_nothing, int_domain, sym_domain, domain_of, declared, kind_of, attribute_or_fault, judge, declaration, after_declaration, schema_from, schema_of}
+use Rattle.be_protocol.specs.Readings.{subscribe_or_refused, subscription_asked, unsubscribe_or_refused, removal_asked, asking_of, of_event, number_asked, fetching_at_most, fetch, tailing_at_most, tail, alone, Command, commands, commanded_by, request_of, reading}
 use Rattle.be_protocol.specs.Transcript.{requests, AnswersEach, AreExchanges}
 use Rattle.be_demand.specs.Texts.{is_whole}
 use Rattle.be_demand.specs.Whole.{words_are_whole, attribute_is_whole, names_are_whole, entry_is_whole}
@@ -94,7 +94,7 @@ declared_whole (kind ∷ name ∷ ws) a h = line_whole kind name ws a h
 judge_whole : (names : List Text) (ws : List Text) (a : Attribute) → declaration names ws ≡ Ok a → attribute_is_whole a ≡ true
 judge_whole names ws a h = go (declared ws) refl h
   where
-    told : (x : Attribute) (o : Option SchemaKind) → judged x o ≡ Ok a → x ≡ a
+    told : (x : Attribute) (o : Option SchemaKind) → attribute_or_fault x o ≡ Ok a → x ≡ a
     told x None e = cc
     told x (Some kind) e = absurd cc
 
@@ -104,18 +104,18 @@ judge_whole names ws a h = go (declared ws) refl h
 
 lines_whole : (lines : List Text) (n : ℕ) (s whole : Attributes) → names_are_whole s ≡ true → schema_from n s lines ≡ Ok whole → names_are_whole whole ≡ true
 lines_whole [] n s whole so h = let same : s ≡ whole = cc in ap names_are_whole (sym same) ∙ so
-lines_whole (l ∷ lines) n s whole so h = go (λ m x. lines_whole lines m x whole) (means_nothing (words l)) h
+lines_whole (l ∷ lines) n s whole so h = go (λ m x. lines_whole lines m x whole) (declares_nothing (words l)) h
   where
     Rest : Type 0
     Rest = (m : ℕ) (x : Attributes) → names_are_whole x ≡ true → schema_from m x lines ≡ Ok whole → names_are_whole whole ≡ true
 
-    next : Rest → (r : Result Attribute SchemaKind) → declaration (names_of_attributes s) (words l) ≡ r → after_line n r (λ a. schema_from (n + 1) (s ++ a ∷ []) lines) ≡ Ok whole → names_are_whole whole ≡ true
+    next : Rest → (r : Result Attribute SchemaKind) → declaration (names_of_attributes s) (words l) ≡ r → after_declaration n r (λ a. schema_from (n + 1) (s ++ a ∷ []) lines) ≡ Ok whole → names_are_whole whole ≡ true
     next rest (Err kind) is e = absurd cc
     next rest (Ok a) is e =
         rest (n + 1) (s ++ a ∷ [])
         (list_all-append attribute_is_whole s (a ∷ []) ∙ and_from (names_are_whole s) (attribute_is_whole a && true) so (and_from (attribute_is_whole a) true (judge_whole (names_of_attributes s) (words l) a is) refl)) e
 
-    go : Rest → (b : Bool) → cond b (schema_from (n + 1) s lines) (after_line n (declaration (names_of_attributes s) (words l)) (λ a. schema_from (n + 1) (s ++ a ∷ []) lines)) ≡ Ok whole → names_are_whole whole ≡ true
+    go : Rest → (b : Bool) → cond b (schema_from (n + 1) s lines) (after_declaration n (declaration (names_of_attributes s) (words l)) (λ a. schema_from (n + 1) (s ++ a ∷ []) lines)) ≡ Ok whole → names_are_whole whole ≡ true
     go rest true e = rest (n + 1) s so e
     go rest false e = next rest (declaration (names_of_attributes s) (words l)) refl e
 
@@ -136,19 +136,19 @@ asks_whole ask each s ts = go (event_of s ts)
     go (Ok e) = each e
     go (Err fault) = tt
 
-subscription_whole : (s : Attributes) (ts : Option (List Lexeme)) → NameWhole (subscription s ts)
+subscription_whole : (s : Attributes) (ts : Option (List Lexeme)) → NameWhole (subscription_asked s ts)
 subscription_whole s (Some (word name ∷ ts)) = go (name_of name) refl (condition s (Some ts))
   where
-    go : (r : Result Text NameFault) → name_of name ≡ r → (c : Result (List Pred) ExprFault) → NameWhole (subscribing s (naming r c))
+    go : (r : Result Text NameFault) → name_of name ≡ r → (c : Result (List Pred) ExprFault) → NameWhole (subscribe_or_refused s (naming r c))
     go (Ok n) is (Ok conj) = let k = IsName-from_name_of name n is in subst (λ x. is_whole x ≡ true) (sym k.0) (name_whole name k.1)
     go (Ok n) is (Err fault) = tt
     go (Err fault) is c = tt
 subscription_whole s ts = tt
 
-removal_whole : (ts : Option (List Lexeme)) → NameWhole (removal ts)
+removal_whole : (ts : Option (List Lexeme)) → NameWhole (removal_asked ts)
 removal_whole (Some (word name ∷ [])) = go (name_of name) refl
   where
-    go : (r : Result Text NameFault) → name_of name ≡ r → NameWhole (unsubscribing r)
+    go : (r : Result Text NameFault) → name_of name ≡ r → NameWhole (unsubscribe_or_refused r)
     go (Ok n) is = let k = IsName-from_name_of name n is in subst (λ x. is_whole x ≡ true) (sym k.0) (name_whole name k.1)
     go (Err fault) is = tt
 removal_whole ts = tt

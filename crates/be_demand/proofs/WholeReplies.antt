@@ -16,7 +16,7 @@ use Rattle.be_change.specs.Walk.{Walk, Answers, IsLegal, IsNoteFor, beginning_at
 use Rattle.be_expr.specs.Changes.{change_text}
 use Rattle.be_expr.specs.Writing.{expr_text}
 use Rattle.be_event.specs.Writing.{event_text}
-use Rattle.be_protocol.specs.Replies.{part, number, names_text, note_line, row_line, change_lines, last_line}
+use Rattle.be_protocol.specs.Replies.{part, number, names_text, note_line, row_line, change_lines, closing_line}
 use Rattle.be_demand.specs.Texts.{is_whole}
 use Rattle.be_demand.specs.Demand.{IsFit, AreFit}
 use Rattle.be_demand.specs.Whole.{names_are_whole, entry_is_whole, changes_are_whole, LegalIsFit}
@@ -104,20 +104,20 @@ module _ (s : Attributes) (names : names_are_whole s ≡ true) (k : ℕ) (h : Li
 
     answer_fit : (r : Request) (reply : Reply) → Answers s k h r reply w w' → IsFit s r reply
     answer_fit r (refusal t) a = fit_refusal r t a
-    answer_fit r (hit n found) a = one (last_line (hit n found)) (plain_listed n found (fit_hit r n found a))
-    answer_fit r (listed n found) a = one (last_line (listed n found)) (plain_listed n found (fit_listed r n found a))
-    answer_fit r (notes letters) a = more (map (note_line s) letters) (last_line (notes letters)) (fit_notes r letters a) (plain_number (length letters))
-    answer_fit r (dumped n rows) a = more (map (row_line s) rows) (last_line (dumped n rows)) (fit_dumped r n rows a) (plain_two n (length rows))
-    answer_fit r (tailed n start entries) a = more (change_lines s start entries) (last_line (tailed n start entries)) (fit_tailed r n start entries a) (plain_two n (length entries))
-    answer_fit r (ok n) a = one (last_line (ok n)) (plain_number n)
-    answer_fit r (held n) a = one (last_line (held n)) (plain_number n)
-    answer_fit r (bye n) a = one (last_line (bye n)) (plain_number n)
-    answer_fit r (dup m id) a = one (last_line (dup m id)) (plain_two m id)
-    answer_fit r (none m) a = one (last_line (none m)) (plain_number m)
-    answer_fit r (other m id) a = one (last_line (other m id)) (plain_two m id)
-    answer_fit r (cost n c) a = one (last_line (cost n c)) (plain_three n c.visits c.tested)
-    answer_fit r (sent n put dropped) a = one (last_line (sent n put dropped)) (plain_three n put dropped)
-    answer_fit r (split x y) a = one (last_line (split x y)) (plain_two x y)
+    answer_fit r (hit n found) a = one (closing_line (hit n found)) (plain_listed n found (fit_hit r n found a))
+    answer_fit r (listed n found) a = one (closing_line (listed n found)) (plain_listed n found (fit_listed r n found a))
+    answer_fit r (notes letters) a = more (map (note_line s) letters) (closing_line (notes letters)) (fit_notes r letters a) (plain_number (length letters))
+    answer_fit r (dumped n rows) a = more (map (row_line s) rows) (closing_line (dumped n rows)) (fit_dumped r n rows a) (plain_two n (length rows))
+    answer_fit r (tailed n start entries) a = more (change_lines s start entries) (closing_line (tailed n start entries)) (fit_tailed r n start entries a) (plain_two n (length entries))
+    answer_fit r (ok n) a = one (closing_line (ok n)) (plain_number n)
+    answer_fit r (held n) a = one (closing_line (held n)) (plain_number n)
+    answer_fit r (bye n) a = one (closing_line (bye n)) (plain_number n)
+    answer_fit r (dup m id) a = one (closing_line (dup m id)) (plain_two m id)
+    answer_fit r (none m) a = one (closing_line (none m)) (plain_number m)
+    answer_fit r (other m id) a = one (closing_line (other m id)) (plain_two m id)
+    answer_fit r (cost n c) a = one (closing_line (cost n c)) (plain_three n c.visits c.tested)
+    answer_fit r (sent n put dropped) a = one (closing_line (sent n put dropped)) (plain_three n put dropped)
+    answer_fit r (split x y) a = one (closing_line (split x y)) (plain_two x y)
     answer_fit r no_memory a = refl
     answer_fit r shut a = refl
 

@@ -24,12 +24,12 @@ abbrev pub asks_for : ℕ → Exchange → Bool
 asks_for a p = is_answered p && assigns a p.0
 
 -- how many replies are a HIT
-abbrev pub hits : List Exchange → ℕ
-hits ps = count_by is_answered ps
+abbrev pub hit_replies : List Exchange → ℕ
+hit_replies ps = count_by is_answered ps
 
 -- how many of the events that were answered HIT assign the attribute
-abbrev pub asked : ℕ → List Exchange → ℕ
-asked a ps = count_by (asks_for a) ps
+abbrev pub hits_assigning : ℕ → List Exchange → ℕ
+hits_assigning a ps = count_by (asks_for a) ps
 
 -- the same over several sessions: the number of HITs, and for each attribute the number of their events that assign it
 pub record DemandState : Type 0 where
@@ -40,7 +40,7 @@ abbrev pub demand_state : ℕ → List ℕ → DemandState
 demand_state hits asked = record { hits = hits; asked = asked }
 
 abbrev pub demand : Attributes → List (List Exchange) → DemandState
-demand s sessions = demand_state (sum_by hits sessions) (map (λ a. sum_by (asked a) sessions) (range_with_len 0 (length s)))
+demand s sessions = demand_state (sum_by hit_replies sessions) (map (λ a. sum_by (hits_assigning a) sessions) (range_with_len 0 (length s)))
 
 -- the reply is the refusal that the request is, or no line of it has an LF within
 abbrev pub IsFit : Attributes → Request → Reply → Type 0

@@ -7,10 +7,10 @@ use Rattle.be_base.specs.Readers.{Read}
 use Rattle.be_base.specs.Sets.{value_tokens, is_filled, read_values}
 use Rattle.be_base.proofs.SameText.{equal_from_same_text}
 use Rattle.be_base.proofs.SetReadings.{read_values-value_tokens, ValuesRead, values_are_written}
-use Rattle.be_event.specs.Grammar.{WrittenValues, single, set, WrittenItem, words_of, given_tokens, item_tokens, event_tokens, is_attr, are_written, read_given, with_attr, read_item, read_items, items_of, written, ReadsAreWritten}
+use Rattle.be_event.specs.Grammar.{WrittenValues, single, set, WrittenItem, item_words, given_tokens, item_tokens, event_tokens, is_attr, are_written, read_given, with_item_attr, read_item, read_items, items_of, items_written, ReadsAreWritten}
 
 -- what the grammar writes is read
-given_is_read : (values : WrittenValues) (ts : List Lexeme) → is_filled (words_of values) ≡ true → read_given (given_tokens values ++ ts) ≡ Some (values, ts)
+given_is_read : (values : WrittenValues) (ts : List Lexeme) → is_filled (item_words values) ≡ true → read_given (given_tokens values ++ ts) ≡ Some (values, ts)
 given_is_read (single v) ts h = refl
 given_is_read (set []) ts h = absurd (cc)
 given_is_read (set (v ∷ vs)) ts h =
@@ -18,12 +18,12 @@ given_is_read (set (v ∷ vs)) ts h =
     ap (λ (rest : List Lexeme). option_map with_set (read_values rest)) (append_assoc (value_tokens (v ∷ vs)) (close_brace ∷ []) ts)
     ∙ ap (option_map with_set) (read_values-value_tokens v vs ts)
 
-item_is_read : (item : WrittenItem) (ts : List Lexeme) → (is_attr item.attr && is_filled (words_of item.values)) ≡ true
+item_is_read : (item : WrittenItem) (ts : List Lexeme) → (is_attr item.attr && is_filled (item_words item.values)) ≡ true
     → read_item (word item.attr ∷ equal ∷ (given_tokens item.values ++ ts)) ≡ Some (item, ts)
 item_is_read item ts h =
-    let parts = and_parts (is_attr item.attr) (is_filled (words_of item.values)) h in
-    ap (λ (b : Bool). if b then option_map (with_attr item.attr) (read_given (given_tokens item.values ++ ts)) else None) parts.0
-    ∙ ap (option_map (with_attr item.attr)) (given_is_read item.values ts parts.1)
+    let parts = and_parts (is_attr item.attr) (is_filled (item_words item.values)) h in
+    ap (λ (b : Bool). if b then option_map (with_item_attr item.attr) (read_given (given_tokens item.values ++ ts)) else None) parts.0
+    ∙ ap (option_map (with_item_attr item.attr)) (given_is_read item.values ts parts.1)
 
 pub read_no_items : (fuel : ℕ) → read_items fuel [] ≡ Some []
 read_no_items zero = refl
@@ -33,7 +33,7 @@ items_are_read : (fuel : ℕ) (items : List WrittenItem) → length items ≤ fu
 items_are_read fuel [] few h = read_no_items fuel
 items_are_read zero (item ∷ items) few h = absurd (omega arith)
 items_are_read (suc fuel) (item ∷ items) few h =
-    let parts = and_parts (is_attr item.attr && is_filled (words_of item.values)) (are_written items) h in
+    let parts = and_parts (is_attr item.attr && is_filled (item_words item.values)) (are_written items) h in
     ap (option_and_then (λ (r : WrittenItem × List Lexeme). option_map (λ more. r.0 ∷ more) (read_items fuel r.1))) (item_is_read item (item_tokens items) parts.0)
     ∙ ap (option_map (λ (more : List WrittenItem). item ∷ more)) (items_are_read fuel items (omega (arith, few)) parts.1)
 
@@ -41,13 +41,13 @@ items_have_tokens : (items : List WrittenItem) → length items + length items �
 items_have_tokens [] = omega arith
 items_have_tokens (item ∷ items) = omega (arith, items_have_tokens items, length-append (given_tokens item.values) (item_tokens items))
 
-several_are_items : (ts : List Lexeme) → 2 ≤ length ts → written ts ≡ items_of ts
+several_are_items : (ts : List Lexeme) → 2 ≤ length ts → items_written ts ≡ items_of ts
 several_are_items [] h = absurd (omega arith)
 several_are_items (t ∷ []) h = absurd (omega arith)
 several_are_items (word w ∷ u ∷ ts) h = refl
 several_are_items (t ∷ u ∷ ts) h = refl
 
-pub written-event_tokens : (items : List WrittenItem) → are_written items ≡ true → written (event_tokens items) ≡ Some items
+pub written-event_tokens : (items : List WrittenItem) → are_written items ≡ true → items_written (event_tokens items) ≡ Some items
 written-event_tokens [] h = refl
 written-event_tokens (item ∷ items) h =
     let many = items_have_tokens (item ∷ items) in
@@ -57,7 +57,7 @@ written-event_tokens (item ∷ items) h =
 -- what is read is written so
 abbrev GivenRead : List Lexeme → Read WrittenValues → Type 0
 GivenRead ts None = Unit
-GivenRead ts (Some r) = (is_filled (words_of r.0) ≡ true) × (given_tokens r.0 ++ r.1 ≡ ts)
+GivenRead ts (Some r) = (is_filled (item_words r.0) ≡ true) × (given_tokens r.0 ++ r.1 ≡ ts)
 
 set_is_written : (ts : List Lexeme) (o : Read (List Text)) → ValuesRead ts o → GivenRead (open_brace ∷ ts) (option_map (λ (r : List Text × List Lexeme). (set r.0, r.1)) o)
 set_is_written ts None h = tt
@@ -70,14 +70,14 @@ given_is_written _ = tt
 
 abbrev ItemRead : List Lexeme → Read WrittenItem → Type 0
 ItemRead ts None = Unit
-ItemRead ts (Some r) = ((is_attr r.0.attr && is_filled (words_of r.0.values)) ≡ true) × (word r.0.attr ∷ equal ∷ (given_tokens r.0.values ++ r.1) ≡ ts)
+ItemRead ts (Some r) = ((is_attr r.0.attr && is_filled (item_words r.0.values)) ≡ true) × (word r.0.attr ∷ equal ∷ (given_tokens r.0.values ++ r.1) ≡ ts)
 
 attr_before_given : (a : Text) (b : Bool) (ts : List Lexeme) (o : Read WrittenValues) → is_attr a ≡ b → GivenRead ts o
-    → ItemRead (word a ∷ equal ∷ ts) (if b then option_map (with_attr a) o else None)
+    → ItemRead (word a ∷ equal ∷ ts) (if b then option_map (with_item_attr a) o else None)
 attr_before_given a false ts o e h = tt
 attr_before_given a true ts None e h = tt
 attr_before_given a true ts (Some (values, rest)) e h =
-    (and_from (is_attr a) (is_filled (words_of values)) e h.0, ap (λ (after : List Lexeme). word a ∷ equal ∷ after) h.1)
+    (and_from (is_attr a) (is_filled (item_words values)) e h.0, ap (λ (after : List Lexeme). word a ∷ equal ∷ after) h.1)
 
 item_is_written : (ts : List Lexeme) → ItemRead ts (read_item ts)
 item_is_written (word a ∷ equal ∷ ts) = attr_before_given a (is_attr a) ts (read_given ts) refl (given_is_written ts)
@@ -102,7 +102,7 @@ item_before_items : (item : WrittenItem) (after ts : List Lexeme) (o : Option (L
     → AreRead ts (option_map (λ items. item ∷ items) o)
 item_before_items item after ts None rest h = tt
 item_before_items item after ts (Some items) rest h = (
-  and_from (is_attr item.attr && is_filled (words_of item.values)) (are_written items) h.0 rest.0,
+  and_from (is_attr item.attr && is_filled (item_words item.values)) (are_written items) h.0 rest.0,
   ap (λ (tokens : List Lexeme). word item.attr ∷ equal ∷ (given_tokens item.values ++ tokens)) rest.1 ∙ h.1,
 )
 
@@ -133,7 +133,7 @@ dash_is_read w false e = tt
 several_are_read : (t : Lexeme) (ts : List Lexeme) → IsRead (t ∷ ts) (items_of (t ∷ ts))
 several_are_read t ts = some_are_read t ts (items_of (t ∷ ts)) (items_are_as_written (length (t ∷ ts)) (t ∷ ts))
 
-written_is_read : (ts : List Lexeme) → IsRead ts (written ts)
+written_is_read : (ts : List Lexeme) → IsRead ts (items_written ts)
 written_is_read [] = tt
 written_is_read (word w ∷ []) = dash_is_read w (same_text w (codes "-")) refl
 written_is_read (t ∷ []) = several_are_read t []
@@ -143,5 +143,5 @@ written_is_read (t ∷ u ∷ ts) = several_are_read t (u ∷ ts)
 pub reads_are_written : ReadsAreWritten
 reads_are_written ts items = (
   λ h. subst (λ (o : Option (List WrittenItem)). IsRead ts o) h (written_is_read ts),
-  λ h. subst (λ (tokens : List Lexeme). written tokens ≡ Some items) h.1 (written-event_tokens items h.0),
+  λ h. subst (λ (tokens : List Lexeme). items_written tokens ≡ Some items) h.1 (written-event_tokens items h.0),
 )

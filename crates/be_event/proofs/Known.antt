@@ -9,8 +9,8 @@ use Rattle.be_model.specs.SetTexts.{has_outside, meant_values}
 use Rattle.be_model.specs.Matching.{Assignments, values_of}
 use Rattle.be_model.specs.Schemas.{Attributes, attribute_named}
 use Rattle.be_model.proofs.NamedBelow.{named_below}
-use Rattle.be_event.specs.Grammar.{WrittenItem, words_of, written}
-use Rattle.be_event.specs.Events.{unknown_attr, is_outside, outside_domain, large_set, assigned, assignments, again_after, stands_twice, fault_in, judged, meaning, by_attribute, event, Reads, IsKnown}
+use Rattle.be_event.specs.Grammar.{WrittenItem, item_words, items_written}
+use Rattle.be_event.specs.Events.{unknown_in_event, is_outside_item, outside_in_event, large_in_event, assigned, assignments, again_after, stands_twice, first_event_fault, event_or_fault, event_meant, by_attribute, event, Reads, IsKnown}
 use Rattle.be_event.specs.declared.events.EventFault.{EventFault}
 use Rattle.be_event.specs.declared.events.EventFault.TheVariants.{Bad, Attr, Dom, Twice, Many, NoMemory}
 
@@ -45,9 +45,9 @@ assigned_below s (item ∷ items) = by_attr (attribute_named s item.attr) refl (
     put a words false below rest = (below, rest)
 
     by_attr : (a : Option AttrNo) → attribute_named s item.attr ≡ a → AreBelow s (assignments s items)
-        → AreBelow s (cons_option (option_and_then (λ b. assigned s b (words_of item.values)) a) (assignments s items))
+        → AreBelow s (cons_option (option_and_then (λ b. assigned s b (item_words item.values)) a) (assignments s items))
     by_attr None e rest = rest
-    by_attr (Some a) e rest = put a (words_of item.values) (has_outside s a (words_of item.values)) (named_below s item.attr a e) rest
+    by_attr (Some a) e rest = put a (item_words item.values) (has_outside s a (item_words item.values)) (named_below s item.attr a e) rest
 
 knows_again : (s : Attributes) (before items : Assignments) → AreBelow s items → Knows s (option_map (λ a. Twice a) (again_after before items))
 knows_again s before [] below = tt
@@ -66,24 +66,24 @@ knows_many : (s : Attributes) (count : Option ℕ) → Knows s (option_map (λ n
 knows_many s None = tt
 knows_many s (Some n) = tt
 
-knows_fault : (s : Attributes) (items : List WrittenItem) → Knows s (fault_in s items)
+knows_fault : (s : Attributes) (items : List WrittenItem) → Knows s (first_event_fault s items)
 knows_fault s items =
-    knows_either s (option_map (λ n. Attr n) (unknown_attr s items)) _ (knows_unknown s (unknown_attr s items))
-    (knows_either s (option_map (λ a. Dom a) (outside_domain s items)) _ (knows_outside s (find (is_outside s) items))
-    (knows_either s (option_map (λ a. Twice a) (stands_twice (assignments s items))) (option_map (λ n. Many n) (large_set items))
-    (knows_again s [] (assignments s items) (assigned_below s items)) (knows_many s (large_set items))))
+    knows_either s (option_map (λ n. Attr n) (unknown_in_event s items)) _ (knows_unknown s (unknown_in_event s items))
+    (knows_either s (option_map (λ a. Dom a) (outside_in_event s items)) _ (knows_outside s (find (is_outside_item s) items))
+    (knows_either s (option_map (λ a. Twice a) (stands_twice (assignments s items))) (option_map (λ n. Many n) (large_in_event items))
+    (knows_again s [] (assignments s items) (assigned_below s items)) (knows_many s (large_in_event items))))
 
-known_judged : (s : Attributes) (e : Assignments) (f : Option EventFault) (fault : EventFault) → Knows s f → judged e f ≡ Err fault → IsKnown s fault
+known_judged : (s : Attributes) (e : Assignments) (f : Option EventFault) (fault : EventFault) → Knows s f → event_or_fault e f ≡ Err fault → IsKnown s fault
 known_judged s e None fault k is = absurd cc
 known_judged s e (Some g) fault k is = let same : g ≡ fault = cc in subst (IsKnown s) same k
 
-known_meant : (s : Attributes) (items : Option (List WrittenItem)) (fault : EventFault) → meaning s items ≡ Err fault → IsKnown s fault
+known_meant : (s : Attributes) (items : Option (List WrittenItem)) (fault : EventFault) → event_meant s items ≡ Err fault → IsKnown s fault
 known_meant s None fault e = let same : Bad ≡ fault = cc in subst (IsKnown s) same tt
-known_meant s (Some items) fault e = known_judged s (by_attribute (length s) (assignments s items)) (fault_in s items) fault (knows_fault s items) e
+known_meant s (Some items) fault e = known_judged s (by_attribute (length s) (assignments s items)) (first_event_fault s items) fault (knows_fault s items) e
 
 pub known_read : (s : Attributes) (text : Text) (fault : EventFault) → Reads (Err fault) (event s text) → IsKnown s fault
-known_read s text (Dom a) r = known_meant s (option_and_then written (tokens text)) (Dom a) r
-known_read s text (Twice a) r = known_meant s (option_and_then written (tokens text)) (Twice a) r
+known_read s text (Dom a) r = known_meant s (option_and_then items_written (tokens text)) (Dom a) r
+known_read s text (Twice a) r = known_meant s (option_and_then items_written (tokens text)) (Twice a) r
 known_read s text Bad r = tt
 known_read s text (Attr name) r = tt
 known_read s text (Many count) r = tt

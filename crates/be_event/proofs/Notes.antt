@@ -13,8 +13,8 @@ use Rattle.be_base.specs.declared.names.AttrNo.{AttrNo}
 use Rattle.be_model.specs.Matching.{Assignments, values_of}
 use Rattle.be_model.specs.Schemas.{Attributes, numbered, attribute_named}
 use Rattle.be_model.specs.SetTexts.{has_outside, some_outside, meant_values, FineValues}
-use Rattle.be_event.specs.Grammar.{WrittenValues, WrittenItem, item_of, words_of}
-use Rattle.be_event.specs.Events.{is_unknown, unknown_attr, is_outside, outside_domain, has_many_values, large_set, assignment, assignments, again_after, stands_twice}
+use Rattle.be_event.specs.Grammar.{WrittenValues, WrittenItem, item_of, item_words}
+use Rattle.be_event.specs.Events.{is_unknown_item, unknown_in_event, is_outside_item, outside_in_event, is_large_item, large_in_event, assignment, assignments, again_after, stands_twice}
 use Rattle.be_event.specs.Scan.{meant, IsFine, IsSource, IsGiven, HoldsAt, AreFine, is_some_item, Finds}
 use Rattle.be_event.specs.declared.found.Found.{Found}
 use Rattle.be_event.specs.declared.items.Given.{Given}
@@ -49,37 +49,37 @@ then_or {X = X} {Y = Y} f p (x ∷ xs) q h = at (p x) refl (then_or f p xs q h)
     at false e rest = rest
 
 -- what an item that stands last adds to the first unknown attribute and to the first value outside its domain
-unknown-push : (s : Attributes) (items : List WrittenItem) (item : WrittenItem) (b : Bool) → is_unknown s item ≡ b
-    → unknown_attr s (items ++ item ∷ []) ≡ option_or (unknown_attr s items) (option_map (λ (i : WrittenItem). i.attr) (cond b (Some item) None))
+unknown-push : (s : Attributes) (items : List WrittenItem) (item : WrittenItem) (b : Bool) → is_unknown_item s item ≡ b
+    → unknown_in_event s (items ++ item ∷ []) ≡ option_or (unknown_in_event s items) (option_map (λ (i : WrittenItem). i.attr) (cond b (Some item) None))
 unknown-push s items item b h =
-    ap (λ o. option_map (λ (i : WrittenItem). i.attr) o) (find-push (is_unknown s) items item b h)
-    ∙ map_or (λ (i : WrittenItem). i.attr) (find (is_unknown s) items) (cond b (Some item) None)
+    ap (λ o. option_map (λ (i : WrittenItem). i.attr) o) (find-push (is_unknown_item s) items item b h)
+    ∙ map_or (λ (i : WrittenItem). i.attr) (find (is_unknown_item s) items) (cond b (Some item) None)
 
 -- the number, where it is more than a set may have
 abbrev pub over : ℕ → Option ℕ
 over n = if nat_lt SET_VALUES n then Some n else None
 
-many_if : (item : WrittenItem) (b : Bool) (n : ℕ) → length (words_of item.values) ≡ n
-    → option_map (λ (i : WrittenItem). length (words_of i.values)) (cond b (Some item) None) ≡ (if b then Some n else None)
+many_if : (item : WrittenItem) (b : Bool) (n : ℕ) → length (item_words item.values) ≡ n
+    → option_map (λ (i : WrittenItem). length (item_words i.values)) (cond b (Some item) None) ≡ (if b then Some n else None)
 many_if item true n e = ap (λ (m : ℕ). Some m) e
 many_if item false n e = refl
 
-many-push : (items : List WrittenItem) (item : WrittenItem) → large_set (items ++ item ∷ []) ≡ option_or (large_set items) (over (length (words_of item.values)))
+many-push : (items : List WrittenItem) (item : WrittenItem) → large_in_event (items ++ item ∷ []) ≡ option_or (large_in_event items) (over (length (item_words item.values)))
 many-push items item =
-    ap (λ o. option_map (λ (i : WrittenItem). length (words_of i.values)) o) (find-push has_many_values items item (has_many_values item) refl)
-    ∙ map_or (λ (i : WrittenItem). length (words_of i.values)) (find has_many_values items) (cond (has_many_values item) (Some item) None)
-    ∙ ap (option_or (large_set items)) (many_if item (has_many_values item) (length (words_of item.values)) refl)
+    ap (λ o. option_map (λ (i : WrittenItem). length (item_words i.values)) o) (find-push is_large_item items item (is_large_item item) refl)
+    ∙ map_or (λ (i : WrittenItem). length (item_words i.values)) (find is_large_item items) (cond (is_large_item item) (Some item) None)
+    ∙ ap (option_or (large_in_event items)) (many_if item (is_large_item item) (length (item_words item.values)) refl)
 
 outside_named : (o : Option AttrNo) (s : Attributes) (words : List Text) → some_outside s o words ≡ true → is_some o ≡ true
 outside_named None s words h = absurd (cc)
 outside_named (Some a) s words h = refl
 
-outside-push : (s : Attributes) (items : List WrittenItem) (item : WrittenItem) (b : Bool) → is_outside s item ≡ b
-    → outside_domain s (items ++ item ∷ []) ≡ option_or (outside_domain s items) (option_and_then (λ (i : WrittenItem). attribute_named s i.attr) (cond b (Some item) None))
+outside-push : (s : Attributes) (items : List WrittenItem) (item : WrittenItem) (b : Bool) → is_outside_item s item ≡ b
+    → outside_in_event s (items ++ item ∷ []) ≡ option_or (outside_in_event s items) (option_and_then (λ (i : WrittenItem). attribute_named s i.attr) (cond b (Some item) None))
 outside-push s items item b h =
-    ap (λ o. option_and_then (λ (i : WrittenItem). attribute_named s i.attr) o) (find-push (is_outside s) items item b h)
-    ∙ then_or (λ (i : WrittenItem). attribute_named s i.attr) (is_outside s) items (cond b (Some item) None)
-    (λ i k. outside_named (attribute_named s i.attr) s (words_of i.values) k)
+    ap (λ o. option_and_then (λ (i : WrittenItem). attribute_named s i.attr) o) (find-push (is_outside_item s) items item b h)
+    ∙ then_or (λ (i : WrittenItem). attribute_named s i.attr) (is_outside_item s) items (cond b (Some item) None)
+    (λ i k. outside_named (attribute_named s i.attr) s (item_words i.values) k)
 
 -- what an item that stands last adds to the sets
 assignments-none : (s : Attributes) (items : List WrittenItem) (item : WrittenItem) → assignment s item ≡ None → assignments s (items ++ item ∷ []) ≡ assignments s items
@@ -201,10 +201,10 @@ kept_fine : (s : Attributes) (items : List WrittenItem) (found found' : Found) (
 kept_fine s items found found' n m v f none =
     subst (AreFine s) (sym v) (f.fine (none_of_both found.faults.many (over n) (sym m ∙ none)).0)
 
-many_is : (s : Attributes) (items : List WrittenItem) (item : WrittenItem) (found found' : Found) (n : ℕ) → found'.faults.many ≡ option_or found.faults.many (over n) → n ≡ length (words_of item.values) → Finds s items found
-    → found'.faults.many ≡ large_set (items ++ item ∷ [])
+many_is : (s : Attributes) (items : List WrittenItem) (item : WrittenItem) (found found' : Found) (n : ℕ) → found'.faults.many ≡ option_or found.faults.many (over n) → n ≡ length (item_words item.values) → Finds s items found
+    → found'.faults.many ≡ large_in_event (items ++ item ∷ [])
 many_is s items item found found' n m e f =
-    m ∙ ap (λ x. option_or x (over n)) f.many ∙ ap (λ (k : ℕ). option_or (large_set items) (over k)) e ∙ sym (many-push items item)
+    m ∙ ap (λ x. option_or x (over n)) f.many ∙ ap (λ (k : ℕ). option_or (large_in_event items) (over k)) e ∙ sym (many-push items item)
 
 -- an item whose attribute the schema doesn't have
 pub finds_unknown : (s : Attributes) (items : List WrittenItem) (name : Text) (values : WrittenValues) (given : Given) (found found' : Found) → None ≡ attribute_named s name → IsGiven s None given values
@@ -218,7 +218,7 @@ finds_unknown s items name values given found found' none g some m u o t v f =
     record {
       some = some ∙ sym (some_last items item);
       unknown = u ∙ ap (λ x. option_or x (Some name)) f.unknown ∙ sym (unknown-push s items item true (rw named refl));
-      outside = o ∙ f.outside ∙ sym (outside-push s items item false (rw named refl) ∙ or_none (outside_domain s items));
+      outside = o ∙ f.outside ∙ sym (outside-push s items item false (rw named refl) ∙ or_none (outside_in_event s items));
       twice = t ∙ f.twice ∙ ap stands_twice (sym same);
       many = many_is s items item found found' given.met.count m g.count f;
       holds = rw (v, same) f.holds;
@@ -234,12 +234,12 @@ pub finds_outside : (s : Attributes) (items : List WrittenItem) (name : Text) (v
 finds_outside s items name values a given found found' there g out some m u o t v f =
     let item = item_of name values in
     let named = sym there in
-    let outside : has_outside s a (words_of values) ≡ true = sym g.outside ∙ out in
+    let outside : has_outside s a (item_words values) ≡ true = sym g.outside ∙ out in
     let same = assignments-none s items item (rw (named, outside) refl) in
     record {
       some = some ∙ sym (some_last items item);
-      unknown = u ∙ f.unknown ∙ sym (unknown-push s items item false (rw named refl) ∙ or_none (unknown_attr s items));
-      outside = o ∙ ap (λ x. option_or x (Some a)) f.outside ∙ ap (λ x. option_or (outside_domain s items) x) (sym named)
+      unknown = u ∙ f.unknown ∙ sym (unknown-push s items item false (rw named refl) ∙ or_none (unknown_in_event s items));
+      outside = o ∙ ap (λ x. option_or x (Some a)) f.outside ∙ ap (λ x. option_or (outside_in_event s items) x) (sym named)
           ∙ sym (outside-push s items item true (rw (named, outside) refl));
       twice = t ∙ f.twice ∙ ap stands_twice (sym same);
       many = many_is s items item found found' given.met.count m g.count f;
@@ -256,14 +256,14 @@ pub finds_again : (s : Attributes) (items : List WrittenItem) (name : Text) (val
 finds_again s items name values a given old found found' there few g inside had some m u o t v f =
     let item = item_of name values in
     let named = sym there in
-    let none : has_outside s a (words_of values) ≡ false = sym g.outside ∙ inside in
-    let vs = meant_values s a (words_of values) in
+    let none : has_outside s a (item_words values) ≡ false = sym g.outside ∙ inside in
+    let vs = meant_values s a (item_words values) in
     let more = assignments-some s items item (a, vs) (rw (named, none) refl) in
     let before : is_some (values_of (assignments s items) a) ≡ true = sym (f.holds.1 a.0 few).0 ∙ ap is_some had in
     record {
       some = some ∙ sym (some_last items item);
-      unknown = u ∙ f.unknown ∙ sym (unknown-push s items item false (rw named refl) ∙ or_none (unknown_attr s items));
-      outside = o ∙ f.outside ∙ sym (outside-push s items item false (rw (named, none) refl) ∙ or_none (outside_domain s items));
+      unknown = u ∙ f.unknown ∙ sym (unknown-push s items item false (rw named refl) ∙ or_none (unknown_in_event s items));
+      outside = o ∙ f.outside ∙ sym (outside-push s items item false (rw (named, none) refl) ∙ or_none (outside_in_event s items));
       twice = t ∙ ap (λ x. option_or x (Some a)) f.twice ∙ sym (again-push [] (assignments s items) (a, vs) ∙ rw before refl) ∙ ap stands_twice (sym more);
       many = many_is s items item found found' given.met.count m g.count f;
       holds = (
@@ -287,7 +287,7 @@ pub finds_new : (s : Attributes) (items : List WrittenItem) (name : Text) (value
 finds_new s items name values a given found found' there few g inside had some m u o t v f =
     let item = item_of name values in
     let named = sym there in
-    let words = words_of values in
+    let words = item_words values in
     let none : has_outside s a words ≡ false = sym g.outside ∙ inside in
     let vs = meant_values s a words in
     let more = assignments-some s items item (a, vs) (rw (named, none) refl) in
@@ -295,8 +295,8 @@ finds_new s items name values a given found found' there few g inside had some m
     let source = g.source a refl inside in
     record {
       some = some ∙ sym (some_last items item);
-      unknown = u ∙ f.unknown ∙ sym (unknown-push s items item false (rw named refl) ∙ or_none (unknown_attr s items));
-      outside = o ∙ f.outside ∙ sym (outside-push s items item false (rw (named, none) refl) ∙ or_none (outside_domain s items));
+      unknown = u ∙ f.unknown ∙ sym (unknown-push s items item false (rw named refl) ∙ or_none (unknown_in_event s items));
+      outside = o ∙ f.outside ∙ sym (outside-push s items item false (rw (named, none) refl) ∙ or_none (outside_in_event s items));
       twice = t ∙ f.twice ∙ sym (again-push [] (assignments s items) (a, vs) ∙ rw before (or_none (again_after [] (assignments s items)))) ∙ ap stands_twice (sym more);
       many = many_is s items item found found' given.met.count m g.count f;
       holds = (

@@ -13,8 +13,8 @@ use Rattle.be_model.specs.Schemas.{Attributes, numbered, attribute_named, attrib
 use Rattle.be_model.specs.SetTexts.{has_outside, meant_values}
 use Rattle.be_model.specs.Lies.{item_lies, event_lies}
 use Rattle.be_model.proofs.SetsLie.{meant_lies, attribute_is_there}
-use Rattle.be_event.specs.Grammar.{WrittenItem, words_of, items_of, written}
-use Rattle.be_event.specs.Events.{unknown_attr, outside_domain, stands_twice, large_set, assigned, assignment, assignments, by_place, by_attribute, fault_in, judged, meaning, event, event_of, empty_event, Reads}
+use Rattle.be_event.specs.Grammar.{WrittenItem, item_words, items_of, items_written}
+use Rattle.be_event.specs.Events.{unknown_in_event, outside_in_event, stands_twice, large_in_event, assigned, assignment, assignments, sets_by_place, by_attribute, first_event_fault, event_or_fault, event_meant, event, event_of, empty_event, Reads}
 use Rattle.be_event.specs.Scan.{items_in, meant, Holds, AreFine, is_some_item, Scanned, Judges}
 use Rattle.be_event.specs.declared.events.EventFault.{EventFault}
 use Rattle.be_event.specs.declared.events.EventFault.TheVariants.{Bad, Attr, Dom, Twice, Many, NoMemory}
@@ -25,7 +25,7 @@ use Rattle.be_event.proofs.Built.{by_place-same, by_place-lies}
 one_word_has_no_item : (w : Text) → items_of (word w ∷ []) ≡ None
 one_word_has_no_item w = refl
 
-some_written : (ts : List Lexeme) (items : List WrittenItem) → items_of ts ≡ Some items → is_some_item items ≡ true → written ts ≡ Some items
+some_written : (ts : List Lexeme) (items : List WrittenItem) → items_of ts ≡ Some items → is_some_item items ≡ true → items_written ts ≡ Some items
 some_written [] items h some = let none : [] ≡ items = cc in absurd (cc (ap is_some_item none ∙ some))
 some_written (word w ∷ []) items h some = absurd (cc (sym (one_word_has_no_item w) ∙ h))
 some_written (t ∷ []) items h some = h
@@ -33,15 +33,15 @@ some_written (word w ∷ u ∷ ts) items h some = h
 some_written (t ∷ u ∷ ts) items h some = h
 
 -- where a text has an item, it is written so
-written_in : (o : Option (List Lexeme)) (items : List WrittenItem) → items_in o ≡ Some items → is_some_item items ≡ true → option_and_then written o ≡ Some items
+written_in : (o : Option (List Lexeme)) (items : List WrittenItem) → items_in o ≡ Some items → is_some_item items ≡ true → option_and_then items_written o ≡ Some items
 written_in None items h some = absurd (cc)
 written_in (Some ts) items h some = some_written ts items h some
 
-nothing_at : (n : ℕ) → by_place n (λ place. None) ≡ []
+nothing_at : (n : ℕ) → sets_by_place n (λ place. None) ≡ []
 nothing_at zero = refl
 nothing_at (suc n) = nothing_at n
 
-dash : (s : Attributes) (b : Bool) → Reads (if b then Ok [] else Err Bad) (meaning s (if b then Some [] else None))
+dash : (s : Attributes) (b : Bool) → Reads (if b then Ok [] else Err Bad) (event_meant s (if b then Some [] else None))
 dash s true = ap (λ (e : Assignments). Ok e) (nothing_at (length s))
 dash s false = refl
 
@@ -50,9 +50,9 @@ pub reads_empty : (s : Attributes) (o : Option (List Lexeme)) → items_in o ≡
 reads_empty s None h = refl
 reads_empty s (Some []) h = absurd (cc)
 reads_empty s (Some (word w ∷ [])) h = dash s (same_text w (codes "-"))
-reads_empty s (Some (t ∷ [])) h = ap (meaning s) h
-reads_empty s (Some (word w ∷ u ∷ ts)) h = ap (meaning s) h
-reads_empty s (Some (t ∷ u ∷ ts)) h = ap (meaning s) h
+reads_empty s (Some (t ∷ [])) h = ap (event_meant s) h
+reads_empty s (Some (word w ∷ u ∷ ts)) h = ap (event_meant s) h
+reads_empty s (Some (t ∷ u ∷ ts)) h = ap (event_meant s) h
 
 -- a scan that says that there is a reading
 pub scanned_so : (s : Attributes) (text : Text) (found : Found) (b : Bool) → MatchBool b (Scanned s text (Some found)) (Scanned s text None) → b ≡ true → Scanned s text (Some found)
@@ -84,32 +84,32 @@ assigned_lies s a words false i there e h =
     ap (item_lies s) (sym is) ∙ meant_lies s a there.0 words there.1 e
 
 assignment_lies : (s : Attributes) (item : WrittenItem) (o : Option AttrNo) (i : AttrNo × List ℤ) → attribute_named s item.attr ≡ o
-    → option_and_then (λ a. assigned s a (words_of item.values)) o ≡ Some i → item_lies s i ≡ true
+    → option_and_then (λ a. assigned s a (item_words item.values)) o ≡ Some i → item_lies s i ≡ true
 assignment_lies s item None i e h = absurd (cc)
 assignment_lies s item (Some a) i e h =
-    assigned_lies s a (words_of item.values) (has_outside s a (words_of item.values)) i (attribute_is_there s item.attr a e) refl h
+    assigned_lies s a (item_words item.values) (has_outside s a (item_words item.values)) i (attribute_is_there s item.attr a e) refl h
 
 values_lie : (s : Attributes) (items : List WrittenItem) (a : AttrNo) (vs : List ℤ) → values_of (assignments s items) a ≡ Some vs → item_lies s (a, vs) ≡ true
 values_lie s [] a vs h = absurd (cc)
 values_lie s (item ∷ items) a vs h =
     lies_step s (assignment s item) (assignments s items) a vs (λ i e. assignment_lies s item (attribute_named s item.attr) i refl e) (values_lie s items a vs) h
 
-event_is : (s : Attributes) (text : Text) (found : Found) (k : Scanned s text (Some found)) → found.faults.some ≡ true → event s text ≡ meaning s (Some k.0)
-event_is s text found k some = ap (meaning s) (written_in (tokens text) k.0 k.1 (sym k.2.some ∙ some))
+event_is : (s : Attributes) (text : Text) (found : Found) (k : Scanned s text (Some found)) → found.faults.some ≡ true → event s text ≡ event_meant s (Some k.0)
+event_is s text found k some = ap (event_meant s) (written_in (tokens text) k.0 k.1 (sym k.2.some ∙ some))
 
 pub read_fault : (s : Attributes) (text : Text) (found : Found) (fault : EventFault) → Scanned s text (Some found) → found.faults.some ≡ true → Judges s found.faults (Err fault) → event s text ≡ Err fault
 read_fault s text found fault k some j =
-    event_is s text found k some ∙ ap (judged (by_attribute (length s) (assignments s k.0))) (j k.0 found.sources k.2)
+    event_is s text found k some ∙ ap (event_or_fault (by_attribute (length s) (assignments s k.0))) (j k.0 found.sources k.2)
 
 built : (s : Attributes) (items : List WrittenItem) (sources : List (Option Source)) → length s ≤ 256 → Holds s sources (assignments s items)
-    → by_place (length s) (λ place. meant s (numbered place) (get_or sources place None)) ≡ by_attribute (length s) (assignments s items)
+    → sets_by_place (length s) (λ place. meant s (numbered place) (get_or sources place None)) ≡ by_attribute (length s) (assignments s items)
 built s items sources few h = by_place-same (length s) _ _ (λ place k. (h.1 place (omega arith)).1)
 
 pub read_ok : (s : Attributes) (text : Text) (found : Found) (e : Assignments) → length s ≤ 256 → Scanned s text (Some found) → found.faults.some ≡ true → Judges s found.faults (Ok tt)
-    → e ≡ by_place (length s) (λ place. meant s (numbered place) (get_or found.sources place None)) → (event s text ≡ Ok e) × (event_lies s e ≡ true)
+    → e ≡ sets_by_place (length s) (λ place. meant s (numbered place) (get_or found.sources place None)) → (event s text ≡ Ok e) × (event_lies s e ≡ true)
 read_ok s text found e few k some j is =
     let same = is ∙ built s k.0 found.sources few k.2.holds in (
-      event_is s text found k some ∙ ap (judged (by_attribute (length s) (assignments s k.0))) (j k.0 found.sources k.2).0 ∙ ap (λ x. Ok x) (sym same),
+      event_is s text found k some ∙ ap (event_or_fault (by_attribute (length s) (assignments s k.0))) (j k.0 found.sources k.2).0 ∙ ap (λ x. Ok x) (sym same),
       ap (event_lies s) same ∙ by_place-lies s (length s) (λ place. values_of (assignments s k.0) (numbered place)) (λ place vs. values_lie s k.0 (numbered place) vs),
     )
 
@@ -119,7 +119,7 @@ sources_fine s text found k j = k.2.fine (j k.0 found.sources k.2).1
 pub read_short : (s : Attributes) (text : Text) (found : Found) → length s ≤ 256 → Scanned s text (Some found) → found.faults.some ≡ true → Judges s found.faults (Ok tt)
     → Reads (Err NoMemory) (event s text)
 read_short s text found few k some j =
-    (by_place (length s) (λ place. meant s (numbered place) (get_or found.sources place None)), (read_ok s text found _ few k some j refl).0)
+    (sets_by_place (length s) (λ place. meant s (numbered place) (get_or found.sources place None)), (read_ok s text found _ few k some j refl).0)
 
 -- no fault of a text is want of memory
 mapped : {X : Type 0} (g : X → EventFault) (o : Option X) → ((x : X) → g x ≡ NoMemory → ⊥) → option_map g o ≡ Some NoMemory → ⊥
@@ -130,11 +130,11 @@ either : (a b : Option EventFault) → (a ≡ Some NoMemory → ⊥) → (b ≡ 
 either None b p q h = q h
 either (Some fault) b p q h = p h
 
-fault_is_of_text : (s : Attributes) (items : List WrittenItem) → fault_in s items ≡ Some NoMemory → ⊥
+fault_is_of_text : (s : Attributes) (items : List WrittenItem) → first_event_fault s items ≡ Some NoMemory → ⊥
 fault_is_of_text s items =
-    either _ _ (mapped (λ n. Attr n) (unknown_attr s items) (λ n h. cc))
-    (either _ _ (mapped (λ a. Dom a) (outside_domain s items) (λ a h. cc))
-    (either _ _ (mapped (λ a. Twice a) (stands_twice (assignments s items)) (λ a h. cc)) (mapped (λ n. Many n) (large_set items) (λ n h. cc))))
+    either _ _ (mapped (λ n. Attr n) (unknown_in_event s items) (λ n h. cc))
+    (either _ _ (mapped (λ a. Dom a) (outside_in_event s items) (λ a h. cc))
+    (either _ _ (mapped (λ a. Twice a) (stands_twice (assignments s items)) (λ a h. cc)) (mapped (λ n. Many n) (large_in_event items) (λ n h. cc))))
 
 told : (fault : EventFault) (read : Result Assignments EventFault) → read ≡ Err fault → (fault ≡ NoMemory → ⊥) → Reads (Err fault) read
 told Bad read h other = h

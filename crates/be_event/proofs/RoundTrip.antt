@@ -21,8 +21,8 @@ use Rattle.be_model.specs.SetTexts.{has_outside, meant_values}
 use Rattle.be_model.specs.Texts.{value_text_at, name_at, NamesAreNames}
 use Rattle.be_model.proofs.InSchema.{range_below}
 use Rattle.be_model.proofs.TextsBack.{inside_back, meant_back, are_back, name_back, is_attr-name, are_spelled}
-use Rattle.be_event.specs.Grammar.{WrittenValues, single, set, WrittenItem, item_of, words_of, given_tokens, item_tokens, event_tokens, are_written, written}
-use Rattle.be_event.specs.Events.{has_many_values, large_set, unknown_attr, outside_domain, assignment, assignments, again_after, by_attribute, fault_in, judged, meaning, event}
+use Rattle.be_event.specs.Grammar.{WrittenValues, single, set, WrittenItem, item_of, item_words, given_tokens, item_tokens, event_tokens, are_written, items_written}
+use Rattle.be_event.specs.Events.{is_large_item, large_in_event, unknown_in_event, outside_in_event, assignment, assignments, again_after, by_attribute, first_event_fault, event_or_fault, event_meant, event}
 use Rattle.be_event.specs.Writing.{given_text, item_text, event_text, IsSpelled, TextsAreRead}
 use Rattle.be_event.proofs.Grammar.{written-event_tokens}
 
@@ -34,7 +34,7 @@ given_as value vs = set (map value vs)
 abbrev written_as : Attributes → AttrNo × List ℤ → WrittenItem
 written_as s item = item_of (name_at s item.0) (given_as (value_text_at s item.0) item.1)
 
-given_words : (value : ℤ → Text) (vs : List ℤ) → words_of (given_as value vs) ≡ map value vs
+given_words : (value : ℤ → Text) (vs : List ℤ) → item_words (given_as value vs) ≡ map value vs
 given_words value [] = refl
 given_words value (v ∷ []) = refl
 given_words value (v ∷ w ∷ vs) = refl
@@ -91,8 +91,8 @@ record IsSettled (s : Attributes) (item : AttrNo × List ℤ) : Type 0 where
   form : AreValues item.1
   name : is_attr (name_at s item.0) ≡ true
   found : attribute_named s (name_at s item.0) ≡ Some item.0
-  inside : has_outside s item.0 (words_of (given_as (value_text_at s item.0) item.1)) ≡ false
-  meant : meant_values s item.0 (words_of (given_as (value_text_at s item.0) item.1)) ≡ item.1
+  inside : has_outside s item.0 (item_words (given_as (value_text_at s item.0) item.1)) ≡ false
+  meant : meant_values s item.0 (item_words (given_as (value_text_at s item.0) item.1)) ≡ item.1
 
 settled : (s : Attributes) (item : AttrNo × List ℤ) → IsSchema s → AreValues item.1 → item_lies s item ≡ true → IsName (name_at s item.0) → IsSettled s item
 settled s item f form lies named =
@@ -123,11 +123,11 @@ assignments_back s [] ps = refl
 assignments_back s (item ∷ items) ps =
     rw (assigned_back s item (All-head (IsSettled s) item items ps)) (ap (λ (x : Assignments). item ∷ x) (assignments_back s items (All-tail (IsSettled s) item items ps)))
 
-all_known : (s : Attributes) (e : Assignments) → All (IsSettled s) e → unknown_attr s (map (written_as s) e) ≡ None
+all_known : (s : Attributes) (e : Assignments) → All (IsSettled s) e → unknown_in_event s (map (written_as s) e) ≡ None
 all_known s [] ps = refl
 all_known s (item ∷ items) ps = rw (All-head (IsSettled s) item items ps).found (all_known s items (All-tail (IsSettled s) item items ps))
 
-none_outside : (s : Attributes) (e : Assignments) → All (IsSettled s) e → outside_domain s (map (written_as s) e) ≡ None
+none_outside : (s : Attributes) (e : Assignments) → All (IsSettled s) e → outside_in_event s (map (written_as s) e) ≡ None
 none_outside s [] ps = refl
 none_outside s (item ∷ items) ps =
     let p = All-head (IsSettled s) item items ps in rw (p.found, p.inside) (none_outside s items (All-tail (IsSettled s) item items ps))
@@ -135,13 +135,13 @@ none_outside s (item ∷ items) ps =
 at_most : (n : ℕ) → n ≤ 64 → nat_lt 64 n ≡ false
 at_most n h = grind (arith, nat_tests)
 
-few_words : (s : Attributes) (item : AttrNo × List ℤ) → AreValues item.1 → has_many_values (written_as s item) ≡ false
+few_words : (s : Attributes) (item : AttrNo × List ℤ) → AreValues item.1 → is_large_item (written_as s item) ≡ false
 few_words s item form =
     let value = value_text_at s item.0 in
-    at_most (length (words_of (given_as value item.1)))
+    at_most (length (item_words (given_as value item.1)))
     (subst (λ (n : ℕ). n ≤ 64) (sym (ap length (given_words value item.1) ∙ length-map item.1 value)) form.few)
 
-none_large : (s : Attributes) (e : Assignments) → AreSets e → large_set (map (written_as s) e) ≡ None
+none_large : (s : Attributes) (e : Assignments) → AreSets e → large_in_event (map (written_as s) e) ≡ None
 none_large s [] sets = refl
 none_large s (item ∷ items) sets = rw (few_words s item (sets_head item items sets)) (none_large s items (sets_tail item items sets))
 
@@ -249,7 +249,7 @@ all_written s (i ∷ is) ps =
     let p = All-head (IsSettled s) i is ps in
     and_from _ _ (and_from _ _ p.name (filled (value_text_at s i.0) i.1 p.form)) (all_written s is (All-tail (IsSettled s) i is ps))
   where
-    filled : (value : ℤ → Text) (vs : List ℤ) → AreValues vs → is_filled (words_of (given_as value vs)) ≡ true
+    filled : (value : ℤ → Text) (vs : List ℤ) → AreValues vs → is_filled (item_words (given_as value vs)) ≡ true
     filled value [] form = absurd (omega (arith, form.some))
     filled value (v ∷ []) form = refl
     filled value (v ∷ w ∷ vs) form = refl
@@ -260,12 +260,12 @@ spelled_is_read s e f form lies ps =
     let items = map (written_as s) e in
     let k = all_settled s e f form.sets lies ps in
     let back = assignments_back s e k in
-    let fault : fault_in s items ≡ None = rw (all_known s e k, none_outside s e k, back, never_again [] e form.rising, none_large s e form.sets) refl in
+    let fault : first_event_fault s items ≡ None = rw (all_known s e k, none_outside s e k, back, never_again [] e form.rising, none_large s e form.sets) refl in
     let same : by_attribute (length s) (assignments s items) ≡ e =
     ap (by_attribute (length s)) back ∙ by_attribute-front (length s) e form.rising ∙ front_all (length s) e (all_inside s e lies) in
-    ap (λ o. meaning s (option_and_then written o)) (event_lexed s e form.sets ps)
-    ∙ ap (meaning s) (written-event_tokens items (all_written s e k))
-    ∙ ap (judged (by_attribute (length s) (assignments s items))) fault
+    ap (λ o. event_meant s (option_and_then items_written o)) (event_lexed s e form.sets ps)
+    ∙ ap (event_meant s) (written-event_tokens items (all_written s e k))
+    ∙ ap (event_or_fault (by_attribute (length s) (assignments s items))) fault
     ∙ ap (λ x. Ok x) same
 
 all_spelled : (s : Attributes) (e : Assignments) → IsSchema s → NamesAreNames s → event_lies s e ≡ true → All (IsSpelled s) e

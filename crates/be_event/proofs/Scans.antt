@@ -5,7 +5,7 @@ use Rattle.be_base.specs.Tokens.{Lexeme, word, equal, tokens, put_token}
 use Rattle.be_base.specs.Readers.{Read}
 use Rattle.be_base.specs.declared.names.AttrNo.{AttrNo}
 use Rattle.be_model.specs.Schemas.{Attributes}
-use Rattle.be_event.specs.Grammar.{WrittenValues, WrittenItem, item_of, is_attr, read_given, with_attr, read_item, read_items, items_of}
+use Rattle.be_event.specs.Grammar.{WrittenValues, WrittenItem, item_of, is_attr, read_given, with_item_attr, read_item, read_items, items_of}
 use Rattle.be_event.specs.Scan.{items_in, IsGiven, GivenBefore, Finds}
 use Rattle.be_event.specs.declared.found.Found.{Found}
 use Rattle.be_event.specs.declared.items.Given.{Given}
@@ -44,7 +44,7 @@ pub items_by_first : (t : Lexeme) (ts : List Lexeme)
 items_by_first t ts = by_count (length (t ∷ ts)) t ts refl
 
 given_then : (name : Text) (o : Read WrittenValues)
-    → option_and_then (λ (r : WrittenItem × List Lexeme). option_map (λ items. r.0 ∷ items) (items_of r.1)) (option_map (with_attr name) o)
+    → option_and_then (λ (r : WrittenItem × List Lexeme). option_map (λ items. r.0 ∷ items) (items_of r.1)) (option_map (with_item_attr name) o)
     ≡ option_and_then (λ (r : WrittenValues × List Lexeme). option_map (λ items. item_of name r.0 ∷ items) (items_of r.1)) o
 given_then name None = refl
 given_then name (Some r) = refl
@@ -54,7 +54,7 @@ items_by_given : (name : Text) (ts : List Lexeme) → is_attr name ≡ true
     → items_of (word name ∷ equal ∷ ts) ≡ option_and_then (λ (r : WrittenValues × List Lexeme). option_map (λ items. item_of name r.0 ∷ items) (items_of r.1)) (read_given ts)
 items_by_given name ts h =
     items_by_first (word name) (equal ∷ ts)
-    ∙ ap (λ (b : Bool). option_and_then (λ (r : WrittenItem × List Lexeme). option_map (λ items. r.0 ∷ items) (items_of r.1)) (if b then option_map (with_attr name) (read_given ts) else None)) h
+    ∙ ap (λ (b : Bool). option_and_then (λ (r : WrittenItem × List Lexeme). option_map (λ items. r.0 ∷ items) (items_of r.1)) (if b then option_map (with_item_attr name) (read_given ts) else None)) h
     ∙ given_then name (read_given ts)
 
 -- some items of the text stand before these tokens, and this was found among them; or it has no items

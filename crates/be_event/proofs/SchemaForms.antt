@@ -14,7 +14,7 @@ use Rattle.be_model.proofs.Attributes.{IsSchema-push}
 use Rattle.std.proofs.lemmas.Bool.{and_from}
 use Rattle.be_event.specs.Grammar.{is_name}
 use Rattle.be_io.specs.FileLines.{file_lines}
-use Rattle.be_event.specs.SchemaTexts.{words, is_remark, means_nothing, int_domain, sym_domain, domain_of, declared, repeats, is_out_of_range, has_many, first_kind, kind_of, judged, judge, declaration, schema_from, schema_of}
+use Rattle.be_event.specs.SchemaTexts.{words, is_remark, declares_nothing, int_domain, sym_domain, domain_of, declared, repeats, is_out_of_range, has_many, first_kind, kind_of, attribute_or_fault, judge, declaration, schema_from, schema_of}
 use Rattle.be_event.specs.Declarations.{names_declared, declared_on, flaws_of, flawed, JudgesWords}
 use Rattle.be_event.specs.declared.schema_texts.Declared.{Declared}
 use Rattle.be_event.specs.declared.schema_texts.Flaws.{Flaws}
@@ -59,12 +59,12 @@ line_is ws ws' rest kind text name a b r n = record { is = rw (a, b) refl; shown
 declared_as : (ws rest : List Text) (kind name : Text) (d : Domain) → LineIs ws kind name rest → domain_of kind rest ≡ Some d → declared ws ≡ Some (attribute_of name d)
 declared_as ws rest kind name d l h = rw (l.is, l.named, h) refl
 
-means_something : (ws rest : List Text) (kind name : Text) → LineIs ws kind name rest → means_nothing ws ≡ false
+means_something : (ws rest : List Text) (kind name : Text) → LineIs ws kind name rest → declares_nothing ws ≡ false
 means_something ws rest kind name l = rw l.is l.shown
 
 -- a line whose words say no domain
 pub says_no_domain : (names ws ws' rest : List Text) (kind text name : Text) → ws ≡ kind ∷ ws' → ws' ≡ text ∷ rest → is_remark kind ≡ false → Ok name ≡ name_of text
-    → None ≡ option_map flaws_of (domain_of kind rest) → (means_nothing ws ≡ false) × (declaration names ws ≡ Err Form)
+    → None ≡ option_map flaws_of (domain_of kind rest) → (declares_nothing ws ≡ false) × (declaration names ws ≡ Err Form)
 says_no_domain names ws ws' rest kind text name a b r n h =
     let l = line_is ws ws' rest kind text name a b r n in
     (means_something ws rest kind text l, ap (λ (x : List Text). declaration names x) l.is ∙ rw (l.named, no_domain (domain_of kind rest) h) refl)
@@ -74,35 +74,35 @@ flawed_is names text name d f o e g h = sym (h ∙ ap (λ (x : Text). flawed nam
 
 judged_is : (names ws ws' rest : List Text) (kind text name : Text) (f : Flaws) (o : Option SchemaKind) → ws ≡ kind ∷ ws' → ws' ≡ text ∷ rest → is_remark kind ≡ false → Ok name ≡ name_of text
     → Some f ≡ option_map flaws_of (domain_of kind rest) → o ≡ flawed names name f
-    → (means_nothing ws ≡ false) × (a : Attribute) × (declaration names ws ≡ judged a o) × (a.name ≡ name)
+    → (declares_nothing ws ≡ false) × (a : Attribute) × (declaration names ws ≡ attribute_or_fault a o) × (a.name ≡ name)
 judged_is names ws ws' rest kind text name f o a b r n h k =
     let l = line_is ws ws' rest kind text name a b r n in
     let d = flawed_domain (domain_of kind rest) f h in
     let same = (IsName-from_name_of text name (sym n)).0 in (
       means_something ws rest kind text l,
       attribute_of text d.0,
-      ap (judge names) (declared_as ws rest kind text d.0 l d.1) ∙ ap (judged (attribute_of text d.0)) (flawed_is names text name d.0 f o same d.2 k),
+      ap (judge names) (declared_as ws rest kind text d.0 l d.1) ∙ ap (attribute_or_fault (attribute_of text d.0)) (flawed_is names text name d.0 f o same d.2 k),
       sym same,
     )
 
 -- a line that declares an attribute with a fault
 pub says_fault : (names ws ws' rest : List Text) (kind text name : Text) (f : Flaws) (fault : SchemaKind) → ws ≡ kind ∷ ws' → ws' ≡ text ∷ rest → is_remark kind ≡ false → Ok name ≡ name_of text
-    → Some f ≡ option_map flaws_of (domain_of kind rest) → Some fault ≡ flawed names name f → (means_nothing ws ≡ false) × (declaration names ws ≡ Err fault)
+    → Some f ≡ option_map flaws_of (domain_of kind rest) → Some fault ≡ flawed names name f → (declares_nothing ws ≡ false) × (declaration names ws ≡ Err fault)
 says_fault names ws ws' rest kind text name f fault a b r n h k =
     let j = judged_is names ws ws' rest kind text name f (Some fault) a b r n h k in (j.0, j.2)
 
 -- a line that declares an attribute without any
 pub says_attribute : (names ws ws' rest : List Text) (kind text name : Text) (f : Flaws) → ws ≡ kind ∷ ws' → ws' ≡ text ∷ rest → is_remark kind ≡ false → Ok name ≡ name_of text
     → Some f ≡ option_map flaws_of (domain_of kind rest) → None ≡ flawed names name f
-    → (means_nothing ws ≡ false) × (a : Attribute) × (declaration names ws ≡ Ok a) × (a.name ≡ name)
+    → (declares_nothing ws ≡ false) × (a : Attribute) × (declaration names ws ≡ Ok a) × (a.name ≡ name)
 says_attribute names ws ws' rest kind text name f a b r n h k =
     judged_is names ws ws' rest kind text name f None a b r n h k
 
-pub schema_from-fault : (n : ℕ) (s : Attributes) (line : Text) (lines : List Text) (kind : SchemaKind) → means_nothing (words line) ≡ false → declaration (names_of_attributes s) (words line) ≡ Err kind
+pub schema_from-fault : (n : ℕ) (s : Attributes) (line : Text) (lines : List Text) (kind : SchemaKind) → declares_nothing (words line) ≡ false → declaration (names_of_attributes s) (words line) ≡ Err kind
     → schema_from n s (line ∷ lines) ≡ Err (Line n kind)
 schema_from-fault n s line lines kind h k = rw (h, k) refl
 
-pub schema_from-declares : (n : ℕ) (s : Attributes) (line : Text) (lines : List Text) (a : Attribute) → means_nothing (words line) ≡ false → declaration (names_of_attributes s) (words line) ≡ Ok a
+pub schema_from-declares : (n : ℕ) (s : Attributes) (line : Text) (lines : List Text) (a : Attribute) → declares_nothing (words line) ≡ false → declaration (names_of_attributes s) (words line) ≡ Ok a
     → schema_from n s (line ∷ lines) ≡ schema_from (n + 1) (s ++ a ∷ []) lines
 schema_from-declares n s line lines a h k = rw (h, k) refl
 
@@ -195,7 +195,7 @@ declared_said [] a h = absurd (cc)
 declared_said (kind ∷ []) a h = absurd (cc)
 declared_said (kind ∷ name ∷ ws) a h = line_said (is_name (name_of name)) kind name ws a h
 
-judge_by : (o : Option SchemaKind) (a x : Attribute) → judged a o ≡ Ok x → (o ≡ None) × (a ≡ x)
+judge_by : (o : Option SchemaKind) (a x : Attribute) → attribute_or_fault a o ≡ Ok x → (o ≡ None) × (a ≡ x)
 judge_by None a x h = (refl, cc)
 judge_by (Some kind) a x h = absurd (cc)
 
@@ -226,33 +226,33 @@ pub record Put (text rest : Text) (s : Attributes) : Type 0 where
 next_is : (text rest line after : Text) (s whole : Attributes) (p : Put text rest s) → file_lines rest ≡ line ∷ file_lines after → schema_of text ≡ Ok whole → schema_from p.number s (line ∷ file_lines after) ≡ Ok whole
 next_is text rest line after s whole p lines ok = ap (λ ls. schema_from p.number s ls) (sym lines) ∙ p.same ∙ ok
 
-unflawed : (n : ℕ) (s whole : Attributes) (line : Text) (lines : List Text) (a : Attribute) (o : Option SchemaKind) → means_nothing (words line) ≡ false → declared (words line) ≡ Some a
+unflawed : (n : ℕ) (s whole : Attributes) (line : Text) (lines : List Text) (a : Attribute) (o : Option SchemaKind) → declares_nothing (words line) ≡ false → declared (words line) ≡ Some a
     → kind_of (names_of_attributes s) a ≡ o → schema_from n s (line ∷ lines) ≡ Ok whole → o ≡ None
 unflawed n s whole line lines a None m d e h = refl
 unflawed n s whole line lines a (Some kind) m d e h =
-    let k = schema_from-fault n s line lines kind m (ap (judge (names_of_attributes s)) d ∙ ap (judged a) e) in absurd (cc)
+    let k = schema_from-fault n s line lines kind m (ap (judge (names_of_attributes s)) d ∙ ap (attribute_or_fault a) e) in absurd (cc)
 
 no_flaw : (text rest line after : Text) (s whole : Attributes) (a : Attribute) → file_lines rest ≡ line ∷ file_lines after → schema_of text ≡ Ok whole → Some a ≡ declared_on (words line) → Put text rest s
     → kind_of (names_of_attributes s) a ≡ None
 no_flaw text rest line after s whole a lines ok d p =
-    let k = on_by (means_nothing (words line)) (declared (words line)) a d in
+    let k = on_by (declares_nothing (words line)) (declared (words line)) a d in
     unflawed p.number s whole line (file_lines after) a (kind_of (names_of_attributes s) a) k.0 k.1 refl (next_is text rest line after s whole p lines ok)
 
 -- the attribute that the next line declares may be put
 pub next_may_be_put : (text rest line after : Text) (s whole : Attributes) (a : Attribute) → file_lines rest ≡ line ∷ file_lines after → schema_of text ≡ Ok whole → Some a ≡ declared_on (words line) → Put text rest s
     → IsSchema (s ++ a ∷ [])
 next_may_be_put text rest line after s whole a lines ok d p =
-    may_be_put s a p.form (declared_said (words line) a (on_by (means_nothing (words line)) (declared (words line)) a d).1) (no_flaw text rest line after s whole a lines ok d p)
+    may_be_put s a p.form (declared_said (words line) a (on_by (declares_nothing (words line)) (declared (words line)) a d).1) (no_flaw text rest line after s whole a lines ok d p)
 
 pub put_next : (text rest line after : Text) (s whole new : Attributes) (a : Attribute) → file_lines rest ≡ line ∷ file_lines after → schema_of text ≡ Ok whole → Some a ≡ declared_on (words line)
     → new ≡ s ++ a ∷ [] → Put text rest s → Put text after new
 put_next text rest line after s whole new a lines ok d put p =
-    let k = on_by (means_nothing (words line)) (declared (words line)) a d in
+    let k = on_by (declares_nothing (words line)) (declared (words line)) a d in
     let none = no_flaw text rest line after s whole a lines ok d p in
     record {
       number = p.number + 1;
       form = rw put (next_may_be_put text rest line after s whole a lines ok d p);
       same = ap (λ x. schema_from (p.number + 1) x (file_lines after)) put
-          ∙ sym (schema_from-declares p.number s line (file_lines after) a k.0 (ap (judge (names_of_attributes s)) k.1 ∙ ap (judged a) none))
+          ∙ sym (schema_from-declares p.number s line (file_lines after) a k.0 (ap (judge (names_of_attributes s)) k.1 ∙ ap (attribute_or_fault a) none))
           ∙ ap (λ ls. schema_from p.number s ls) (sym lines) ∙ p.same;
     }

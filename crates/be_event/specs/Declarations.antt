@@ -14,7 +14,7 @@ use Rattle.be_event.specs.declared.schema_texts.Declared.{Declared}
 use Rattle.be_event.specs.declared.schema_texts.Flaws.{Flaws}
 use Rattle.be_event.specs.declared.schema_texts.Judged.{Judged}
 use Rattle.be_event.specs.declared.schema_texts.Judged.TheVariants.{Nothing, Fault, Declares}
-use Rattle.be_event.specs.SchemaTexts.{means_nothing, declared, repeats, is_out_of_range, has_many, first_kind, declaration}
+use Rattle.be_event.specs.SchemaTexts.{declares_nothing, declared, repeats, is_out_of_range, has_many, first_kind, declaration}
 
 -- as it is printed
 abbrev pub kind_name : SchemaKind → Text
@@ -29,9 +29,9 @@ names_declared ds = map (λ (d : Declared). d.0) ds
 
 -- the attribute's first fault, or its name
 abbrev pub JudgesWords : List Text → List Text → Judged → Type 0
-JudgesWords names ws Nothing = means_nothing ws ≡ true
-JudgesWords names ws (Fault kind) = (means_nothing ws ≡ false) × (declaration names ws ≡ Err kind)
-JudgesWords names ws (Declares name) = (means_nothing ws ≡ false) × (a : Attribute) × (declaration names ws ≡ Ok a) × (a.name ≡ name)
+JudgesWords names ws Nothing = declares_nothing ws ≡ true
+JudgesWords names ws (Fault kind) = (declares_nothing ws ≡ false) × (declaration names ws ≡ Err kind)
+JudgesWords names ws (Declares name) = (declares_nothing ws ≡ false) × (a : Attribute) × (declaration names ws ≡ Ok a) × (a.name ≡ name)
 
 -- the text is a schema, or has this fault
 abbrev pub Checks : Result (Unit {0}) LineFault → Result Attributes SchemaFault → Type 0
@@ -40,7 +40,7 @@ Checks (Err fault) read = read ≡ Err (Line fault.line fault.kind)
 
 -- the attribute that a line declares, where it means something
 abbrev pub declared_on : List Text → Option Attribute
-declared_on ws = if means_nothing ws then None else declared ws
+declared_on ws = if declares_nothing ws then None else declared ws
 
 -- what is wrong with the domain
 abbrev pub flaws_of : Domain → Flaws

@@ -20,9 +20,9 @@ abbrev pub item_of : Text → WrittenValues → WrittenItem
 item_of attr values = record { attr = attr; values = values }
 
 -- the values as they are written, from left to right
-abbrev pub words_of : WrittenValues → List Text
-words_of (single v) = v ∷ []
-words_of (set vs) = vs
+abbrev pub item_words : WrittenValues → List Text
+item_words (single v) = v ∷ []
+item_words (set vs) = vs
 
 abbrev pub given_tokens : WrittenValues → List Lexeme
 given_tokens (single v) = word v ∷ []
@@ -40,7 +40,7 @@ event_tokens (item ∷ items) = item_tokens (item ∷ items)
 
 -- the attributes have the form of attributes, and a set has at least one value
 abbrev pub are_written : List WrittenItem → Bool
-are_written items = list_all (λ (item : WrittenItem). is_attr item.attr && is_filled (words_of item.values)) items
+are_written items = list_all (λ (item : WrittenItem). is_attr item.attr && is_filled (item_words item.values)) items
 
 -- a value or a set
 abbrev pub read_given : List Lexeme → Read WrittenValues
@@ -48,11 +48,11 @@ read_given (word v ∷ ts) = Some (single v, ts)
 read_given (open_brace ∷ ts) = option_map (λ r. (set r.0, r.1)) (read_values ts)
 read_given _ = None
 
-abbrev pub with_attr : Text → WrittenValues × List Lexeme → WrittenItem × List Lexeme
-with_attr attr r = (item_of attr r.0, r.1)
+abbrev pub with_item_attr : Text → WrittenValues × List Lexeme → WrittenItem × List Lexeme
+with_item_attr attr r = (item_of attr r.0, r.1)
 
 abbrev pub read_item : List Lexeme → Read WrittenItem
-read_item (word attr ∷ equal ∷ ts) = if is_attr attr then option_map (with_attr attr) (read_given ts) else None
+read_item (word attr ∷ equal ∷ ts) = if is_attr attr then option_map (with_item_attr attr) (read_given ts) else None
 read_item _ = None
 
 -- items up to the end; fuel is how many there may be
@@ -67,12 +67,12 @@ abbrev pub items_of : List Lexeme → Option (List WrittenItem)
 items_of ts = read_items (length ts) ts
 
 -- the items that the tokens write
-abbrev pub written : List Lexeme → Option (List WrittenItem)
-written [] = None
-written (word w ∷ []) = if same_text w (codes "-") then Some [] else None
-written ts = items_of ts
+abbrev pub items_written : List Lexeme → Option (List WrittenItem)
+items_written [] = None
+items_written (word w ∷ []) = if same_text w (codes "-") then Some [] else None
+items_written ts = items_of ts
 
 -- this reading is the grammar's, and so each event has one reading
 abbrev pub ReadsAreWritten : Type 0
 ReadsAreWritten =
-    (ts : List Lexeme) (items : List WrittenItem) → (written ts ≡ Some items ↔ (are_written items ≡ true) × (event_tokens items ≡ ts))
+    (ts : List Lexeme) (items : List WrittenItem) → (items_written ts ≡ Some items ↔ (are_written items ≡ true) × (event_tokens items ≡ ts))

@@ -8,8 +8,8 @@ use Rattle.be_base.specs.declared.names.AttrNo.{AttrNo}
 use Rattle.be_model.specs.Matching.{Assignments, values_of}
 use Rattle.be_model.specs.Schemas.{Attributes, numbered}
 use Rattle.be_model.specs.SetTexts.{some_outside, meant_values, FineValues}
-use Rattle.be_event.specs.Grammar.{WrittenValues, WrittenItem, words_of, is_attr, read_given, items_of}
-use Rattle.be_event.specs.Events.{unknown_attr, outside_domain, assignments, stands_twice, large_set, fault_in}
+use Rattle.be_event.specs.Grammar.{WrittenValues, WrittenItem, item_words, is_attr, read_given, items_of}
+use Rattle.be_event.specs.Events.{unknown_in_event, outside_in_event, assignments, stands_twice, large_in_event, first_event_fault}
 use Rattle.be_event.specs.declared.events.EventFault.{EventFault}
 use Rattle.be_event.specs.declared.found.Faults.{Faults}
 use Rattle.be_event.specs.declared.found.Found.{Found}
@@ -48,9 +48,9 @@ IsSource s a (Set text) words = (ts : List Lexeme) × (option_and_then read_valu
 
 -- what is told of values that are given to an attribute, if there is one
 pub record IsGiven (s : Attributes) (o : Option AttrNo) (given : Given) (values : WrittenValues) : Type 0 where
-  pub count : given.met.count ≡ length (words_of values)
-  pub outside : given.met.is_outside ≡ some_outside s o (words_of values)
-  pub source : (a : AttrNo) → o ≡ Some a → given.met.is_outside ≡ false → IsSource s a given.source (words_of values)
+  pub count : given.met.count ≡ length (item_words values)
+  pub outside : given.met.is_outside ≡ some_outside s o (item_words values)
+  pub source : (a : AttrNo) → o ≡ Some a → given.met.is_outside ≡ false → IsSource s a given.source (item_words values)
 
 -- a value or a set stands in front of these tokens, unless a byte that no token has follows
 abbrev pub GivenBefore : Attributes → Option AttrNo → Option (List Lexeme) → Given → Option (List Lexeme) → Type 0
@@ -76,10 +76,10 @@ is_some_item (item ∷ items) = true
 -- the first fault of each kind among the items, and the sets
 pub record Finds (s : Attributes) (items : List WrittenItem) (found : Found) : Type 0 where
   pub some : found.faults.some ≡ is_some_item items
-  pub unknown : found.faults.unknown ≡ unknown_attr s items
-  pub outside : found.faults.outside ≡ outside_domain s items
+  pub unknown : found.faults.unknown ≡ unknown_in_event s items
+  pub outside : found.faults.outside ≡ outside_in_event s items
   pub twice : found.faults.twice ≡ stands_twice (assignments s items)
-  pub many : found.faults.many ≡ large_set items
+  pub many : found.faults.many ≡ large_in_event items
   pub holds : Holds s found.sources (assignments s items)
   pub fine : found.faults.many ≡ None → AreFine s found.sources
 
@@ -91,6 +91,6 @@ Scanned s text None = items_in (tokens text) ≡ None
 -- the first fault among the items, in the order of the kinds
 abbrev pub Judges : Attributes → Faults → Result (Unit {0}) EventFault → Type 0
 Judges s faults (Ok _) =
-    (items : List WrittenItem) (sources : List (Option Source)) → Finds s items (record { faults = faults; sources = sources }) → (fault_in s items ≡ None) × (faults.many ≡ None)
+    (items : List WrittenItem) (sources : List (Option Source)) → Finds s items (record { faults = faults; sources = sources }) → (first_event_fault s items ≡ None) × (faults.many ≡ None)
 Judges s faults (Err fault) =
-    (items : List WrittenItem) (sources : List (Option Source)) → Finds s items (record { faults = faults; sources = sources }) → fault_in s items ≡ Some fault
+    (items : List WrittenItem) (sources : List (Option Source)) → Finds s items (record { faults = faults; sources = sources }) → first_event_fault s items ≡ Some fault

@@ -34,9 +34,9 @@ abbrev pub is_remark : Text → Bool
 is_remark word = starts_with (λ b. b == 35) word
 
 -- an empty or blank line, or one whose first byte after blanks is `#`
-abbrev pub means_nothing : List Text → Bool
-means_nothing [] = true
-means_nothing (word ∷ words) = is_remark word
+abbrev pub declares_nothing : List Text → Bool
+declares_nothing [] = true
+declares_nothing (word ∷ words) = is_remark word
 
 -- `LO HI`
 abbrev pub int_domain : List Text → Option Domain
@@ -87,29 +87,29 @@ kind_of names a =
     first_kind (is_among_texts a.name reserved_words) (is_among_texts a.name names || repeats a.domain) (is_out_of_range a.domain)
     (nat_le ATTRIBUTES (length names) || has_many a.domain)
 
-abbrev pub judged : Attribute → Option SchemaKind → Result Attribute SchemaKind
-judged a None = Ok a
-judged a (Some kind) = Err kind
+abbrev pub attribute_or_fault : Attribute → Option SchemaKind → Result Attribute SchemaKind
+attribute_or_fault a None = Ok a
+attribute_or_fault a (Some kind) = Err kind
 
 abbrev pub judge : List Text → Option Attribute → Result Attribute SchemaKind
 judge names None = Err Form
-judge names (Some a) = judged a (kind_of names a)
+judge names (Some a) = attribute_or_fault a (kind_of names a)
 
 -- the attribute that the words of a line declare after these names, or the line's first kind of fault
 abbrev pub declaration : List Text → List Text → Result Attribute SchemaKind
 declaration names words = judge names (declared words)
 
 -- what follows a line's attribute, or the fault of the line
-abbrev pub after_line : ℕ → Result Attribute SchemaKind → (Attribute → Result Attributes SchemaFault) → Result Attributes SchemaFault
-after_line n (Err kind) rest = Err (Line n kind)
-after_line n (Ok a) rest = rest a
+abbrev pub after_declaration : ℕ → Result Attribute SchemaKind → (Attribute → Result Attributes SchemaFault) → Result Attributes SchemaFault
+after_declaration n (Err kind) rest = Err (Line n kind)
+after_declaration n (Ok a) rest = rest a
 
 -- the schema that these lines declare after these attributes, or the first faulty line, where the first line has this number
 abbrev pub schema_from : ℕ → Attributes → List Text → Result Attributes SchemaFault
 schema_from n s [] = Ok s
 schema_from n s (line ∷ lines) =
-    if means_nothing (words line) then schema_from (n + 1) s lines else
-    after_line n (declaration (names_of_attributes s) (words line)) (λ a. schema_from (n + 1) (s ++ a ∷ []) lines)
+    if declares_nothing (words line) then schema_from (n + 1) s lines else
+    after_declaration n (declaration (names_of_attributes s) (words line)) (λ a. schema_from (n + 1) (s ++ a ∷ []) lines)
 
 -- the schema that a text is, or its first fault
 abbrev pub schema_of : Text → Result Attributes SchemaFault

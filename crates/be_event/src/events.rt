@@ -5,7 +5,7 @@ ghost use Rattle.be_base.specs.declared.limits.TheConstants.{ATTRIBUTES};
 ghost use Rattle.be_base.specs.Tokens.{tokens};
 ghost use Rattle.be_model.specs.Lies.{event_lies};
 ghost use Rattle.be_model.specs.Schemas.{numbered};
-ghost use Rattle.be_event.specs.Events.{event, empty_event, by_place, Reads, IsKnown};
+ghost use Rattle.be_event.specs.Events.{event, empty_event, sets_by_place, Reads, IsKnown};
 ghost use Rattle.be_event.specs.Scan.{meant, AreFine, Finds, Scanned};
 
 use crate::found::Found;
@@ -103,7 +103,7 @@ fn build(
     sources: [Option<Source<'_>>; ATTRIBUTES],
 ) -> Result<Event, NoMemory>
     requires { AreFine schema.now sources }
-    ensures built { IfOk result (λ e. e ≡ by_place (length schema.now) (λ place. meant schema.now (numbered place) (get_or sources.entry place None))) }
+    ensures built { IfOk result (λ e. e ≡ sets_by_place (length schema.now) (λ place. meant schema.now (numbered place) (get_or sources.entry place None))) }
     ensures few { length schema.now ≤ ATTRIBUTES }
 {
     let mut event = Event::make(alloc);

@@ -12,7 +12,7 @@ use Rattle.be_model.specs.declared.preds.Pred.{Pred}
 use Rattle.be_model.specs.Schemas.{Attributes, numbered, attribute_named}
 use Rattle.be_model.specs.SetTexts.{some_outside}
 use Rattle.be_expr.specs.Grammar.{WrittenOp, WrittenPred}
-use Rattle.be_expr.specs.Readings.{with_attr, read_pred}
+use Rattle.be_expr.specs.Readings.{with_pred_attr, read_pred}
 use Rattle.be_expr.specs.Parts.{read_end, end_of}
 use Rattle.be_expr.specs.Expressions.{words_of, is_unknown, is_outside, has_many_values, pred_on, meant_pred}
 use Rattle.be_expr.specs.Faults.{preds_in}
@@ -40,7 +40,7 @@ wrapped_if s a r true = refl
 wrapped_if s a r false = refl
 
 by_attr : (s : Attributes) (name : Text) (a : AttrNo) (o : Read WrittenOp) → Some a ≡ attribute_named s name
-    → option_map (of_attr a) (option_and_then (built_op s a) o) ≡ option_and_then (built_pred s) (option_map (with_attr name) o)
+    → option_map (of_attr a) (option_and_then (built_op s a) o) ≡ option_and_then (built_pred s) (option_map (with_pred_attr name) o)
 by_attr s name a None there = refl
 by_attr s name a (Some r) there = wrapped_if s a r (are_fine_words s a (words_of r.0)) ∙ ap (λ (o : Option AttrNo). on_attr s o r) there
 
@@ -51,14 +51,14 @@ wrapped a op (Some ts) = refl
 -- a predicate, by what its operator and values are built into
 pub pred_is_built : (s : Attributes) (name : Text) (a : AttrNo) (op : Op) (o : Read WrittenOp) (left : Option (List Lexeme)) → Some a ≡ attribute_named s name
     → option_map (before op) left ≡ option_and_then (built_op s a) o
-    → option_map (before (record { attr = a; op = op })) left ≡ option_and_then (built_pred s) (option_map (with_attr name) o)
+    → option_map (before (record { attr = a; op = op })) left ≡ option_and_then (built_pred s) (option_map (with_pred_attr name) o)
 pred_is_built s name a op o left there h = wrapped a op left ∙ ap (option_map (of_attr a)) h ∙ by_attr s name a o there
 
 pub no_op_built : (s : Attributes) (name : Text) (a : AttrNo) (o : Read WrittenOp) → Some a ≡ attribute_named s name
-    → None ≡ option_and_then (built_op s a) o → None ≡ option_and_then (built_pred s) (option_map (with_attr name) o)
+    → None ≡ option_and_then (built_op s a) o → None ≡ option_and_then (built_pred s) (option_map (with_pred_attr name) o)
 no_op_built s name a o there h = ap (option_map (of_attr a)) h ∙ by_attr s name a o there
 
-pub unknown_is_unbuilt : (s : Attributes) (name : Text) (o : Read WrittenOp) → None ≡ attribute_named s name → None ≡ option_and_then (built_pred s) (option_map (with_attr name) o)
+pub unknown_is_unbuilt : (s : Attributes) (name : Text) (o : Read WrittenOp) → None ≡ attribute_named s name → None ≡ option_and_then (built_pred s) (option_map (with_pred_attr name) o)
 unknown_is_unbuilt s name None there = refl
 unknown_is_unbuilt s name (Some r) there = ap (λ (o : Option AttrNo). on_attr s o r) there
 

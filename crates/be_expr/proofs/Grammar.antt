@@ -8,7 +8,7 @@ use Rattle.be_base.proofs.SameText.{equal_from_same_text}
 use Rattle.be_base.proofs.SetReadings.{read_values-value_tokens, ValuesRead, values_are_written}
 use Rattle.std.proofs.lemmas.Bool.{and_parts, and_from}
 use Rattle.be_expr.specs.Grammar.{WrittenOp, compared, between, among, not_among, WrittenPred, op_tokens, pred_tokens, condition_tokens, is_attr, op_is_written, are_written}
-use Rattle.be_expr.specs.Readings.{read_set, read_not, read_between, read_worded, read_op, with_attr, read_pred, read_joined, read_preds, written, ReadsAreWritten}
+use Rattle.be_expr.specs.Readings.{read_set, read_not, read_between, read_worded, read_op, with_pred_attr, read_pred, read_joined, read_preds, written, ReadsAreWritten}
 
 set_is_read : (op : List Text → WrittenOp) (vs : List Text) (ts : List Lexeme) → is_filled vs ≡ true
     → read_set op (set_tokens vs ++ ts) ≡ Some (op vs, ts)
@@ -32,8 +32,8 @@ op_is_read (not_among vs) ts h = set_is_read not_among vs ts h
 pub pred_is_read : (p : WrittenPred) (ts : List Lexeme) → (is_attr p.attr && op_is_written p.op) ≡ true → read_pred (pred_tokens p ++ ts) ≡ Some (p, ts)
 pred_is_read p ts h =
     let parts = and_parts (is_attr p.attr) (op_is_written p.op) h in
-    ap (λ (b : Bool). if b then option_map (with_attr p.attr) (read_op (op_tokens p.op ++ ts)) else None) parts.0
-    ∙ ap (option_map (with_attr p.attr)) (op_is_read p.op ts parts.1)
+    ap (λ (b : Bool). if b then option_map (with_pred_attr p.attr) (read_op (op_tokens p.op ++ ts)) else None) parts.0
+    ∙ ap (option_map (with_pred_attr p.attr)) (op_is_read p.op ts parts.1)
 
 -- fuel for each predicate is enough
 preds_are_read : (fuel : ℕ) (p : WrittenPred) (ps : List WrittenPred) → length ps < fuel → are_written (p ∷ ps) ≡ true
@@ -142,7 +142,7 @@ PredRead ts None = Unit
 PredRead ts (Some r) = ((is_attr r.0.attr && op_is_written r.0.op) ≡ true) × (pred_tokens r.0 ++ r.1 ≡ ts)
 
 attr_before_op : (a : Text) (b : Bool) (ts : List Lexeme) (o : Read WrittenOp) → is_attr a ≡ b → OpRead ts o
-    → PredRead (word a ∷ ts) (if b then option_map (with_attr a) o else None)
+    → PredRead (word a ∷ ts) (if b then option_map (with_pred_attr a) o else None)
 attr_before_op a false ts o e h = tt
 attr_before_op a true ts None e h = tt
 attr_before_op a true ts (Some (op, rest)) e h = (and_from (is_attr a) (op_is_written op) e h.0, ap (λ (after : List Lexeme). word a ∷ after) h.1)

@@ -4,7 +4,7 @@ use Rattle.be_base.specs.Text.{Text, same_text}
 use Rattle.be_base.specs.Tokens.{Lexeme, word, less, less_or_equal, equal, not_equal, greater_or_equal, greater, open_brace, close_brace, comma, blank, stray}
 use Rattle.be_base.specs.Readers.{Read, read_word, after_word}
 use Rattle.be_expr.specs.Grammar.{WrittenOp, compared, between, among, not_among, WrittenPred, is_attr}
-use Rattle.be_expr.specs.Readings.{with_attr, read_set, read_not, read_between, read_op, read_pred}
+use Rattle.be_expr.specs.Readings.{with_pred_attr, read_set, read_not, read_between, read_op, read_pred}
 use Rattle.be_expr.specs.Parts.{read_attr, read_ends, read_brace, read_opening, read_head, with_values}
 
 -- a word that was read first is the attribute where it may be one
@@ -30,13 +30,13 @@ attr_is_read w b o rest e h =
     word_first o ∙ ap (option_and_then (λ (r : Text × List Lexeme). if is_attr r.0 then Some r else None)) (sym h) ∙ kept_if w b rest e
 
 abbrev attr_then_op : Text × List Lexeme → Read WrittenPred
-attr_then_op r = option_map (with_attr r.0) (read_opening r.1)
+attr_then_op r = option_map (with_pred_attr r.0) (read_opening r.1)
 
 head_by_attr : (o : Option (List Lexeme)) → option_and_then read_head o ≡ option_and_then attr_then_op (option_and_then read_attr o)
 head_by_attr None = refl
 head_by_attr (Some ts) = refl
 
-op_after : (w : Text) (rest : Option (List Lexeme)) → option_and_then attr_then_op (option_map (λ ts. (w, ts)) rest) ≡ option_map (with_attr w) (option_and_then read_opening rest)
+op_after : (w : Text) (rest : Option (List Lexeme)) → option_and_then attr_then_op (option_map (λ ts. (w, ts)) rest) ≡ option_map (with_pred_attr w) (option_and_then read_opening rest)
 op_after w None = refl
 op_after w (Some ts) = refl
 
@@ -50,11 +50,11 @@ attr_missed w false h = refl
 
 -- the head of a predicate that begins with this attribute
 pub head_first : (w attr : Text) (o rest : Option (List Lexeme)) → Some attr ≡ (if is_attr w then Some w else None)
-    → option_map (λ ts. (w, ts)) rest ≡ option_and_then read_word o → option_and_then read_head o ≡ option_map (with_attr attr) (option_and_then read_opening rest)
+    → option_map (λ ts. (w, ts)) rest ≡ option_and_then read_word o → option_and_then read_head o ≡ option_map (with_pred_attr attr) (option_and_then read_opening rest)
 head_first w attr o rest met h =
     let is = attr_met w attr (is_attr w) met in
     head_by_attr o ∙ ap (option_and_then attr_then_op) (attr_is_read w true o rest is.0 h) ∙ op_after w rest
-    ∙ ap (λ (a : Text). option_map (with_attr a) (option_and_then read_opening rest)) (sym is.1)
+    ∙ ap (λ (a : Text). option_map (with_pred_attr a) (option_and_then read_opening rest)) (sym is.1)
 
 pub no_attr_first : (w : Text) (o rest : Option (List Lexeme)) → None ≡ (if is_attr w then Some w else None)
     → option_map (λ ts. (w, ts)) rest ≡ option_and_then read_word o → option_and_then read_head o ≡ None
@@ -62,13 +62,13 @@ no_attr_first w o rest missed h =
     head_by_attr o ∙ ap (option_and_then attr_then_op) (attr_is_read w false o rest (attr_missed w (is_attr w) missed) h)
 
 wrapped : (attr : Text) (op : WrittenOp) (left : Option (List Lexeme))
-    → option_map (λ ts. (record { attr = attr; op = op }, ts)) left ≡ option_map (with_attr attr) (option_map (λ ts. (op, ts)) left)
+    → option_map (λ ts. (record { attr = attr; op = op }, ts)) left ≡ option_map (with_pred_attr attr) (option_map (λ ts. (op, ts)) left)
 wrapped attr op None = refl
 wrapped attr op (Some ts) = refl
 
 pub head_of : (attr : Text) (op : WrittenOp) (left rest : Option (List Lexeme)) → option_map (λ ts. (op, ts)) left ≡ option_and_then read_opening rest
-    → option_map (λ ts. (record { attr = attr; op = op }, ts)) left ≡ option_map (with_attr attr) (option_and_then read_opening rest)
-head_of attr op left rest h = wrapped attr op left ∙ ap (option_map (with_attr attr)) h
+    → option_map (λ ts. (record { attr = attr; op = op }, ts)) left ≡ option_map (with_pred_attr attr) (option_and_then read_opening rest)
+head_of attr op left rest h = wrapped attr op left ∙ ap (option_map (with_pred_attr attr)) h
 
 -- an operator as it was read, with the values that are left
 abbrev op_then : WrittenOp × List Lexeme → Read WrittenOp
@@ -135,15 +135,15 @@ op_by_parts _ = refl
 
 -- a predicate by its head, with the values that are left
 abbrev pred_then : WrittenPred × List Lexeme → Read WrittenPred
-pred_then r = option_map (with_attr r.0.attr) (with_values r.0.op (Some r.1))
+pred_then r = option_map (with_pred_attr r.0.attr) (with_values r.0.op (Some r.1))
 
-attr_kept : (a : Text) (o : Read WrittenOp) → option_map (with_attr a) (option_and_then op_then o) ≡ option_and_then pred_then (option_map (with_attr a) o)
+attr_kept : (a : Text) (o : Read WrittenOp) → option_map (with_pred_attr a) (option_and_then op_then o) ≡ option_and_then pred_then (option_map (with_pred_attr a) o)
 attr_kept a None = refl
 attr_kept a (Some r) = refl
 
 pred_by_attr : (a : Text) (b : Bool) (ts : List Lexeme)
-    → (if b then option_map (with_attr a) (read_op ts) else None) ≡ option_and_then pred_then (option_and_then attr_then_op (if b then Some (a, ts) else None))
-pred_by_attr a true ts = ap (option_map (with_attr a)) (op_by_parts ts) ∙ attr_kept a (read_opening ts)
+    → (if b then option_map (with_pred_attr a) (read_op ts) else None) ≡ option_and_then pred_then (option_and_then attr_then_op (if b then Some (a, ts) else None))
+pred_by_attr a true ts = ap (option_map (with_pred_attr a)) (op_by_parts ts) ∙ attr_kept a (read_opening ts)
 pred_by_attr a false ts = refl
 
 pred_by_parts : (ts : List Lexeme) → read_pred ts ≡ option_and_then pred_then (read_head ts)
@@ -161,13 +161,13 @@ nothing_left (among vs) = refl
 nothing_left (not_among vs) = refl
 
 values_left : (head : WrittenPred) (left : Option (List Lexeme))
-    → option_and_then pred_then (option_map (λ ts. (head, ts)) left) ≡ option_map (with_attr head.attr) (with_values head.op left)
-values_left head None = ap (option_map (with_attr head.attr)) (sym (nothing_left head.op))
+    → option_and_then pred_then (option_map (λ ts. (head, ts)) left) ≡ option_map (with_pred_attr head.attr) (with_values head.op left)
+values_left head None = ap (option_map (with_pred_attr head.attr)) (sym (nothing_left head.op))
 values_left head (Some ts) = refl
 
 -- a predicate with this head
 pub pred_first : (head : WrittenPred) (o left : Option (List Lexeme)) → option_map (λ ts. (head, ts)) left ≡ option_and_then read_head o
-    → option_and_then read_pred o ≡ option_map (with_attr head.attr) (with_values head.op left)
+    → option_and_then read_pred o ≡ option_map (with_pred_attr head.attr) (with_values head.op left)
 pred_first head o left h = pred_by_head o ∙ ap (option_and_then pred_then) (sym h) ∙ values_left head left
 
 pub no_pred_first : (o : Option (List Lexeme)) → None ≡ option_and_then read_head o → option_and_then read_pred o ≡ None

@@ -6,7 +6,7 @@ use Rattle.be_base.specs.Text.{Text, same_text}
 use Rattle.be_base.specs.Tokens.{Lexeme, word, tokens}
 use Rattle.be_base.specs.Readers.{Read}
 use Rattle.be_expr.specs.Grammar.{WrittenPred, is_attr, pred_tokens}
-use Rattle.be_expr.specs.Readings.{with_attr, read_pred, read_joined, read_preds, written}
+use Rattle.be_expr.specs.Readings.{with_pred_attr, read_pred, read_joined, read_preds, written}
 use Rattle.be_expr.specs.Parts.{is_all, read_end, end_of}
 use Rattle.be_expr.specs.Faults.{preds_in}
 use Rattle.be_expr.proofs.Grammar.{PredRead, pred_is_written}
@@ -137,7 +137,7 @@ pub left_by_end : (left : Option (Bor Text)) → option_and_then preds_behind (e
 left_by_end None = refl
 left_by_end (Some text) = left_behind (tokens text.now)
 
-no_op_alone : (a : Text) (b : Bool) → (if b then option_map (with_attr a) None else None) ≡ None
+no_op_alone : (a : Text) (b : Bool) → (if b then option_map (with_pred_attr a) None else None) ≡ None
 no_op_alone a true = refl
 no_op_alone a false = refl
 

@@ -12,7 +12,7 @@ use Rattle.be_expr.specs.declared.parts.Opening.TheVariants.{Compared, Between, 
 use Rattle.be_expr.specs.declared.parts.Front.{Front}
 use Rattle.be_expr.specs.declared.parts.Head.{Head}
 use Rattle.be_expr.specs.Grammar.{WrittenOp, compared, between, among, not_among, WrittenPred, is_operator, is_attr}
-use Rattle.be_expr.specs.Readings.{with_attr}
+use Rattle.be_expr.specs.Readings.{with_pred_attr}
 
 -- `all` alone
 abbrev pub is_all : List Lexeme → Bool
@@ -51,7 +51,7 @@ read_attr _ = None
 
 -- a predicate, but that the values of a set are left
 abbrev pub read_head : List Lexeme → Read WrittenPred
-read_head ts = option_and_then (λ (r : Text × List Lexeme). option_map (with_attr r.0) (read_opening r.1)) (read_attr ts)
+read_head ts = option_and_then (λ (r : Text × List Lexeme). option_map (with_pred_attr r.0) (read_opening r.1)) (read_attr ts)
 
 -- what is left behind a predicate: nothing, or what follows an `and`
 abbrev pub read_end : List Lexeme → Option (Option (List Lexeme))

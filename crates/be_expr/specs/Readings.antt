@@ -31,11 +31,11 @@ read_op (word w ∷ ts) = read_worded w ts
 read_op (operator ∷ word v ∷ ts) = if is_operator operator then Some (compared operator v, ts) else None
 read_op _ = None
 
-abbrev pub with_attr : Text → WrittenOp × List Lexeme → WrittenPred × List Lexeme
-with_attr a r = (record { attr = a; op = r.0 }, r.1)
+abbrev pub with_pred_attr : Text → WrittenOp × List Lexeme → WrittenPred × List Lexeme
+with_pred_attr a r = (record { attr = a; op = r.0 }, r.1)
 
 abbrev pub read_pred : List Lexeme → Read WrittenPred
-read_pred (word a ∷ ts) = if is_attr a then option_map (with_attr a) (read_op ts) else None
+read_pred (word a ∷ ts) = if is_attr a then option_map (with_pred_attr a) (read_op ts) else None
 read_pred _ = None
 
 -- a predicate and, after `and`, what the rest is read as

@@ -14,7 +14,7 @@ use Rattle.be_change.specs.History.{Entry, IsWellFormed, MayFollow}
 use Rattle.be_change.proofs.Forms.{formed_each}
 use Rattle.be_protocol.specs.Replies.{with_lf}
 use Rattle.be_follow.specs.declared.faults.FeedKind.{FeedKind}
-use Rattle.be_follow.specs.Feeds.{PlainSaid, nothing, at, said, Fed, TakesLineAt, TakesLine, TakesLines, after_line, Chooses, Judges}
+use Rattle.be_follow.specs.Feeds.{PlainSaid, nothing, at, said, Fed, TakesLineAt, TakesLine, TakesLines, fed_after_line, Chooses, Judges}
 use Rattle.be_follow.specs.Laws.{covered}
 use Rattle.be_follow.proofs.LeaderLines.{IsLine}
 
@@ -109,8 +109,8 @@ took_line s h before line reach f g formed fits is sound t = (ap (λ (x : Fed). 
         j ∙ ap (λ (n : ℕ). Ok (take n h)) same
     by (inr k) = judged_at h before k.0 k.1 reach u.0 formed k.3 (subst (λ (x : PlainSaid). Judges (take before h) x u.0) k.2.says judged)
 
-    after : g ≡ after_line f (Ok (take (max before reach) h))
-    after = u.2 ∙ ap (after_line f) (by fits)
+    after : g ≡ fed_after_line f (Ok (take (max before reach) h))
+    after = u.2 ∙ ap (fed_after_line f) (by fits)
 
 -- lines that are borne out are followed as far as the bytes go
 pub followed_from : (s : Attributes) (h : List Entry) (lines : List Text) (reaches : List ℕ) (before : ℕ) (bytes rest : List ℕ) (f g : Fed) → IsWellFormed h → AllFit s h before lines reaches

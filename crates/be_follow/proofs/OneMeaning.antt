@@ -4,7 +4,7 @@ use Rattle.std.proofs.lemmas.Bool.Decides.{nat_tests}
 use Rattle.be_model.specs.Schemas.{Attributes}
 use Rattle.be_change.specs.History.{Entry}
 use Rattle.be_follow.specs.declared.faults.FeedKind.{FeedKind}
-use Rattle.be_follow.specs.Feeds.{PlainSaid, nothing, at, faulty, said, Chooses, Places, Judges, Fed, none_fed, after_line, TakesLineAt, TakesLines}
+use Rattle.be_follow.specs.Feeds.{PlainSaid, nothing, at, faulty, said, Chooses, Places, Judges, Fed, none_fed, fed_after_line, TakesLineAt, TakesLines}
 use Rattle.be_follow.specs.Laws.{FeedsMeanOne}
 
 one_choice : {X P : Type 0} {first second a b : X} → Chooses P first second a → Chooses P first second b → a ≡ b
@@ -28,7 +28,7 @@ one_verdict h faulty a b p q = p ∙ sym q
 
 one_line : (s : Attributes) (o : Option FeedKind) (f a b : Fed) (line : List ℕ) → TakesLineAt o s f line a → TakesLineAt o s f line b → a ≡ b
 one_line s (Some kind) f a b line p q = p ∙ sym q
-one_line s None f a b line p q = p.2 ∙ ap (after_line f) (one_verdict f.list (said s line) p.0 q.0 p.1 q.1) ∙ sym q.2
+one_line s None f a b line p q = p.2 ∙ ap (fed_after_line f) (one_verdict f.list (said s line) p.0 q.0 p.1 q.1) ∙ sym q.2
 
 one_reading : (s : Attributes) (ls : List (List ℕ)) (f a b : Fed) → TakesLines s f ls a → TakesLines s f ls b → a ≡ b
 one_reading s [] f a b p q = p ∙ sym q

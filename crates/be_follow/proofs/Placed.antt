@@ -13,13 +13,13 @@ use Rattle.be_follow.specs.declared.faults.FeedKind.{FeedKind}
 use Rattle.be_follow.specs.declared.faults.FeedKind.TheVariants.{Fork, Unfit}
 use Rattle.be_follow.specs.declared.stands.Stands.{Stands}
 use Rattle.be_follow.specs.Feeds.{Places}
-use Rattle.be_follow.specs.Placing.{judged, IsFollowed}
+use Rattle.be_follow.specs.Placing.{list_or_fault, IsFollowed}
 use Rattle.be_follow.specs.Stands.{stand_in, stand_by}
 use Rattle.be_follow.proofs.Standing.{stands_on}
 
 -- the change was compared with the one that stands there
 pub placed_again : (h : List Entry) (i : ℕ) (e : Entry) (o : Option FeedKind) → i < length h → (o ≡ None → slice_get h i ≡ Some e)
-    → IfSome o (λ kind. (kind ≡ Fork) × (slice_get h i ≡ Some e → ⊥)) → Places h i e (judged h o)
+    → IfSome o (λ kind. (kind ≡ Fork) × (slice_get h i ≡ Some e → ⊥)) → Places h i e (list_or_fault h o)
 placed_again h i e None low same other = record {
   gap = λ over. absurd (omega (arith, low, over));
   again = λ l. inl (same refl, refl);

@@ -23,9 +23,9 @@ asked_of s (Some (word name ∷ ts)) = commanded_by follower_commands s name (So
 asked_of s _ = refused bad
 
 -- what a line asks for, or why it asks nothing
-abbrev pub asked : Attributes → line.TextLine → Request
-asked s (line.text bytes) = asked_of s (tokens bytes)
-asked s (line.long n) = refused long
+abbrev pub asked_of_follower : Attributes → line.TextLine → Request
+asked_of_follower s (line.text bytes) = asked_of s (tokens bytes)
+asked_of_follower s (line.long n) = refused long
 
 -- the reply that a request is due over a list. Memory may be wanting to a PUB
 abbrev pub IsDue : List Entry → Request → Reply → Type 0

@@ -81,14 +81,14 @@ pub record Fed : Type 0 where
 abbrev pub none_fed : Fed
 none_fed = record { list = []; lines = 0; fault = None }
 
-abbrev pub after_line : Fed → Result (List Entry) FeedKind → Fed
-after_line f (Ok h) = record { list = h; lines = raised 1 f.lines; fault = None }
-after_line f (Err kind) = record { list = f.list; lines = raised 1 f.lines; fault = Some kind }
+abbrev pub fed_after_line : Fed → Result (List Entry) FeedKind → Fed
+fed_after_line f (Ok h) = record { list = h; lines = raised 1 f.lines; fault = None }
+fed_after_line f (Err kind) = record { list = f.list; lines = raised 1 f.lines; fault = Some kind }
 
 -- one more whole line was read. Behind a faulty line none is
 abbrev pub TakesLineAt : Option FeedKind → Attributes → Fed → List ℕ → Fed → Type 0
 TakesLineAt (Some kind) s f line g = g ≡ f
-TakesLineAt None s f line g = (r : Result (List Entry) FeedKind) × Judges f.list (said s line) r × (g ≡ after_line f r)
+TakesLineAt None s f line g = (r : Result (List Entry) FeedKind) × Judges f.list (said s line) r × (g ≡ fed_after_line f r)
 
 abbrev pub TakesLine : Attributes → Fed → List ℕ → Fed → Type 0
 TakesLine s f line g = TakesLineAt f.fault s f line g

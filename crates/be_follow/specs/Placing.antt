@@ -42,9 +42,9 @@ SaidLies s Nothing = Unit {0}
 SaidLies s Faulty = Unit {0}
 
 -- the list after a line, or its fault
-abbrev pub judged : List Entry → Option FeedKind → Result (List Entry) FeedKind
-judged h None = Ok h
-judged h (Some kind) = Err kind
+abbrev pub list_or_fault : List Entry → Option FeedKind → Result (List Entry) FeedKind
+list_or_fault h None = Ok h
+list_or_fault h (Some kind) = Err kind
 
 -- a list that follows a leader's, whether it is an opening so far, and where its sessions stand
 pub record IsFollowed (h : List Entry) (opening : Bool) (stands : Stands) : Type 0 where
@@ -54,4 +54,4 @@ pub record IsFollowed (h : List Entry) (opening : Bool) (stands : Stands) : Type
 
 -- a line of these bytes was accepted, and left this list, or it has this fault, which leaves the list
 abbrev pub Accepts : Attributes → List Entry → List ℕ → List Entry → Option FeedKind → Type 0
-Accepts s h line after fault = Judges h (said s line) (judged after fault) × IfSome fault (λ kind. after ≡ h)
+Accepts s h line after fault = Judges h (said s line) (list_or_fault after fault) × IfSome fault (λ kind. after ≡ h)

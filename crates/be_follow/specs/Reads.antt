@@ -9,7 +9,7 @@ use Rattle.be_protocol.specs.declared.ends.SessionEnd.{SessionEnd}
 use Rattle.be_protocol.specs.declared.ends.SessionEnd.TheVariants.{Split}
 use Rattle.be_protocol.specs.Conduct.{Conduct}
 use Rattle.be_protocol.specs.Conversation.{Terms, ConversationEnds}
-use Rattle.be_follow.specs.Asked.{asked, IsDue}
+use Rattle.be_follow.specs.Asked.{asked_of_follower, IsDue}
 
 -- each exchange has the reply that is due
 abbrev pub AreDue : List Entry → List Exchange → Type 0
@@ -19,7 +19,7 @@ AreDue h ps = All (λ (p : Exchange). IsDue h p.0 p.1) ps
 abbrev pub reads_conduct : Attributes → Conduct (List Entry)
 reads_conduct s = record {
   schema = s;
-  asks = asked s;
+  asks = asked_of_follower s;
   Replies = λ p h h'. IsDue h p.0 p.1 × (h' ≡ h);
   RepliesInPart = λ p out h h'. IsDue h p.0 p.1 × (h' ≡ h);
   Tends = λ h h'. h' ≡ h;
@@ -30,7 +30,7 @@ reads_conduct s = record {
 abbrev pub reads_terms : Attributes → List Entry → Terms
 reads_terms s h = record {
   schema = s;
-  asks = asked s;
+  asks = asked_of_follower s;
   Whole = λ end lines ps. AreDue h ps;
   InPart = λ lines ps p out. AreDue h (ps ++ p ∷ []);
 }

@@ -4,7 +4,7 @@ ghost use Rattle.std.specs.Prelude.{◌≡◌, true, IfOk};
 ghost use Rattle.be_io.specs.Lines as line;
 ghost use Rattle.be_model.specs.Schemas.{Attributes};
 ghost use Rattle.be_protocol.specs.Requests.{plain_request, request_lies};
-ghost use Rattle.be_follow.specs.Asked.{asked, answered, is_command, plain_ask, ask_lies, ReadsAsk};
+ghost use Rattle.be_follow.specs.Asked.{asked_of_follower, answered, is_command, plain_ask, ask_lies, ReadsAsk};
 
 use be_base::{NoMemory, Scan, Token, next_token};
 use be_model::{Event, Schema};
@@ -36,7 +36,7 @@ impl Ask {
 
 /// Reads a line. Only an event takes memory.
 pub fn read_ask(alloc: Global, schema: &Schema, text: &[u8]) -> Result<Ask, NoMemory>
-    ensures read { ReadsAsk result (asked schema.now (line.text text.now)) }
+    ensures read { ReadsAsk result (asked_of_follower schema.now (line.text text.now)) }
     ensures lies { IfOk result (λ ask. ask_lies schema.now ask ≡ true) }
 {
     let Scan::Found(Token::Word(word), _) = next_token(text) else {

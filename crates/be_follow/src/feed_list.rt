@@ -8,7 +8,7 @@ ghost use Rattle.be_model.specs.Schemas.{Attributes};
 ghost use Rattle.be_change.specs.Entries.{entry_of};
 ghost use Rattle.be_change.specs.History.{Entry, live, stand, is_opening, IsWellFormed, MayFollow};
 ghost use Rattle.be_follow.specs.Feeds.{Places};
-ghost use Rattle.be_follow.specs.Placing.{judged, owner_of};
+ghost use Rattle.be_follow.specs.Placing.{list_or_fault, owner_of};
 
 use crate::faults::FeedKind;
 use crate::fitting::may_follow;
@@ -58,7 +58,7 @@ pub fn place<F: FeedList>(
     change: Change,
 ) -> Result<Option<FeedKind>, NoMemory>
     requires { entry_lies (F.schema list.old) (entry_of change) ≡ true }
-    ensures places { IfOk result (λ fault. Places (F.list list.old) place (entry_of change) (judged (F.list list.new) fault)) }
+    ensures places { IfOk result (λ fault. Places (F.list list.old) place (entry_of change) (list_or_fault (F.list list.new) fault)) }
     ensures kept { IfOk result (λ fault. IfSome fault (λ kind. F.list list.new ≡ F.list list.old)) }
     ensures refused { OnErr result (F.list list.new ≡ F.list list.old) }
     ensures schema { F.schema list.new ≡ F.schema list.old }

@@ -21,7 +21,7 @@ use Rattle.be_desk.specs.Boards.{board_of}
 use Rattle.be_desk.specs.Seats.{SeatState, word_of}
 use Rattle.be_protocol.specs.declared.ends.SessionEnd.{SessionEnd}
 use Rattle.be_protocol.specs.declared.ends.SessionEnd.TheVariants.{Eof, Quit, ReadFault, WriteFault, Spent, Split, NoMemory}
-use Rattle.be_protocol.specs.Ends.{end_after, is_on, goes_on}
+use Rattle.be_protocol.specs.Ends.{end_after, has_not_ended, goes_on}
 use Rattle.be_protocol.specs.Conversation.{Replied}
 use Rattle.be_session.specs.Given.{GivesLetters}
 use Rattle.be_session.specs.Served.{SessionEnds, session_terms}
@@ -51,7 +51,7 @@ not_split r (tailed u v w) never = refl
 not_split r no_memory never = refl
 not_split r shut never = refl
 
-on_by_none : (end : Option SessionEnd) (i j : ℕ) → is_on end ≡ true → end ≡ Some (Split i j) → ⊥
+on_by_none : (end : Option SessionEnd) (i j : ℕ) → has_not_ended end ≡ true → end ≡ Some (Split i j) → ⊥
 on_by_none None i j on is = absurd cc
 on_by_none (Some e) i j on is = absurd cc
 

@@ -24,7 +24,7 @@ use Rattle.be_load_files.specs.declared.faults.TableFault.{TableFault}
 use Rattle.be_load_files.specs.declared.faults.TableFault.TheVariants.{Line}
 use Rattle.be_load_files.specs.declared.faults.TableKind.TheVariants.{Twice}
 use Rattle.be_load_files.proofs.SoFar.{SoFar}
-use Rattle.be_load_files.specs.Tables.{names_of, said_on, next_row, with_said, after_line, going_on, table_from}
+use Rattle.be_load_files.specs.Tables.{row_names, said_on, next_row, with_said, rows_after_line, going_on, table_from}
 
 -- the rows of so many lines
 pub record AreTable (s : Attributes) (rows : List Row) (lines : ℕ) : Type 0 where
@@ -41,7 +41,7 @@ all_last : (p : Row → Bool) (rows : List Row) (row : Row) → list_all p rows 
 all_last p rows row all here = list_all-append p rows (row ∷ []) ∙ and_from (list_all p rows) (list_all p (row ∷ [])) all (and_from (p row) true here refl)
 
 -- a row more, under a name that no row before it has
-row_more : (s : Attributes) (rows : List Row) (name : Text) (conj : List Pred) (n : ℕ) → is_among_texts name (names_of rows) ≡ false → conj_lies s conj ≡ true
+row_more : (s : Attributes) (rows : List Row) (name : Text) (conj : List Pred) (n : ℕ) → is_among_texts name (row_names rows) ≡ false → conj_lies s conj ≡ true
     → AreTable s rows n → AreTable s (rows ++ next_row rows name conj ∷ []) (n + 1)
 row_more s rows name conj n apart lies a =
     let row = next_row rows name conj in
@@ -49,14 +49,14 @@ row_more s rows name conj n apart lies a =
       table = record {
         owner = all_last is_of_nobody rows row a.table.owner refl;
         ids = subst (λ (m : ByIds). SayIds m) (sym (by_place-snoc 0 rows row)) (SayIds-snoc (by_place 0 rows) (0 + length rows, row) a.table.ids (let e : length rows ≡ 0 + length rows = omega arith in e));
-        names = ap (λ (ns : List Text). all_differ ns) (map-append (λ (r : Row). r.name) rows (row ∷ [])) ∙ all_differ_push (names_of rows) name
-            ∙ and_from (all_differ (names_of rows)) (not (is_among_texts name (names_of rows))) a.table.names (not_from_false (is_among_texts name (names_of rows)) apart);
+        names = ap (λ (ns : List Text). all_differ ns) (map-append (λ (r : Row). r.name) rows (row ∷ [])) ∙ all_differ_push (row_names rows) name
+            ∙ and_from (all_differ (row_names rows)) (not (is_among_texts name (row_names rows))) a.table.names (not_from_false (is_among_texts name (row_names rows)) apart);
       };
       lie = all_last (row_lies s) rows row a.lie lies;
       few = let f = a.few in omega (arith, length-append rows (row ∷ []));
     }
 
-more_by : (s : Attributes) (k : ℕ) (rows more : List Row) (said : Text × List Pred) (n : ℕ) (b : Bool) → is_among_texts said.0 (names_of rows) ≡ b → conj_lies s said.1 ≡ true
+more_by : (s : Attributes) (k : ℕ) (rows more : List Row) (said : Text × List Pred) (n : ℕ) (b : Bool) → is_among_texts said.0 (row_names rows) ≡ b → conj_lies s said.1 ≡ true
     → cond b (Err (Line k Twice)) (Ok (rows ++ next_row rows said.0 said.1 ∷ [])) ≡ Ok more → AreTable s rows n → AreTable s more (n + 1)
 more_by s k rows more said n true e lies is a = absurd (cc)
 more_by s k rows more said n false e lies is a =
@@ -65,7 +65,7 @@ more_by s k rows more said n false e lies is a =
 
 said_more : (s : Attributes) (k : ℕ) (rows more : List Row) (read : Result (Text × List Pred) ExprFault) (n : ℕ) → ((said : Text × List Pred) → read ≡ Ok said → conj_lies s said.1 ≡ true)
     → with_said k rows read ≡ Ok more → AreTable s rows n → AreTable s more (n + 1)
-said_more s k rows more (Ok said) n lies is a = more_by s k rows more said n (is_among_texts said.0 (names_of rows)) refl (lies said refl) is a
+said_more s k rows more (Ok said) n lies is a = more_by s k rows more said n (is_among_texts said.0 (row_names rows)) refl (lies said refl) is a
 said_more s k rows more (Err fault) n lies is a = absurd (cc)
 
 line_more_by : (s : Attributes) (k : ℕ) (rows more : List Row) (line : Text) (n : ℕ) (b : Bool) → cond b (Ok rows) (with_said k rows (said_on s line)) ≡ Ok more
@@ -91,7 +91,7 @@ AreTable-table_from s k rows more [] n is a =
     let here : n ≡ n + 0 = omega arith in
     subst (λ (r : List Row). AreTable s r (n + 0)) same (subst (λ (m : ℕ). AreTable s rows m) here a)
 AreTable-table_from s k rows more (line ∷ lines) n is a =
-    from_line s k more lines n (after_line s k rows line)
+    from_line s k more lines n (rows_after_line s k rows line)
     (λ r e. line_more_by s k rows r line n (means_nothing line) e a)
     (λ r h b. AreTable-table_from s (k + 1) r more lines (n + 1) h b) is
 

@@ -19,7 +19,7 @@ use Rattle.be_protocol.specs.Replies.{row_line, with_lf}
 use Rattle.be_load_files.specs.declared.faults.TableFault.{TableFault}
 use Rattle.be_load_files.specs.declared.faults.TableFault.TheVariants.{Line}
 use Rattle.be_load_files.specs.declared.faults.TableKind.TheVariants.{Twice}
-use Rattle.be_load_files.specs.Tables.{names_of, next_row, with_said, after_line, going_on, table_from}
+use Rattle.be_load_files.specs.Tables.{row_names, next_row, with_said, rows_after_line, going_on, table_from}
 use Rattle.be_load_files.specs.Dumps.{as_table, DumpsReadBack}
 use Rattle.be_load_files.proofs.DumpLines.{IsRead, said_on-row_line, row_line-IsLine, file_lines-with_lf, end_line, end_line-IsLine}
 
@@ -58,21 +58,21 @@ apart (x ∷ before) after name d =
     behind (y ∷ before) e = behind before (or_parts (same_text y x) (is_among_texts x (before ++ name ∷ after)) e).1
 
 -- the line of a row, under a name that no row before it has
-row_read : (s : Attributes) (k : ℕ) (done : List Row) (row : Row) → IsName row.name → IsRead s row → is_among_texts row.name (names_of done) ≡ false
-    → after_line s k done (row_line s row) ≡ Ok (done ++ next_row done row.name row.conj ∷ [])
+row_read : (s : Attributes) (k : ℕ) (done : List Row) (row : Row) → IsName row.name → IsRead s row → is_among_texts row.name (row_names done) ≡ false
+    → rows_after_line s k done (row_line s row) ≡ Ok (done ++ next_row done row.name row.conj ∷ [])
 row_read s k done row named read apart =
     ap (with_said k done) (said_on-row_line s row named read)
     ∙ ap (λ (b : Bool). cond b (Err (Line k Twice)) (Ok (done ++ next_row done row.name row.conj ∷ []))) apart
 
-rows_read : (s : Attributes) (k n c : ℕ) (done rows : List Row) → AreWritten s rows → all_differ (names_of done ++ names_of rows) ≡ true
+rows_read : (s : Attributes) (k n c : ℕ) (done rows : List Row) → AreWritten s rows → all_differ (row_names done ++ row_names rows) ≡ true
     → table_from s k done (map (row_line s) rows ++ end_line n c ∷ []) ≡ Ok (done ++ as_table (length done) rows)
 rows_read s k n c done [] w d = ap (λ (r : List Row). Ok r) (sym (append-nil done))
 rows_read s k n c done (row ∷ rows) w d =
     let new = next_row done row.name row.conj in
-    let names : names_of (done ++ new ∷ []) ++ names_of rows ≡ names_of done ++ row.name ∷ names_of rows =
-    ap (λ (ns : List Text). ns ++ names_of rows) (map-append (λ (r : Row). r.name) done (new ∷ [])) ∙ append_assoc (names_of done) (row.name ∷ []) (names_of rows) in
+    let names : row_names (done ++ new ∷ []) ++ row_names rows ≡ row_names done ++ row.name ∷ row_names rows =
+    ap (λ (ns : List Text). ns ++ row_names rows) (map-append (λ (r : Row). r.name) done (new ∷ [])) ∙ append_assoc (row_names done) (row.name ∷ []) (row_names rows) in
     ap (λ (o : Result (List Row) TableFault). going_on o (λ r. table_from s (k + 1) r (map (row_line s) rows ++ end_line n c ∷ [])))
-    (row_read s k done row w.0.0 w.0.1 (apart (names_of done) (names_of rows) row.name d))
+    (row_read s k done row w.0.0 w.0.1 (apart (row_names done) (row_names rows) row.name d))
     ∙ rows_read s (k + 1) n c (done ++ new ∷ []) rows w.1 (ap (λ (ns : List Text). all_differ ns) names ∙ d)
     ∙ ap (λ (r : List Row). Ok r) (append_assoc done (new ∷ []) (as_table (length (done ++ new ∷ [])) rows)
     ∙ ap (λ (m : ℕ). done ++ new ∷ as_table m rows) (length-append done (new ∷ [])))

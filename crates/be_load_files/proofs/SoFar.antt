@@ -7,7 +7,7 @@ use Rattle.be_model.specs.Schemas.{Attributes}
 use Rattle.be_load_files.specs.declared.faults.TableFault.{TableFault}
 use Rattle.be_load_files.specs.declared.faults.TableFault.TheVariants.{Line, NoMemory}
 use Rattle.be_load_files.specs.declared.read.Table.{Table}
-use Rattle.be_load_files.specs.Tables.{said_on, with_said, after_line, going_on, table_from, table_of}
+use Rattle.be_load_files.specs.Tables.{said_on, with_said, rows_after_line, going_on, table_from, table_of}
 use Rattle.be_load_files.specs.Reading.{IsSaid, TakesMemory, ReadsTable, PutsRow}
 
 append_by : (s : Attributes) (n : ℕ) (more : List Row) (before lines : List Text) (o : Result (List Row) TableFault)
@@ -27,7 +27,7 @@ table_from-append s n rows more [] lines e =
     let here : n ≡ n + 0 = omega arith in
     ap (λ (r : List Row). table_from s n r lines) same ∙ ap (λ (m : ℕ). table_from s m more lines) here
 table_from-append s n rows more (line ∷ before) lines e =
-    append_by s n more before lines (after_line s n rows line) (λ r h. table_from-append s (n + 1) r more before lines h) e
+    append_by s n more before lines (rows_after_line s n rows line) (λ r h. table_from-append s (n + 1) r more before lines h) e
 
 -- the lines of a text before the rest have no fault, and give these rows
 pub record SoFar (s : Attributes) (text rest : Text) (number : ℕ) (rows : List Row) : Type 0 where
@@ -46,7 +46,7 @@ left s text rest number rows p =
 
 -- one line more
 pub line_more : (s : Attributes) (text rest line after : Text) (number : ℕ) (rows more : List Row) → file_lines rest ≡ line ∷ file_lines after → length after < length rest
-    → after_line s (number + 1) rows line ≡ Ok more → SoFar s text rest number rows → SoFar s text after (number + 1) more
+    → rows_after_line s (number + 1) rows line ≡ Ok more → SoFar s text rest number rows → SoFar s text after (number + 1) more
 line_more s text rest line after number rows more lines shorter is p =
     let next : 1 + length p.before ≡ number + 1 = omega (arith, p.count) in
     record {
@@ -60,7 +60,7 @@ line_more s text rest line after number rows more lines shorter is p =
 
 -- a line with a fault
 pub line_faulty : (s : Attributes) (text rest line after : Text) (number : ℕ) (rows : List Row) (fault : TableFault) → file_lines rest ≡ line ∷ file_lines after
-    → after_line s (number + 1) rows line ≡ Err fault → SoFar s text rest number rows → table_of s text ≡ Err fault
+    → rows_after_line s (number + 1) rows line ≡ Err fault → SoFar s text rest number rows → table_of s text ≡ Err fault
 line_faulty s text rest line after number rows fault lines is p =
     left s text rest number rows p ∙ ap (λ (ls : List Text). table_from s (number + 1) rows ls) lines
     ∙ ap (λ (o : Result (List Row) TableFault). going_on o (λ r. table_from s (number + 1 + 1) r (file_lines after))) is
@@ -78,7 +78,7 @@ line_wants s text rest line after number rows lines said p = record {
   said = said;
 }
 
-row_line : (s : Attributes) (n : ℕ) (rows : List Row) (line : Text) (o : Result (List Row) TableFault) → means_nothing line ≡ false → with_said n rows (said_on s line) ≡ o → after_line s n rows line ≡ o
+row_line : (s : Attributes) (n : ℕ) (rows : List Row) (line : Text) (o : Result (List Row) TableFault) → means_nothing line ≡ false → with_said n rows (said_on s line) ≡ o → rows_after_line s n rows line ≡ o
 row_line s n rows line o means is = ap (λ b. if b then Ok rows else with_said n rows (said_on s line)) means ∙ is
 
 -- a line that means nothing

@@ -11,7 +11,7 @@ use Rattle.be_model.specs.Texts.{NamesAreNames}
 use Rattle.be_change.specs.Requests.{dumped}
 use Rattle.be_expr.specs.Changes.{new_row}
 use Rattle.be_protocol.specs.Replies.{reply_text}
-use Rattle.be_load_files.specs.Tables.{names_of, table_of}
+use Rattle.be_load_files.specs.Tables.{row_names, table_of}
 
 -- these rows as those of a table: the same names and conditions in the same order, with their places as ids, the first of
 -- which is this one, and of session 0
@@ -24,7 +24,7 @@ as_table place (row ∷ rows) = new_row place 0 row.name row.conj ∷ as_table (
 pub record AreRows (s : Attributes) (rows : List Row) : Type 0 where
   pub forms : All (λ (row : Row). IsName row.name × IsConj row.conj) rows
   pub lie : list_all (row_lies s) rows ≡ true
-  pub differ : all_differ (names_of rows) ≡ true
+  pub differ : all_differ (row_names rows) ≡ true
 
 -- the reply to a DUMP is a load file of the rows that it tells
 abbrev pub DumpsReadBack : Type 0

@@ -10,7 +10,7 @@ use Rattle.be_model.specs.Schemas.{Attributes}
 use Rattle.be_load_files.specs.declared.faults.TableFault.{TableFault}
 use Rattle.be_load_files.specs.declared.faults.TableFault.TheVariants.{Line, NoMemory}
 use Rattle.be_load_files.specs.declared.read.Table.{Table}
-use Rattle.be_load_files.specs.Tables.{names_of, said_on, table_from, table_of}
+use Rattle.be_load_files.specs.Tables.{row_names, said_on, table_from, table_of}
 
 abbrev pub rows_read : Result (Vec Row Global) TableFault → Result (List Row) TableFault
 rows_read (Ok rows) = Ok rows.items
@@ -38,7 +38,7 @@ ReadsTable s text (Err (Line n kind)) = table_of s text ≡ Err (Line n kind)
 
 -- the names are those of the rows
 abbrev pub KeepsNames : Table → Type 0
-KeepsNames t = t.names ≡ names_of t.rows.items
+KeepsNames t = t.names ≡ row_names t.rows.items
 
 -- what a row's line, or want of memory, makes of the rows
 abbrev pub PutsRow : Result (Unit {0}) TableFault → Table → Result (List Row) TableFault → Type 0 → Type 0

@@ -16,8 +16,8 @@ use Rattle.be_load_files.specs.declared.faults.TableFault.TheVariants.{Line}
 use Rattle.be_load_files.specs.declared.faults.TableKind.TheVariants.{Twice}
 use Rattle.be_load_files.specs.Faults.{fault_at}
 
-abbrev pub names_of : List Row → List Text
-names_of rows = map (λ (row : Row). row.name) rows
+abbrev pub row_names : List Row → List Text
+row_names rows = map (λ (row : Row). row.name) rows
 
 -- the name and the condition behind the word `ROW`, or their first fault
 abbrev pub said_on : Attributes → Text → Result (Text × List Pred) ExprFault
@@ -30,15 +30,15 @@ next_row rows name conj = new_row (length rows) 0 name conj
 -- the rows with the next one, where none before it has its name
 abbrev pub with_next : ℕ → List Row → Text × List Pred → Result (List Row) TableFault
 with_next n rows said =
-    if is_among_texts said.0 (names_of rows) then Err (Line n Twice) else Ok (rows ++ next_row rows said.0 said.1 ∷ [])
+    if is_among_texts said.0 (row_names rows) then Err (Line n Twice) else Ok (rows ++ next_row rows said.0 said.1 ∷ [])
 
 abbrev pub with_said : ℕ → List Row → Result (Text × List Pred) ExprFault → Result (List Row) TableFault
 with_said n rows (Ok said) = with_next n rows said
 with_said n rows (Err fault) = Err (fault_at n fault)
 
 -- the rows after the line of this number, or its first kind of fault
-abbrev pub after_line : Attributes → ℕ → List Row → Text → Result (List Row) TableFault
-after_line s n rows line = if means_nothing line then Ok rows else with_said n rows (said_on s line)
+abbrev pub rows_after_line : Attributes → ℕ → List Row → Text → Result (List Row) TableFault
+rows_after_line s n rows line = if means_nothing line then Ok rows else with_said n rows (said_on s line)
 
 abbrev pub going_on : Result (List Row) TableFault → (List Row → Result (List Row) TableFault) → Result (List Row) TableFault
 going_on (Ok rows) rest = rest rows
@@ -47,7 +47,7 @@ going_on (Err fault) rest = Err fault
 -- the rows after these lines, or the first faulty line, where the first of them has this number
 abbrev pub table_from : Attributes → ℕ → List Row → List Text → Result (List Row) TableFault
 table_from s n rows [] = Ok rows
-table_from s n rows (line ∷ lines) = going_on (after_line s n rows line) (λ more. table_from s (n + 1) more lines)
+table_from s n rows (line ∷ lines) = going_on (rows_after_line s n rows line) (λ more. table_from s (n + 1) more lines)
 
 -- the rows that a text is, or its first fault
 abbrev pub table_of : Attributes → Text → Result (List Row) TableFault

@@ -14,7 +14,7 @@ use Rattle.be_change.specs.Walk.{Walk, beginning_at}
 use Rattle.be_published.specs.States.{GlassState}
 use Rattle.be_protocol.specs.Conduct.{is_sixteenth, TendsIf, Trace, RepliesSoFar, LeavesIf, Led, LedInPart, leading}
 use Rattle.be_protocol.specs.Conversation.{EndedByReply, ConversationEnds}
-use Rattle.be_protocol.specs.Ends.{end_after, goes_on, is_on, EndsBy}
+use Rattle.be_protocol.specs.Ends.{end_after, goes_on, has_not_ended, EndsBy}
 use Rattle.be_protocol.specs.Runs.{is_quit}
 use Rattle.be_protocol.specs.Transcript.{AnswersEach, requests}
 use Rattle.be_protocol.specs.declared.ends.SessionEnd.{SessionEnd}
@@ -113,13 +113,13 @@ left_so s false g g' same = same
 showed : (s : Attributes) (end : Option SessionEnd) (lines : List TextLine) (ps : List Exchange) (g g' : GlassState) → requests ps ≡ map (mirror_reading s) lines → EndsBy end ps → Trace (mirror_conduct s) 0 ps g g' → Showed s lines ps g g'
 showed s None lines ps g g' same on t = showed_by s false lines ps g g' same (shows_going s ps g g' on t)
 showed s (Some end) lines ps g g' same (front, last, is, on, by) t =
-    let pop = trace_pop (mirror_conduct s) front last g g' (ap is_on by) (subst (λ (xs : List Exchange). Trace (mirror_conduct s) 0 xs g g') is t) in
+    let pop = trace_pop (mirror_conduct s) front last g g' (ap has_not_ended by) (subst (λ (xs : List Exchange). Trace (mirror_conduct s) 0 xs g g') is t) in
     let all : Shows s (is_quit last.0) (front ++ last ∷ []) g g' = shows_on s front last g pop.0 g' (shows_going s front g pop.0 on pop.1) pop.2 in
     showed_by s (is_quit last.0) lines ps g g' same (subst (λ (xs : List Exchange). Shows s (is_quit last.0) xs g g') (sym is) all)
 
-led_showed : (s : Attributes) (end : Option SessionEnd) (lines : List TextLine) (ps : List Exchange) (g g' : GlassState) → requests ps ≡ map (mirror_reading s) lines → EndsBy end ps → Led (mirror_conduct s) (is_on end) ps g g' → Showed s lines ps g g'
+led_showed : (s : Attributes) (end : Option SessionEnd) (lines : List TextLine) (ps : List Exchange) (g g' : GlassState) → requests ps ≡ map (mirror_reading s) lines → EndsBy end ps → Led (mirror_conduct s) (has_not_ended end) ps g g' → Showed s lines ps g g'
 led_showed s end lines ps g g' same ends l =
-    subst (λ (x : GlassState). Showed s lines ps g x) (sym (left_so s (is_on end) l.last g' l.left)) (showed s end lines ps g l.last same ends l.trace)
+    subst (λ (x : GlassState). Showed s lines ps g x) (sym (left_so s (has_not_ended end) l.last g' l.left)) (showed s end lines ps g l.last same ends l.trace)
 
 -- a reply is whole as a value, however much of it was written
 so_far : (s : Attributes) (p : Exchange) (out : List ℕ) (g g' : GlassState) → RepliesSoFar (mirror_conduct s) p out g g' → ReadReplies s p g g'
@@ -129,7 +129,7 @@ so_far s p out g g' (inr part) = part
 cut_showed : (s : Attributes) (lines : List TextLine) (ps : List Exchange) (p : Exchange) (out : List ℕ) (g g' : GlassState) → requests (ps ++ p ∷ []) ≡ map (mirror_reading s) lines → EndsBy None ps → LedInPart (mirror_conduct s) ps p out g g' → Showed s lines (ps ++ p ∷ []) g g'
 cut_showed s lines ps p out g g' same on l =
     let last : ReadReplies s p l.before l.last = so_far s p l.part l.before l.last l.replies in
-    subst (λ (x : GlassState). Showed s lines (ps ++ p ∷ []) g x) (sym (left_so s (is_on (end_after p.0 p.1)) l.last g' l.left))
+    subst (λ (x : GlassState). Showed s lines (ps ++ p ∷ []) g x) (sym (left_so s (has_not_ended (end_after p.0 p.1)) l.last g' l.left))
     (showed_by s (is_quit p.0) lines (ps ++ p ∷ []) g l.last same (shows_on s ps p g l.before l.last (shows_going s ps g l.before on l.trace) last))
 
 -- no reply that ended the conversation tells two numbers that differ
@@ -144,7 +144,7 @@ ends_unsplit s g g' i j before after e = by e.replied.ends
     by : EndsBy (Some (ends.Split i j)) e.replied.exchanges → ⊥
     by (front, last, is, on, split_so) =
         let l = e.replied.legal in
-        let pop = trace_pop (mirror_conduct s) front last g l.last (ap is_on split_so) (subst (λ (xs : List Exchange). Trace (mirror_conduct s) 0 xs g l.last) is l.trace) in
+        let pop = trace_pop (mirror_conduct s) front last g l.last (ap has_not_ended split_so) (subst (λ (xs : List Exchange). Trace (mirror_conduct s) 0 xs g l.last) is l.trace) in
         not_so last pop.0 l.last pop.2 split_so
 
 -- what its exchanges made of the glass, however it ended

@@ -12,7 +12,7 @@ use Rattle.be_event.specs.declared.events.EventFault.{EventFault}
 use Rattle.be_event.specs.declared.events.EventFault.TheVariants as event
 use Rattle.be_event.specs.Events as events
 use Rattle.be_change.specs.Requests.{Request, refused, bad}
-use Rattle.be_protocol.specs.Readings.{Command, commands, commanded_by, request_of, commanded, subscription, of_event, asking_of, expr_refusal, event_refusal}
+use Rattle.be_protocol.specs.Readings.{Command, commands, commanded_by, request_of, commanded, subscription_asked, of_event, asking_of, expr_refusal, event_refusal}
 
 -- words that have no tokens ask nothing of these commands
 AskNothing : Attributes → List Command → Type 0
@@ -52,7 +52,7 @@ event_fault event.NoMemory read r other = absurd (other refl)
 
 -- a name and a condition with a fault
 pub faulty_subscription : (s : Attributes) (word_read name : Text) (ts : Option (List Lexeme)) (fault : ExprFault) → name_of word_read ≡ Ok name
-    → conditions.condition s ts ≡ Err fault → subscription s (put_token (word word_read) ts) ≡ refused (expr_refusal s fault)
+    → conditions.condition s ts ≡ Err fault → subscription_asked s (put_token (word word_read) ts) ≡ refused (expr_refusal s fault)
 faulty_subscription s word_read name None fault named read = ap (λ f. refused (expr_refusal s f)) (same_fault fault read)
   where
     same_fault : (f : ExprFault) → conditions.condition s None ≡ Err f → expr.Bad ≡ f

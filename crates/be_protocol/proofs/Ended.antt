@@ -14,7 +14,7 @@ use Rattle.be_model.specs.Schemas.{Attributes}
 use Rattle.be_change.specs.Requests.{Request, quit, Reply, split, Exchange}
 use Rattle.be_protocol.specs.Conduct.{Conduct, LeavesIf, leading, Refused}
 use Rattle.be_protocol.specs.Conversation.{Replied, NoWriteFailed, RefusedOnce, EndedByReply, BrokeOff, CutShort, ConversationEnds, KeepsBeside}
-use Rattle.be_protocol.specs.Ends.{end_after, is_on, end_of}
+use Rattle.be_protocol.specs.Ends.{end_after, has_not_ended, end_of}
 use Rattle.be_protocol.specs.Replies.{reply_text}
 use Rattle.be_protocol.specs.Transcript.{texts, OutputBroke}
 use Rattle.be_protocol.specs.Turns.{TurnState, TakesAlike, TookLine, TookBreak, IsSilent, Turned, StopsAt, BrokeOffAt, GivenOn, LinesGoOn, IsGoingOn}
@@ -85,7 +85,7 @@ module _ {S : Type 0} (U : Type 0) (m : Conduct S) (link : LinkState) (a : S) (b
           asked = one.asked;
           written = written_with m link a before after g (m.asks line) (Some end) w;
           ends = (g.ps, p, refl, g.on, w.ends);
-          legal = record { last = after.state; trace = trace_ended m g.ps p a before.state after.state (ap is_on w.ends) g.trace w.replies; left = still };
+          legal = record { last = after.state; trace = trace_ended m g.ps p a before.state after.state (ap has_not_ended w.ends) g.trace w.replies; left = still };
         };
       }
 
@@ -94,7 +94,7 @@ module _ {S : Type 0} (U : Type 0) (m : Conduct S) (link : LinkState) (a : S) (b
   refused_since (inr e) = inr (e ∙ g.unrefused)
 
   -- the output broke off at a reply
-  cut_short : (fault : SinkFault) (by : Option SessionEnd) (line : TextLine) → TookLine before after line → BrokeOffAt m (m.asks line) by fault before.state after.state before.link.sink after.link.sink → LeavesIf m (is_on by) after.state d
+  cut_short : (fault : SinkFault) (by : Option SessionEnd) (line : TextLine) → TookLine before after line → BrokeOffAt m (m.asks line) by fault before.state after.state before.link.sink after.link.sink → LeavesIf m (has_not_ended by) after.state d
       → CutShort (leading m a d) link after.link
   cut_short fault by line took c leaves =
       let p : Exchange = (m.asks line, c.reply) in
@@ -119,7 +119,7 @@ module _ {S : Type 0} (U : Type 0) (m : Conduct S) (link : LinkState) (a : S) (b
             is_out = refl;
             last = after.state;
             replies = c.replies;
-            left = subst (λ (o : Option SessionEnd). LeavesIf m (is_on o) after.state d) (sym c.ends) leaves;
+            left = subst (λ (o : Option SessionEnd). LeavesIf m (has_not_ended o) after.state d) (sym c.ends) leaves;
           };
         };
       }
@@ -176,7 +176,7 @@ module _ {S : Type 0} (U : Type 0) (m : Conduct S) (link : LinkState) (a : S) (b
   by_fault NoMemory r c = inr (r, c)
 
   -- the output broke off, and the replier left where the reply didn't end the conversation
-  pub ended_cut : (turn : Turn) (fault : SinkFault) (end : SessionEnd) → Turned (GivenOn m before after) before after (Ok turn) → turn.written ≡ Err fault → LeavesIf m (is_on turn.by) after.state d → end ≡ end_of fault
+  pub ended_cut : (turn : Turn) (fault : SinkFault) (end : SessionEnd) → Turned (GivenOn m before after) before after (Ok turn) → turn.written ≡ Err fault → LeavesIf m (has_not_ended turn.by) after.state d → end ≡ end_of fault
       → ConversationEnds U (leading m a d) link after.link end
   ended_cut turn fault end (line, took, given) wrote leaves is =
       let c : GivenOn m before after line (record { by = turn.by; written = Err fault }) = subst (GivenOn m before after line) (turn_is turn turn.by (Err fault) refl wrote) given in

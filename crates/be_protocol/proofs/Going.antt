@@ -15,7 +15,7 @@ use Rattle.be_model.specs.Schemas.{Attributes}
 use Rattle.be_change.specs.Requests.{Request, Reply, Exchange}
 use Rattle.be_protocol.specs.Conduct.{Conduct, is_sixteenth, TendsIf, Trace, RepliedTo}
 use Rattle.be_protocol.specs.Conversation.{TakesWithin}
-use Rattle.be_protocol.specs.Ends.{is_on, goes_on}
+use Rattle.be_protocol.specs.Ends.{has_not_ended, goes_on}
 use Rattle.be_protocol.specs.Replies.{reply_text}
 use Rattle.be_protocol.specs.Transcript.{requests, texts}
 use Rattle.be_protocol.specs.Turns.{TurnState, IsReading, TakesAlike, TookLine, Turned, GivenOn, new_reader, LinesGoOn, IsGoingOn}
@@ -89,9 +89,9 @@ going_on m link a before after d n turn i (line, took, given) goes wrote t tends
     let more : IsGoingOn m link a (record after { state = d }) = record {
       ps = g.ps ++ p ∷ [];
       done = g.done ++ line ∷ [];
-      trace = trace_tended m g.ps p a before.state after.state d g.trace w.replies (due_so p (length g.ps) (ap is_on w.ends) (sym i.lines ∙ as_many m link a before g));
+      trace = trace_tended m g.ps p a before.state after.state d g.trace w.replies (due_so p (length g.ps) (ap has_not_ended w.ends) (sym i.lines ∙ as_many m link a before g));
       asked = one.asked;
-      on = list_all-append goes_on g.ps (p ∷ []) ∙ rw (g.on, ap is_on w.ends) refl;
+      on = list_all-append goes_on g.ps (p ∷ []) ∙ rw (g.on, ap has_not_ended w.ends) refl;
       written = written_with m link a before after g (m.asks line) None w;
       quiet = w.faults ∙ g.quiet;
       unrefused = w.refusals ∙ g.unrefused;

@@ -10,13 +10,13 @@ use Rattle.be_model.specs.ByIds.{ByIds, rows_of}
 use Rattle.be_model.specs.Schemas.{Attributes}
 use Rattle.be_change.specs.History.{names_of}
 use Rattle.be_change.specs.Requests.{Reply}
-use Rattle.be_protocol.specs.Replies.{first_lines, last_line, with_lf, reply_text}
+use Rattle.be_protocol.specs.Replies.{first_lines, closing_line, with_lf, reply_text}
 use Rattle.be_protocol.specs.Texts.{names_in}
 
 -- the first lines, and behind them the last
-pub reply_parts : (s : Attributes) (r : Reply) → reply_text s r ≡ flat_map with_lf (first_lines s r) ++ with_lf (last_line r)
+pub reply_parts : (s : Attributes) (r : Reply) → reply_text s r ≡ flat_map with_lf (first_lines s r) ++ with_lf (closing_line r)
 reply_parts s r =
-    flat_map-append with_lf (first_lines s r) (last_line r ∷ []) ∙ ap (λ (t : Text). flat_map with_lf (first_lines s r) ++ t) (append-nil (with_lf (last_line r)))
+    flat_map-append with_lf (first_lines s r) (closing_line r ∷ []) ∙ ap (λ (t : Text). flat_map with_lf (first_lines s r) ++ t) (append-nil (with_lf (closing_line r)))
 
 -- the names of rows by their ids
 pub names_in-rows_of : (l : ByIds) → names_in (rows_of l) ≡ names_of l

@@ -3,7 +3,7 @@ use Rattle.std.proofs.Common.{◌≡◌, List, [], ◌++◌, refl, ap, ◌∙◌
 use Rattle.std.specs.List.{flat_map}
 use Rattle.be_base.specs.Text.{Text}
 use Rattle.be_model.specs.Schemas.{Attributes}
-use Rattle.be_protocol.specs.Replies.{first_lines, last_line, with_lf, reply_text}
+use Rattle.be_protocol.specs.Replies.{first_lines, closing_line, with_lf, reply_text}
 use Rattle.be_protocol.specs.declared.short.Short.{Short}
 use Rattle.be_protocol.specs.declared.short.Short.TheVariants.{Ok, Held, Bye, Dup, NoName, Other, Costs, Sent, Split, Refused, NoMemory, Shut}
 use Rattle.be_protocol.specs.Short.{plain_reply}
@@ -24,6 +24,6 @@ none_before s NoMemory = refl
 none_before s Shut = refl
 
 -- a short reply is its last line alone
-pub one_line : (s : Attributes) (reply : Short) → reply_text s (plain_reply reply) ≡ with_lf (last_line (plain_reply reply))
+pub one_line : (s : Attributes) (reply : Short) → reply_text s (plain_reply reply) ≡ with_lf (closing_line (plain_reply reply))
 one_line s reply =
-    reply_parts s (plain_reply reply) ∙ ap (λ (ls : List Text). flat_map with_lf ls ++ with_lf (last_line (plain_reply reply))) (none_before s reply)
+    reply_parts s (plain_reply reply) ∙ ap (λ (ls : List Text). flat_map with_lf ls ++ with_lf (closing_line (plain_reply reply))) (none_before s reply)

@@ -13,7 +13,7 @@ use Rattle.be_protocol.specs.Replies.{reply_text}
 use Rattle.be_protocol.specs.Transcript.{texts}
 use Rattle.be_protocol.specs.declared.ends.SessionEnd.{SessionEnd}
 use Rattle.be_protocol.specs.Conversation.{Terms, RefusedOnce}
-use Rattle.be_protocol.specs.Ends.{end_after, is_on, goes_on}
+use Rattle.be_protocol.specs.Ends.{end_after, has_not_ended, goes_on}
 use Rattle.be_protocol.specs.declared.conversing.TheConstants.{REPLIES_TENDED}
 
 -- what answers lines, over its state
@@ -75,14 +75,14 @@ pub record LedInPart {S : Type 0} (m : Conduct S) (ps : List Exchange) (p : Exch
   pub is_out : out ≡ texts m.schema ps ++ part
   pub last : S
   pub replies : RepliesSoFar m p part before last
-  pub left : LeavesIf m (is_on (end_after p.0 p.1)) last d
+  pub left : LeavesIf m (has_not_ended (end_after p.0 p.1)) last d
 
 -- the exchanges of a conversation lead from the one state to the other
 abbrev pub leading : {S : Type 0} → Conduct S → S → S → Terms
 leading m a d = record {
   schema = m.schema;
   asks = m.asks;
-  Whole = λ end lines ps. Led m (is_on end) ps a d;
+  Whole = λ end lines ps. Led m (has_not_ended end) ps a d;
   InPart = λ lines ps p out. LedInPart m ps p out a d;
 }
 

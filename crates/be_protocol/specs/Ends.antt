@@ -13,13 +13,13 @@ end_after r (split a b) = Some (Split a b)
 end_after quit reply = Some Quit
 end_after r reply = None
 
-abbrev pub is_on : Option SessionEnd → Bool
-is_on None = true
-is_on (Some end) = false
+abbrev pub has_not_ended : Option SessionEnd → Bool
+has_not_ended None = true
+has_not_ended (Some end) = false
 
 -- the session goes on after this exchange
 abbrev pub goes_on : Exchange → Bool
-goes_on p = is_on (end_after p.0 p.1)
+goes_on p = has_not_ended (end_after p.0 p.1)
 
 -- none of these replies ended the session, or the last one did so
 abbrev pub EndsBy : Option SessionEnd → List Exchange → Type 0

@@ -35,22 +35,22 @@ event_refusal s (event.Twice a) = given_twice (name_at s a)
 event_refusal s (event.Many count) = too_many count
 event_refusal s event.NoMemory = bad
 
-abbrev pub subscribing : Attributes → Result (Text × List Pred) ExprFault → Request
-subscribing s (Ok read) = subscribe read.0 read.1
-subscribing s (Err fault) = refused (expr_refusal s fault)
+abbrev pub subscribe_or_refused : Attributes → Result (Text × List Pred) ExprFault → Request
+subscribe_or_refused s (Ok read) = subscribe read.0 read.1
+subscribe_or_refused s (Err fault) = refused (expr_refusal s fault)
 
 -- a name and a condition
-abbrev pub subscription : Attributes → Option (List Lexeme) → Request
-subscription s ts = subscribing s (named s ts)
+abbrev pub subscription_asked : Attributes → Option (List Lexeme) → Request
+subscription_asked s ts = subscribe_or_refused s (named s ts)
 
-abbrev pub unsubscribing : Result Text NameFault → Request
-unsubscribing (Ok name) = unsubscribe name
-unsubscribing (Err fault) = refused bad
+abbrev pub unsubscribe_or_refused : Result Text NameFault → Request
+unsubscribe_or_refused (Ok name) = unsubscribe name
+unsubscribe_or_refused (Err fault) = refused bad
 
 -- a name alone
-abbrev pub removal : Option (List Lexeme) → Request
-removal (Some (word name ∷ [])) = unsubscribing (name_of name)
-removal _ = refused bad
+abbrev pub removal_asked : Option (List Lexeme) → Request
+removal_asked (Some (word name ∷ [])) = unsubscribe_or_refused (name_of name)
+removal_asked _ = refused bad
 
 abbrev pub asking_of : (Assignments → Request) → Attributes → Result Assignments EventFault → Request
 asking_of ask s (Ok e) = ask e
@@ -99,8 +99,8 @@ command name asks = record { name = name; asks = asks }
 -- the commands of a session's lines
 abbrev pub commands : List Command
 commands =
-    command (codes "SUB") subscription
-    ∷ command (codes "UNSUB") (λ s. removal)
+    command (codes "SUB") subscription_asked
+    ∷ command (codes "UNSUB") (λ s. removal_asked)
     ∷ command (codes "PUB") (of_event publish)
     ∷ command (codes "COST") (of_event costing)
     ∷ command (codes "LIST") (λ s. alone listing)

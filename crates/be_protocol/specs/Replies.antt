@@ -40,24 +40,24 @@ change_lines s place [] = []
 change_lines s place (e ∷ es) = (codes "AT" ++ number place ++ part (change_text s e)) ∷ change_lines s (place + 1) es
 
 -- the last line of a reply, which for most is all of it
-abbrev pub last_line : Reply → Text
-last_line (refusal r) = refusal_line r
-last_line (ok n) = codes "OK" ++ number n
-last_line (held n) = codes "HELD" ++ number n
-last_line (bye n) = codes "BYE" ++ number n
-last_line (dup m id) = codes "DUP" ++ number m ++ number id
-last_line (none m) = codes "NONE" ++ number m
-last_line (other m id) = codes "OTHER" ++ number m ++ number id
-last_line (hit n names) = codes "HIT" ++ number n ++ number (length names) ++ names_text names
-last_line (cost n c) = codes "COST" ++ number n ++ number c.visits ++ number c.tested
-last_line (listed n names) = codes "LIST" ++ number n ++ number (length names) ++ names_text names
-last_line (sent n put dropped) = codes "SENT" ++ number n ++ number put ++ number dropped
-last_line (notes letters) = codes "END" ++ number (length letters)
-last_line (dumped n rows) = codes "# DUMP" ++ number n ++ number (length rows)
-last_line (tailed n place entries) = codes "TAILED" ++ number n ++ number (length entries)
-last_line (split a b) = codes "SPLIT" ++ number a ++ number b
-last_line no_memory = codes "NOMEM"
-last_line shut = codes "SHUT"
+abbrev pub closing_line : Reply → Text
+closing_line (refusal r) = refusal_line r
+closing_line (ok n) = codes "OK" ++ number n
+closing_line (held n) = codes "HELD" ++ number n
+closing_line (bye n) = codes "BYE" ++ number n
+closing_line (dup m id) = codes "DUP" ++ number m ++ number id
+closing_line (none m) = codes "NONE" ++ number m
+closing_line (other m id) = codes "OTHER" ++ number m ++ number id
+closing_line (hit n names) = codes "HIT" ++ number n ++ number (length names) ++ names_text names
+closing_line (cost n c) = codes "COST" ++ number n ++ number c.visits ++ number c.tested
+closing_line (listed n names) = codes "LIST" ++ number n ++ number (length names) ++ names_text names
+closing_line (sent n put dropped) = codes "SENT" ++ number n ++ number put ++ number dropped
+closing_line (notes letters) = codes "END" ++ number (length letters)
+closing_line (dumped n rows) = codes "# DUMP" ++ number n ++ number (length rows)
+closing_line (tailed n place entries) = codes "TAILED" ++ number n ++ number (length entries)
+closing_line (split a b) = codes "SPLIT" ++ number a ++ number b
+closing_line no_memory = codes "NOMEM"
+closing_line shut = codes "SHUT"
 
 -- the lines before it
 abbrev pub first_lines : Attributes → Reply → List Text
@@ -67,7 +67,7 @@ first_lines s (tailed n place entries) = change_lines s place entries
 first_lines s _ = []
 
 abbrev pub reply_lines : Attributes → Reply → List Text
-reply_lines s r = first_lines s r ++ last_line r ∷ []
+reply_lines s r = first_lines s r ++ closing_line r ∷ []
 
 abbrev pub with_lf : Text → Text
 with_lf line = line ++ 10 ∷ []

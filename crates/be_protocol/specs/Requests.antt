@@ -6,7 +6,7 @@ use Rattle.be_change.specs.Requests as asked
 use Rattle.be_model.specs.Lies.{conj_lies, event_lies}
 use Rattle.be_model.specs.Matching.{Assignments}
 use Rattle.be_model.specs.Schemas.{Attributes}
-use Rattle.be_protocol.specs.Readings.{subscription, removal, of_event, fetch, tail, alone}
+use Rattle.be_protocol.specs.Readings.{subscription_asked, removal_asked, of_event, fetch, tail, alone}
 use Rattle.be_protocol.specs.declared.requests.Command.{Command}
 use Rattle.be_protocol.specs.declared.requests.Command.TheVariants as command
 use Rattle.be_protocol.specs.declared.requests.Refusal.{Refusal}
@@ -45,8 +45,8 @@ asks event.Send = asked.sending
 
 -- what the words after a command ask for
 abbrev pub asked_by : Command → Attributes → Option (List Lexeme) → asked.Request
-asked_by command.Sub s ts = subscription s ts
-asked_by command.Unsub s ts = removal ts
+asked_by command.Sub s ts = subscription_asked s ts
+asked_by command.Unsub s ts = removal_asked ts
 asked_by (command.OfEvent c) s ts = of_event (asks c) s ts
 asked_by command.List s ts = alone asked.listing ts
 asked_by command.Fetch s ts = fetch ts

@@ -7,7 +7,7 @@ ghost use Rattle.be_io.specs.Outside.{link_state, sink_state};
 ghost use Rattle.be_io.specs.Lines.{has_lf};
 ghost use Rattle.be_protocol.specs.Conduct.{GivesReply, is_sixteenth, leading, LeavesIf, TendsIf};
 ghost use Rattle.be_protocol.specs.Conversation.{ConversationEnds, TakesWithin, KeepsBeside};
-ghost use Rattle.be_protocol.specs.Ends.{is_on};
+ghost use Rattle.be_protocol.specs.Ends.{has_not_ended};
 ghost use Rattle.be_protocol.specs.Turns.{TurnState, IsReading, TakesAlike, Turned, Given, GivenOn, HandsOver, is_due};
 
 use crate::ends::{SessionEnd, end_of};
@@ -93,7 +93,7 @@ pub fn converse<A: Replier, L: Link, G: Gate>(
 // Leaves, unless the last reply ends the conversation so.
 fn leave_unless<A: Replier>(replier: &mut A, by: Option<SessionEnd>)
     requires ready { by ≡ None → A.IsReady replier.old }
-    ensures leaves { LeavesIf (A.conduct (A.kept replier.old).schema) (is_on by) (A.state replier.old) (A.state replier.new) }
+    ensures leaves { LeavesIf (A.conduct (A.kept replier.old).schema) (has_not_ended by) (A.state replier.old) (A.state replier.new) }
     ensures kept { A.kept replier.new ≡ A.kept replier.old }
 {
     if by.is_none() {

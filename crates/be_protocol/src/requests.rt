@@ -7,7 +7,7 @@ ghost use Rattle.be_base.specs.Numbers.{count_of};
 ghost use Rattle.be_base.specs.Tokens.{Lexeme, word, tokens, put_token};
 ghost use Rattle.be_io.specs.Lines as line;
 ghost use Rattle.be_change.specs.Requests as asked;
-ghost use Rattle.be_protocol.specs.Readings.{reading, commanded, subscription, removal, of_event, fetch, tail, number_asked, alone, expr_refusal, event_refusal};
+ghost use Rattle.be_protocol.specs.Readings.{reading, commanded, subscription_asked, removal_asked, of_event, fetch, tail, number_asked, alone, expr_refusal, event_refusal};
 ghost use Rattle.be_expr.specs.Expressions.{IsKnown as IsKnownExpr};
 ghost use Rattle.be_event.specs.Events.{IsKnown as IsKnownEvent};
 ghost use Rattle.be_protocol.specs.Requests.{Reads, asks, asked_by, asked_in, asks_nothing, plain_request, request_lies, Refuses};
@@ -166,7 +166,7 @@ fn read_end(request: Request, rest: &[u8]) -> Request
 
 // A name, and no token after it.
 fn read_removal(text: &[u8]) -> Request
-    ensures read { plain_request result ≡ removal (tokens text.now) }
+    ensures read { plain_request result ≡ removal_asked (tokens text.now) }
     ensures free { asks_nothing result ≡ true }
 {
     let Scan::Found(Token::Word(name), rest) = next_token(text) else {
@@ -218,7 +218,7 @@ fn read_asked(word: &[u8]) -> Option<u64>
 }
 
 fn read_subscription(alloc: Global, schema: &Schema, text: &[u8]) -> Result<Request, NoMemory>
-    ensures read { Reads result (subscription schema.now (tokens text.now)) }
+    ensures read { Reads result (subscription_asked schema.now (tokens text.now)) }
     ensures lies { IfOk result (λ request. request_lies schema.now request ≡ true) }
 {
     let Scan::Found(Token::Word(name), rest) = next_token(text) else {

@@ -2,7 +2,7 @@
 
 ghost use Rattle.std.specs.Prelude.{◌≡◌, ◌+◌, ◌≤◌, ◌++◌, ◌∷◌, [], length, codes};
 ghost use Rattle.be_model.specs.Schemas.{Attributes};
-ghost use Rattle.be_protocol.specs.Replies.{part, number, refusal_line, last_line, with_lf, reply_text};
+ghost use Rattle.be_protocol.specs.Replies.{part, number, refusal_line, closing_line, with_lf, reply_text};
 ghost use Rattle.be_protocol.specs.Requests.{plain_refusal};
 ghost use Rattle.be_protocol.specs.Short.{plain_reply};
 
@@ -45,7 +45,7 @@ impl Short {
 
     // The reply without its LF.
     fn line(self) -> ShortText
-        ensures exact { result.bytes ≡ last_line (plain_reply self) }
+        ensures exact { result.bytes ≡ closing_line (plain_reply self) }
         ensures short { length result.bytes ≤ 95 }
     {
         let mut text = ShortText::new();

@@ -9,7 +9,7 @@ use Rattle.be_change.specs.History.{is_opening}
 use Rattle.be_change.specs.Opening.{opening_of, subs_of}
 use Rattle.be_change.specs.Requests.{Exchange}
 use Rattle.be_protocol.specs.Conversation.{ConversationEnds}
-use Rattle.be_protocol.specs.Ends.{end_after, is_on, goes_on, EndsBy}
+use Rattle.be_protocol.specs.Ends.{end_after, has_not_ended, goes_on, EndsBy}
 use Rattle.be_protocol.specs.Readings.{reading}
 use Rattle.be_protocol.specs.Runs.{AreRun, is_opened, comes_in_run}
 use Rattle.be_protocol.specs.Transcript.{requests}
@@ -42,7 +42,7 @@ are_run s rows on ls ps b' r = record {
 }
 
 -- where a last reply ended the session the last line alone is a QUIT, and else none is
-quits_by_last : (s : Attributes) (ls : List TextLine) (ps : List Exchange) (p : Exchange) → requests (ps ++ p ∷ []) ≡ map (reading s) ls → list_all goes_on ps ≡ true → Last p → QuitsAtEnd (is_on (end_after p.0 p.1)) s ls
+quits_by_last : (s : Attributes) (ls : List TextLine) (ps : List Exchange) (p : Exchange) → requests (ps ++ p ∷ []) ≡ map (reading s) ls → list_all goes_on ps ≡ true → Last p → QuitsAtEnd (has_not_ended (end_after p.0 p.1)) s ls
 quits_by_last s ls ps p asked on (quits is off) = subst (λ (o : Bool). QuitsAtEnd o s ls) (sym off) (ends_with_quit s ls ps p asked on is)
 quits_by_last s ls ps p asked on (stays is still) = subst (λ (o : Bool). QuitsAtEnd o s ls) (sym still) (still_no_quit s ls ps p asked on is)
 
@@ -54,22 +54,22 @@ module _ (s : Attributes) (rows : List Row) (b' : BoardState) (alone : BeginsAlo
   last_so : (on : Bool) (ls : List TextLine) (ps : List Exchange) (p : Exchange) → RanOver s on ls (ps ++ p ∷ []) (opened_state s rows) b' → Last p
   last_so on ls ps p ran = last_of opened p (last_comes opened ps p ran.replies.plain)
 
-  quits_whole : (end : Option SessionEnd) (ls : List TextLine) (ps : List Exchange) → requests ps ≡ map (reading s) ls → EndsBy end ps → RanOver s (is_on end) ls ps (opened_state s rows) b' → QuitsAtEnd (is_on end) s ls
+  quits_whole : (end : Option SessionEnd) (ls : List TextLine) (ps : List Exchange) → requests ps ≡ map (reading s) ls → EndsBy end ps → RanOver s (has_not_ended end) ls ps (opened_state s rows) b' → QuitsAtEnd (has_not_ended end) s ls
   quits_whole None ls ps asked on ran = has_no_quit s ls ps asked on
   quits_whole (Some end) ls ps asked (front, last, is, on, by) ran =
       let ran' = subst (λ (xs : List Exchange). RanOver s false ls xs (opened_state s rows) b') is ran in
       let asked' = subst (λ (xs : List Exchange). requests xs ≡ map (reading s) ls) is asked in
-      subst (λ (o : Option SessionEnd). QuitsAtEnd (is_on o) s ls) by (quits_by_last s ls front last asked' on (last_so false ls front last ran'))
+      subst (λ (o : Option SessionEnd). QuitsAtEnd (has_not_ended o) s ls) by (quits_by_last s ls front last asked' on (last_so false ls front last ran'))
 
-  whole : (end : Option SessionEnd) (ls : List TextLine) (ps : List Exchange) → requests ps ≡ map (reading s) ls → EndsBy end ps → Upheld s (is_on end) ls ps (opened_state s rows) b'
+  whole : (end : Option SessionEnd) (ls : List TextLine) (ps : List Exchange) → requests ps ≡ map (reading s) ls → EndsBy end ps → Upheld s (has_not_ended end) ls ps (opened_state s rows) b'
       → (run_terms s (opening_of rows)).Whole end ls ps
-  whole end ls ps asked ends u = (are_run s rows (is_on end) ls ps b' (u.alone alone), quits_whole end ls ps asked ends (u.alone alone))
+  whole end ls ps asked ends u = (are_run s rows (has_not_ended end) ls ps b' (u.alone alone), quits_whole end ls ps asked ends (u.alone alone))
 
   in_part : (ls : List TextLine) (ps : List Exchange) (p : Exchange) (out : List ℕ) → requests (ps ++ p ∷ []) ≡ map (reading s) ls → EndsBy None ps → UpheldInPart s ls ps p out (opened_state s rows) b'
       → (run_terms s (opening_of rows)).InPart ls ps p out
   in_part ls ps p out asked on u =
       let ran = u.alone alone in
-      (are_run s rows (is_on (end_after p.0 p.1)) ls (ps ++ p ∷ []) b' ran, quits_by_last s ls ps p asked on (last_so (is_on (end_after p.0 p.1)) ls ps p ran))
+      (are_run s rows (has_not_ended (end_after p.0 p.1)) ls (ps ++ p ∷ []) b' ran, quits_by_last s ls ps p asked on (last_so (has_not_ended (end_after p.0 p.1)) ls ps p ran))
 
   -- the session of a run
   pub session_runs : (Kept Untouched : Type 0) (before after : LinkState) (end : SessionEnd) → (Kept → Untouched) → SessionEnds Kept s before after (opened_state s rows) b' end

@@ -13,7 +13,7 @@ use Rattle.be_change.specs.History.{Entry, subscribed, live, live_from, is_leave
 use Rattle.be_change.specs.Made.{row_made, change_named}
 use Rattle.be_change.specs.Requests.{subscribe}
 use Rattle.be_change.specs.Walk.{live_rows}
-use Rattle.be_workload.specs.Asked.{name_of_sub, subscribing, publishing}
+use Rattle.be_workload.specs.Asked.{name_of_sub, subscriptions_to, publishing}
 use Rattle.be_board.specs.LocalCopy.{local_word}
 use Rattle.be_board.specs.Word.{own_of, own_in}
 use Rattle.be_server.specs.Sums.{rows_subscribed, published, costed}
@@ -104,7 +104,7 @@ no_rows place [] = refl
 no_rows place (e ∷ es) = no_rows place es
 
 -- the rows of a script are those of its subscriptions
-pub rows-script : (place : ℕ) (conjs : List (List Pred)) (es : List Assignments) → rows_subscribed place (subscribing place conjs ++ publishing es) ≡ rows_made place conjs
+pub rows-script : (place : ℕ) (conjs : List (List Pred)) (es : List Assignments) → rows_subscribed place (subscriptions_to place conjs ++ publishing es) ≡ rows_made place conjs
 rows-script place [] es = no_rows place es
 rows-script place (conj ∷ conjs) es = ap (λ (rows : List Row). row_made 1 place (name_of_sub place) conj ∷ rows) (rows-script (place + 1) conjs es)
 
@@ -117,10 +117,10 @@ costed-events [] = refl
 costed-events (e ∷ es) = ap (λ (xs : List Assignments). e ∷ xs) (costed-events es)
 
 -- and its events are those that are published, and asked for
-pub published-script : (place : ℕ) (conjs : List (List Pred)) (es : List Assignments) → published (subscribing place conjs ++ publishing es) ≡ es
+pub published-script : (place : ℕ) (conjs : List (List Pred)) (es : List Assignments) → published (subscriptions_to place conjs ++ publishing es) ≡ es
 published-script place [] es = published-events es
 published-script place (conj ∷ conjs) es = published-script (place + 1) conjs es
 
-pub costed-script : (place : ℕ) (conjs : List (List Pred)) (es : List Assignments) → costed (subscribing place conjs ++ publishing es) ≡ es
+pub costed-script : (place : ℕ) (conjs : List (List Pred)) (es : List Assignments) → costed (subscriptions_to place conjs ++ publishing es) ≡ es
 costed-script place [] es = costed-events es
 costed-script place (conj ∷ conjs) es = costed-script (place + 1) conjs es

@@ -17,7 +17,7 @@ use Rattle.be_change.specs.Walk.{live_rows}
 use Rattle.be_protocol.specs.Readings.{reading}
 use Rattle.be_board.specs.LocalCopy.{local_word}
 use Rattle.be_board.specs.Word.{own_in}
-use Rattle.be_workload.specs.Asked.{schema, asked_by_lines, name_of_sub, subscribing, publishing, IsOfSchema, AreRequests}
+use Rattle.be_workload.specs.Asked.{schema, asked_by_lines, name_of_sub, subscriptions_to, publishing, IsOfSchema, AreRequests}
 use Rattle.be_server.specs.declared.sums.Sums.{Sums}
 use Rattle.be_server.specs.Sums.{published, costed, no_script_sums, MayCount, CountsRequest, AreScriptSums, IsCountableScript, rows_subscribed}
 use Rattle.be_server.proofs.ScriptLists.{list_of, rows_made, length-list_of, length-rows_made, list_of-snoc, live_rows-list_of, name_is_new, list_goes_on, serial-list_of, rows-script, published-events, costed-events, published-script, costed-script}
@@ -37,7 +37,7 @@ AreEventRequests (r ∷ rs) = IsEventRequest r × AreEventRequests rs
 pub record Serving (requests : List Request) (list : List Entry) (left : List Request) (sums : Sums) : Type 0 where
   pub conjs : List (List Pred)
   pub events : List Assignments
-  pub each : requests ≡ subscribing 0 conjs ++ publishing events
+  pub each : requests ≡ subscriptions_to 0 conjs ++ publishing events
   pub few_conjs : length conjs ≤ GENERATED_SUBSCRIPTIONS
   pub few_events : length events ≤ GENERATED_EVENTS
   -- the subscriptions that were made, and those that are left
@@ -51,7 +51,7 @@ pub record Serving (requests : List Request) (list : List Entry) (left : List Re
   pub are_events : AreEventRequests todo
   pub first : (unsubbed ≡ []) ⊎ (done ≡ [])
   pub list_is : list ≡ list_of 0 subbed
-  pub left_is : left ≡ subscribing (length subbed) unsubbed ++ todo
+  pub left_is : left ≡ subscriptions_to (length subbed) unsubbed ++ todo
   pub tally : Tallies (rows_made 0 conjs) (published done) (costed done) sums
 
 all_events : (es : List Assignments) → All IsOfSchema es → AreEventRequests (publishing es)
@@ -118,20 +118,20 @@ few_rows requests left list sums k = omega (arith, length-rows_made 0 k.conjs, k
 -- what comes next: a subscription, or the line of an event after all subscriptions
 data Next (requests : List Request) (list : List Entry) (sums : Sums) (r : Request) (rest : List Request) (k : Serving requests list (r ∷ rest) sums) : Type 0 where
   next_sub : (conj : List Pred) (conjs : List (List Pred)) → k.unsubbed ≡ conj ∷ conjs → k.done ≡ [] → r ≡ subscribe (name_of_sub (length k.subbed)) conj
-      → rest ≡ subscribing (length k.subbed + 1) conjs ++ k.todo → Next requests list sums r rest k
+      → rest ≡ subscriptions_to (length k.subbed + 1) conjs ++ k.todo → Next requests list sums r rest k
   next_event : k.unsubbed ≡ [] → k.todo ≡ r ∷ rest → IsEventRequest r → AreEventRequests rest → Next requests list sums r rest k
 
 next_in : (requests : List Request) (list : List Entry) (sums : Sums) (r : Request) (rest : List Request) (k : Serving requests list (r ∷ rest) sums)
     (unsubbed : List (List Pred)) → k.unsubbed ≡ unsubbed → Next requests list sums r rest k
 next_in requests list sums r rest k [] none =
-    let all : r ∷ rest ≡ k.todo = k.left_is ∙ ap (λ (cs : List (List Pred)). subscribing (length k.subbed) cs ++ k.todo) none in
+    let all : r ∷ rest ≡ k.todo = k.left_is ∙ ap (λ (cs : List (List Pred)). subscriptions_to (length k.subbed) cs ++ k.todo) none in
     let are = subst AreEventRequests (sym all) k.are_events in
     next_event none (sym all) are.0 are.1
 next_in requests list sums r rest k (conj ∷ conjs) some =
-    let all : r ∷ rest ≡ subscribe (name_of_sub (length k.subbed)) conj ∷ (subscribing (length k.subbed + 1) conjs ++ k.todo) =
-    k.left_is ∙ ap (λ (cs : List (List Pred)). subscribing (length k.subbed) cs ++ k.todo) some in
+    let all : r ∷ rest ≡ subscribe (name_of_sub (length k.subbed)) conj ∷ (subscriptions_to (length k.subbed + 1) conjs ++ k.todo) =
+    k.left_is ∙ ap (λ (cs : List (List Pred)). subscriptions_to (length k.subbed) cs ++ k.todo) some in
     let is : r ≡ subscribe (name_of_sub (length k.subbed)) conj = cc in
-    let later : rest ≡ subscribing (length k.subbed + 1) conjs ++ k.todo = cc in
+    let later : rest ≡ subscriptions_to (length k.subbed + 1) conjs ++ k.todo = cc in
     next_sub conj conjs some (none_done k.first) is later
   where
     none_done : (k.unsubbed ≡ []) ⊎ (k.done ≡ []) → k.done ≡ []
@@ -171,7 +171,7 @@ zero_left n = omega arith
 
 -- a subscription was made
 sub_step : (requests : List Request) (list : List Entry) (sums : Sums) (r : Request) (rest : List Request) (k : Serving requests list (r ∷ rest) sums) (after : List Entry) (counted : Sums)
-    (conj : List Pred) (conjs : List (List Pred)) → k.unsubbed ≡ conj ∷ conjs → k.done ≡ [] → rest ≡ subscribing (length k.subbed + 1) conjs ++ k.todo
+    (conj : List Pred) (conjs : List (List Pred)) → k.unsubbed ≡ conj ∷ conjs → k.done ≡ [] → rest ≡ subscriptions_to (length k.subbed + 1) conjs ++ k.todo
     → CountsRequest schema (subscribe (name_of_sub (length k.subbed)) conj) list sums after counted → Serving requests after rest counted
 sub_step requests list sums r rest k after counted conj conjs some none later c =
     let n = length k.subbed in
@@ -196,7 +196,7 @@ sub_step requests list sums r rest k after counted conj conjs some none later c 
           ∙ ap (λ (m : ℕ). list_of 0 k.subbed ++ change_named 1 n m (subscribe (name_of_sub n) conj)) (length-list_of 0 k.subbed)
           ∙ ap (λ (m : ℕ). list_of 0 k.subbed ++ change_named 1 m m (subscribe (name_of_sub m) conj)) (zero_left n)
           ∙ sym (list_of-snoc 0 k.subbed conj);
-      left_is = later ∙ ap (λ (m : ℕ). subscribing m conjs ++ k.todo) (sym (length-append k.subbed (conj ∷ [])));
+      left_is = later ∙ ap (λ (m : ℕ). subscriptions_to m conjs ++ k.todo) (sym (length-append k.subbed (conj ∷ [])));
       tally = subst (Tallies (rows_made 0 k.conjs) (published k.done) (costed k.done)) (sym c.1) k.tally;
     }
 
@@ -245,7 +245,7 @@ serve_step requests list sums r rest after counted k c = by_next (next_of reques
           are_events = are;
           first = inl none;
           list_is = t.kept ∙ k.list_is;
-          left_is = ap (λ (cs : List (List Pred)). subscribing (length k.subbed) cs ++ rest) (sym none);
+          left_is = ap (λ (cs : List (List Pred)). subscriptions_to (length k.subbed) cs ++ rest) (sym none);
           tally = t.tally;
         }
 
@@ -260,7 +260,7 @@ ended requests rows events sums r p c t = record {
 }
 
 -- no request is left
-nothing_left : (n : ℕ) (unsubbed : List (List Pred)) (todo : List Request) → [] ≡ subscribing n unsubbed ++ todo → todo ≡ []
+nothing_left : (n : ℕ) (unsubbed : List (List Pred)) (todo : List Request) → [] ≡ subscriptions_to n unsubbed ++ todo → todo ≡ []
 nothing_left n [] todo e = sym e
 nothing_left n (conj ∷ conjs) todo e = absurd cc
 

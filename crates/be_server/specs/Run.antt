@@ -9,7 +9,7 @@ use Rattle.be_model.specs.Schemas.{Attributes}
 use Rattle.be_change.specs.History.{Entry}
 use Rattle.be_change.specs.Opening.{opening_of}
 use Rattle.be_protocol.specs.Conversation.{Terms, ConversationEnds}
-use Rattle.be_protocol.specs.Ends.{end_after, is_on}
+use Rattle.be_protocol.specs.Ends.{end_after, has_not_ended}
 use Rattle.be_protocol.specs.Readings.{reading}
 use Rattle.be_protocol.specs.Runs.{AreRun, HasNoQuit, EndsWithQuit}
 use Rattle.be_protocol.specs.declared.ends.SessionEnd.{SessionEnd}
@@ -30,8 +30,8 @@ abbrev pub run_terms : Attributes → List Entry → Terms
 run_terms s opening = record {
   schema = s;
   asks = reading s;
-  Whole = λ end lines ps. AreRun s opening lines ps × QuitsAtEnd (is_on end) s lines;
-  InPart = λ lines ps last out. AreRun s opening lines (ps ++ last ∷ []) × QuitsAtEnd (is_on (end_after last.0 last.1)) s lines;
+  Whole = λ end lines ps. AreRun s opening lines ps × QuitsAtEnd (has_not_ended end) s lines;
+  InPart = λ lines ps last out. AreRun s opening lines (ps ++ last ∷ []) × QuitsAtEnd (has_not_ended (end_after last.0 last.1)) s lines;
 }
 
 -- how the session of a run may end. Untouched says that input and output are as they were. No reply tells two numbers that differ

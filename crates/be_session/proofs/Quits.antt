@@ -10,7 +10,7 @@ use Rattle.be_protocol.specs.Readings.{reading}
 use Rattle.be_protocol.specs.Runs.{comes_in_run, is_quit, HasNoQuit, EndsWithQuit}
 use Rattle.be_protocol.specs.Transcript.{requests}
 use Rattle.be_protocol.specs.declared.ends.SessionEnd.TheVariants.{Quit, Split}
-use Rattle.be_protocol.specs.Ends.{end_after, is_on, goes_on}
+use Rattle.be_protocol.specs.Ends.{end_after, has_not_ended, goes_on}
 
 -- how a reply ends the session
 pub data Ended (r : Request) (t : Reply) : Type 0 where
@@ -202,8 +202,8 @@ no_quit : (p : Exchange) → goes_on p ≡ true → not (is_quit p.0) ≡ true
 no_quit p on = by_end (ended_of p.0 p.1)
   where
     by_end : Ended p.0 p.1 → not (is_quit p.0) ≡ true
-    by_end (by_split i j t e) = let off : false ≡ true = sym (ap is_on e) ∙ on in absurd cc
-    by_end (by_quit r e) = let off : false ≡ true = sym (ap is_on e) ∙ on in absurd cc
+    by_end (by_split i j t e) = let off : false ≡ true = sym (ap has_not_ended e) ∙ on in absurd cc
+    by_end (by_quit r e) = let off : false ≡ true = sym (ap has_not_ended e) ∙ on in absurd cc
     by_end (by_none r e) = ap not r
 
 -- the reply that ended the session as a QUIT answers a QUIT
@@ -226,16 +226,16 @@ split_ended opened p i j is comes = by_end (ended_of p.0 p.1)
 
 -- what the reply to a line says of the line
 pub data Last (p : Exchange) : Type 0 where
-  quits : p.0 ≡ quit → is_on (end_after p.0 p.1) ≡ false → Last p
-  stays : not (is_quit p.0) ≡ true → is_on (end_after p.0 p.1) ≡ true → Last p
+  quits : p.0 ≡ quit → has_not_ended (end_after p.0 p.1) ≡ false → Last p
+  stays : not (is_quit p.0) ≡ true → has_not_ended (end_after p.0 p.1) ≡ true → Last p
 
 pub last_of : (opened : Bool) (p : Exchange) → comes_in_run opened p.1 ≡ true → Last p
 last_of opened p comes = by_end (ended_of p.0 p.1)
   where
     by_end : Ended p.0 p.1 → Last p
     by_end (by_split i j t e) = absurd (split_ended opened p i j e comes)
-    by_end (by_quit r e) = quits r (ap is_on e)
-    by_end (by_none r e) = stays (ap not r) (ap is_on e)
+    by_end (by_quit r e) = quits r (ap has_not_ended e)
+    by_end (by_none r e) = stays (ap not r) (ap has_not_ended e)
 
 pub last_comes : (opened : Bool) (ps : List Exchange) (p : Exchange) → list_all (λ (q : Exchange). comes_in_run opened q.1) (ps ++ p ∷ []) ≡ true → comes_in_run opened p.1 ≡ true
 last_comes opened ps p all =

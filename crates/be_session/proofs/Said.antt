@@ -5,7 +5,7 @@ use Rattle.be_io.specs.declared.faults.SinkFault.{SinkFault}
 use Rattle.be_model.specs.Schemas.{Attributes}
 use Rattle.be_change.specs.Requests.{Refusal, Request, refused, subscribe, publish, costing, sending, quit, Reply, no_memory, refusal, Note, Exchange}
 use Rattle.be_protocol.specs.Conduct.{GivesReply}
-use Rattle.be_protocol.specs.Ends.{end_after, is_on}
+use Rattle.be_protocol.specs.Ends.{end_after, has_not_ended}
 use Rattle.be_protocol.specs.Replies.{reply_text}
 use Rattle.be_protocol.specs.Requests.{TakesMemory}
 use Rattle.be_protocol.specs.Runs.{is_quit}
@@ -133,5 +133,5 @@ says_unread s r b before after turn takes said =
 -- the session goes on unless the reply ended it
 pub ready_then : (s : Attributes) (r : Request) (b b' : BoardState) (before after : SinkState) (by : Option SessionEnd) (written : Result (Unit {0}) SinkFault) → GivesReply (session_conduct s) r b b' before after by written → is_gone b ≡ false → b.schema ≡ s → by ≡ None
     → (is_gone b' ≡ false) × (b'.schema ≡ s)
-ready_then s r b b' before after by (Ok u) w present schema on = (w.replies.steps.present present (ap is_on (w.ends ∙ on)), w.replies.steps.goes.schema ∙ schema)
-ready_then s r b b' before after by (Err fault) c present schema on = (c.replies.steps.present present (ap is_on (c.ends ∙ on)), c.replies.steps.goes.schema ∙ schema)
+ready_then s r b b' before after by (Ok u) w present schema on = (w.replies.steps.present present (ap has_not_ended (w.ends ∙ on)), w.replies.steps.goes.schema ∙ schema)
+ready_then s r b b' before after by (Err fault) c present schema on = (c.replies.steps.present present (ap has_not_ended (c.ends ∙ on)), c.replies.steps.goes.schema ∙ schema)

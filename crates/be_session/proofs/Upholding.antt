@@ -12,7 +12,7 @@ use Rattle.be_change.specs.Requests.{quit, Exchange}
 use Rattle.be_io.specs.Outside.{LinkState}
 use Rattle.be_protocol.specs.Conduct.{is_sixteenth, TendsIf, Trace, LeavesIf, Led, LedInPart, leading}
 use Rattle.be_protocol.specs.Conversation.{ConversationEnds}
-use Rattle.be_protocol.specs.Ends.{end_after, is_on, goes_on, EndsBy}
+use Rattle.be_protocol.specs.Ends.{end_after, has_not_ended, goes_on, EndsBy}
 use Rattle.be_protocol.specs.Readings.{reading}
 use Rattle.be_protocol.specs.Transcript.{requests, texts}
 use Rattle.be_protocol.specs.declared.ends.SessionEnd.{SessionEnd}
@@ -61,14 +61,14 @@ serves_all s n (q ∷ qs) ps b c d g on (e, f, replies, tends, t) =
     (serves_all s (n + 1) qs (ps ++ q ∷ []) b f d (serves_then s true (goes_on q && is_sixteenth (n + 1)) (ps ++ q ∷ []) b e f one tends) (and_right (goes_on q) (list_all goes_on qs) on) t)
 
 -- the exchanges of a conversation, the last of which ended it or none did
-serves_by : (s : Attributes) (end : Option SessionEnd) (ps : List Exchange) (b c : BoardState) → own_in b.word ≡ [] → EndsBy end ps → Trace (session_conduct s) 0 ps b c → Serves s (is_on end) ps b c × TiedTends ps b c
+serves_by : (s : Attributes) (end : Option SessionEnd) (ps : List Exchange) (b c : BoardState) → own_in b.word ≡ [] → EndsBy end ps → Trace (session_conduct s) 0 ps b c → Serves s (has_not_ended end) ps b c × TiedTends ps b c
 serves_by s None ps b c first on t = (serves_all s 0 ps [] b b c (nothing_served s b first) on t, tends_going s ps b c on t)
 serves_by s (Some end) ps b c first (front, last, is, on, by) t =
-    let pop = trace_pop (session_conduct s) front last b c (ap is_on by) (subst (λ (xs : List Exchange). Trace (session_conduct s) 0 xs b c) is t) in
+    let pop = trace_pop (session_conduct s) front last b c (ap has_not_ended by) (subst (λ (xs : List Exchange). Trace (session_conduct s) 0 xs b c) is t) in
     let begun : Serves s true front b pop.0 = serves_all s 0 front [] b b pop.0 (nothing_served s b first) on pop.1 in
     subst (λ (xs : List Exchange). Serves s false xs b c × TiedTends xs b c) (sym is) (
-      subst (λ (o : Bool). Serves s o (front ++ last ∷ []) b c) (ap is_on by) (serves_on s front last b pop.0 c begun pop.2),
-      tends_ended front last b pop.0 c (ap is_on by) (tends_going s front b pop.0 on pop.1) pop.2.steps.goes,
+      subst (λ (o : Bool). Serves s o (front ++ last ∷ []) b c) (ap has_not_ended by) (serves_on s front last b pop.0 c begun pop.2),
+      tends_ended front last b pop.0 c (ap has_not_ended by) (tends_going s front b pop.0 on pop.1) pop.2.steps.goes,
     )
 
 -- with the end of the session
@@ -92,10 +92,10 @@ uphold s false lines ps b c d somebody asked g tends still = subst (λ (x : Boar
 
 -- what a session's conversation made of its board
 pub upheld : (s : Attributes) (end : Option SessionEnd) (lines : List TextLine) (ps : List Exchange) (b d : BoardState) → b.word.session ≢ 0 → own_in b.word ≡ [] → requests ps ≡ map (reading s) lines → EndsBy end ps
-    → Led (session_conduct s) (is_on end) ps b d → Upheld s (is_on end) lines ps b d
+    → Led (session_conduct s) (has_not_ended end) ps b d → Upheld s (has_not_ended end) lines ps b d
 upheld s end lines ps b d somebody first asked ends l =
     let g = serves_by s end ps b l.last first ends l.trace in
-    uphold s (is_on end) lines ps b l.last d somebody asked g.0 g.1 l.left
+    uphold s (has_not_ended end) lines ps b l.last d somebody asked g.0 g.1 l.left
 
 cut_upheld : (s : Attributes) (o : Bool) (lines : List TextLine) (ps : List Exchange) (p : Exchange) (out : List ℕ) (b c d : BoardState) → b.word.session ≢ 0 → requests (ps ++ p ∷ []) ≡ map (reading s) lines → goes_on p ≡ o
     → BoardServes s o (ps ++ p ∷ []) b c → Tied false (ps ++ p ∷ []) ps b.counts c.counts → TiedPuts (ps ++ p ∷ []) b c → TiedTends ps b c → GivesInPart b.box s ps p out b c → LeavesIf (session_conduct s) o c d → UpheldInPart s lines ps p out b d
@@ -146,13 +146,13 @@ left_along s true b c d l (answer, q) = record {
 board_left : (s : Attributes) (on : Bool) (ps : List Exchange) (b c : BoardState) → BoardServes s on ps b c → BoardLeft b c
 board_left s on ps b c g = record { goes = g.goes; own = g.own; notes = g.notes }
 
-pub led_left : (s : Attributes) (end : Option SessionEnd) (ps : List Exchange) (b d : BoardState) → own_in b.word ≡ [] → EndsBy end ps → Led (session_conduct s) (is_on end) ps b d → BoardLeft b d
-led_left s end ps b d first ends l = left_along s (is_on end) b l.last d (board_left s (is_on end) ps b l.last (serves_by s end ps b l.last first ends l.trace).0.board) l.left
+pub led_left : (s : Attributes) (end : Option SessionEnd) (ps : List Exchange) (b d : BoardState) → own_in b.word ≡ [] → EndsBy end ps → Led (session_conduct s) (has_not_ended end) ps b d → BoardLeft b d
+led_left s end ps b d first ends l = left_along s (has_not_ended end) b l.last d (board_left s (has_not_ended end) ps b l.last (serves_by s end ps b l.last first ends l.trace).0.board) l.left
 
 pub led_left_in_part : (s : Attributes) (ps : List Exchange) (p : Exchange) (out : List ℕ) (b d : BoardState) → own_in b.word ≡ [] → EndsBy None ps → LedInPart (session_conduct s) ps p out b d → BoardLeft b d
 led_left_in_part s ps p out b d first on l =
     let g = (serves_by s None ps b l.before first on l.trace).0 in
-    left_along s (is_on (end_after p.0 p.1)) b l.last d
+    left_along s (has_not_ended (end_after p.0 p.1)) b l.last d
     (board_left s (goes_on p) (ps ++ p ∷ []) b l.last (serves_step s ps p b l.before l.last g.board (in_part s p l.part l.before l.last l.replies).steps)) l.left
 
 pub same_left : (b : BoardState) → BoardLeft b b
@@ -162,7 +162,7 @@ same_left b = record { goes = gone_on b b (GoesOn-same b); own = adds_none b.wor
 pub session_ended : (U V : Type 0) (s : Attributes) (b d : BoardState) (before after : LinkState) (end : SessionEnd) → (U → V) → b.word.session ≢ 0 → own_in b.word ≡ [] → ConversationEnds U (leading (session_conduct s) b d) before after end
     → SessionEnds V s before after b d end
 session_ended U V s b d before after end untouched somebody first e =
-    ends_under U V (leading (session_conduct s) b d) (λ end lines ps. Upheld s (is_on end) lines ps b d) (λ lines ps p out. UpheldInPart s lines ps p out b d) untouched
+    ends_under U V (leading (session_conduct s) b d) (λ end lines ps. Upheld s (has_not_ended end) lines ps b d) (λ lines ps p out. UpheldInPart s lines ps p out b d) untouched
     (λ end lines ps asked ends l. upheld s end lines ps b d somebody first asked ends l) (λ lines ps p out asked ends l. upheld_in_part s lines ps p out b d somebody first asked ends l) before after end e
 
 pub session_left : (U : Type 0) (s : Attributes) (b d : BoardState) (before after : LinkState) (end : SessionEnd) → (U → d ≡ b) → own_in b.word ≡ [] → ConversationEnds U (leading (session_conduct s) b d) before after end → BoardLeft b d

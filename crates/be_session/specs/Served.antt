@@ -12,7 +12,7 @@ use Rattle.be_change.specs.Made.{made}
 use Rattle.be_change.specs.Requests.{Note, Exchange}
 use Rattle.be_protocol.specs.declared.ends.SessionEnd.{SessionEnd}
 use Rattle.be_protocol.specs.Conversation.{Terms, ConversationEnds}
-use Rattle.be_protocol.specs.Ends.{end_after, is_on}
+use Rattle.be_protocol.specs.Ends.{end_after, has_not_ended}
 use Rattle.be_protocol.specs.Readings.{reading}
 use Rattle.be_protocol.specs.Runs.{AreAlone}
 use Rattle.be_protocol.specs.Transcript.{AreExchanges}
@@ -62,17 +62,17 @@ pub record Upheld (s : Attributes) (on : Bool) (lines : List TextLine) (ps : Lis
 -- the same where the output broke off at the last reply
 pub record UpheldInPart (s : Attributes) (lines : List TextLine) (ps : List Exchange) (last : Exchange) (out : List ℕ) (b b' : BoardState) : Type 0 where
   pub borne : AreBorneOut s lines (ps ++ last ∷ []) b b'
-  pub tied : Tied (is_on (end_after last.0 last.1)) (ps ++ last ∷ []) ps b.counts b'.counts
+  pub tied : Tied (has_not_ended (end_after last.0 last.1)) (ps ++ last ∷ []) ps b.counts b'.counts
   pub puts : TiedPuts (ps ++ last ∷ []) b b'
   pub tends : TiedTends ps b b'
   pub letters : GivesInPart b.box s ps last out b b'
-  pub alone : BeginsAlone b → RanOver s (is_on (end_after last.0 last.1)) lines (ps ++ last ∷ []) b b'
+  pub alone : BeginsAlone b → RanOver s (has_not_ended (end_after last.0 last.1)) lines (ps ++ last ∷ []) b b'
 
 abbrev pub session_terms : Attributes → BoardState → BoardState → Terms
 session_terms s b b' = record {
   schema = s;
   asks = reading s;
-  Whole = λ end lines ps. Upheld s (is_on end) lines ps b b';
+  Whole = λ end lines ps. Upheld s (has_not_ended end) lines ps b b';
   InPart = λ lines ps last out. UpheldInPart s lines ps last out b b';
 }
 

@@ -16,7 +16,7 @@ use Rattle.be_io.proofs.LineLemmas.{lines-ClosedLine}
 use Rattle.be_change.specs.Requests.{Request}
 use Rattle.be_protocol.specs.Readings.{reading}
 use Rattle.be_protocol.specs.Replies.{with_lf}
-use Rattle.be_workload.specs.Asked.{schema, asked, asked_by_lines}
+use Rattle.be_workload.specs.Asked.{schema, text_asks, asked_by_lines}
 use Rattle.be_workload.proofs.Plain.{is_plain, IsPlain}
 
 abbrev pub is_plain_line : Text → Bool
@@ -80,7 +80,7 @@ plain_closed l h =
     ap (λ b. cond b (line.long (length l)) (line.text (without_cr l))) (within (length l) LINE_BYTES parts.0)
     ∙ ap (λ (t : Text). line.text t) (no_cr l parts.1)
 
-asked_each : (ls : List Text) → list_all is_plain_line ls ≡ true → asked (flat_map with_lf ls) ≡ map read_as ls
+asked_each : (ls : List Text) → list_all is_plain_line ls ≡ true → text_asks (flat_map with_lf ls) ≡ map read_as ls
 asked_each [] h = refl
 asked_each (l ∷ ls) h =
     let parts = and_parts (is_plain_line l) (list_all is_plain_line ls) h in
@@ -88,12 +88,12 @@ asked_each (l ∷ ls) h =
     let plain = (and_parts (leb (length l) LINE_BYTES) (list_all is_plain l) parts.0).1 in
     let first = lines-ClosedLine LINE_BYTES true (with_lf l ++ rest) l rest (no_lf l plain, append_assoc l (10 ∷ []) rest) in
     ap (map (reading schema)) first
-    ∙ ap (λ (x : line.TextLine). reading schema x ∷ asked rest) (plain_closed l parts.0)
+    ∙ ap (λ (x : line.TextLine). reading schema x ∷ text_asks rest) (plain_closed l parts.0)
     ∙ ap (λ (rs : List Request). read_as l ∷ rs) (asked_each ls parts.1)
 
 -- the lines of the text ask for them
-pub lines_ask : (text : Text) (requests : List Request) → AreLines text requests → asked text ≡ requests
-lines_ask text requests k = ap asked k.joined ∙ asked_each k.lines_in k.plain ∙ k.read
+pub lines_ask : (text : Text) (requests : List Request) → AreLines text requests → text_asks text ≡ requests
+lines_ask text requests k = ap text_asks k.joined ∙ asked_each k.lines_in k.plain ∙ k.read
 
 by_lines_each : (ls : List Text) → list_all is_plain_line ls ≡ true → asked_by_lines (flat_map with_lf ls) ≡ map read_as ls
 by_lines_each [] h = refl

@@ -18,7 +18,7 @@ use Rattle.be_protocol.specs.Replies.{with_lf}
 use Rattle.be_workload.specs.Drawing.{Script, put, subscription, subscriptions, items, event, events, event_text}
 use Rattle.be_event.specs.SchemaTexts.{schema_of}
 use Rattle.be_workload.specs.Workload.{start, schema_text, script_text}
-use Rattle.be_workload.specs.Asked.{schema, asked, asked_by_lines, name_of_sub, subscribing, publishing, IsOfSchema, AreRequests, AreRead}
+use Rattle.be_workload.specs.Asked.{schema, text_asks, asked_by_lines, name_of_sub, subscriptions_to, publishing, IsOfSchema, AreRequests, AreRead}
 use Rattle.be_workload.proofs.Ops.{Adds}
 use Rattle.be_workload.proofs.Conditions.{IsCondition, expression_adds}
 use Rattle.be_workload.proofs.Items.{IsEventText, items_draw, items_are_event}
@@ -70,17 +70,17 @@ sub_plain i piece small k =
 record AreSubs (n : ℕ) (piece : Text) : Type 0 where
   conjs : List (List Pred)
   count : length conjs ≡ n
-  lines : AreLines piece (subscribing 0 conjs)
+  lines : AreLines piece (subscriptions_to 0 conjs)
 
 subscribing-snoc : (k : ℕ) (conjs : List (List Pred)) (conj : List Pred)
-    → subscribing k (conjs ++ conj ∷ []) ≡ subscribing k conjs ++ subscribe (name_of_sub (k + length conjs)) conj ∷ []
+    → subscriptions_to k (conjs ++ conj ∷ []) ≡ subscriptions_to k conjs ++ subscribe (name_of_sub (k + length conjs)) conj ∷ []
 subscribing-snoc k [] conj = ap (λ (n : ℕ). subscribe (name_of_sub n) conj ∷ []) (none k)
   where
     none : (n : ℕ) → n ≡ n + 0
     none n = omega arith
 subscribing-snoc k (c ∷ conjs) conj =
     ap (λ (rs : List Request). subscribe (name_of_sub k) c ∷ rs) (subscribing-snoc (k + 1) conjs conj)
-    ∙ ap (λ (n : ℕ). subscribe (name_of_sub k) c ∷ (subscribing (k + 1) conjs ++ subscribe (name_of_sub n) conj ∷ [])) (next k (length conjs))
+    ∙ ap (λ (n : ℕ). subscribe (name_of_sub k) c ∷ (subscriptions_to (k + 1) conjs ++ subscribe (name_of_sub n) conj ∷ [])) (next k (length conjs))
   where
     next : (n m : ℕ) → (n + 1) + m ≡ n + suc m
     next n m = omega arith
@@ -89,11 +89,11 @@ one_more_sub : (n : ℕ) (piece next : Text) → n < 10 ^ 18 → AreSubs n piece
 one_more_sub n piece next small k c =
     let line = one_line (sub_line n next) 185 (subscribe (name_of_sub n) c.conj) (omega arith) (sub_plain n next small c.plain) (sub_read n next c small) in
     let at : n ≡ 0 + length k.conjs = omega (arith, k.count) in
-    let are = ap (λ (m : ℕ). subscribing 0 k.conjs ++ subscribe (name_of_sub m) c.conj ∷ []) at ∙ sym (subscribing-snoc 0 k.conjs c.conj) in
+    let are = ap (λ (m : ℕ). subscriptions_to 0 k.conjs ++ subscribe (name_of_sub m) c.conj ∷ []) at ∙ sym (subscribing-snoc 0 k.conjs c.conj) in
     record {
       conjs = k.conjs ++ c.conj ∷ [];
       count = omega (arith, length-append k.conjs (c.conj ∷ []), k.count);
-      lines = subst (AreLines (piece ++ with_lf (sub_line n next))) are (lines_append piece (with_lf (sub_line n next)) (subscribing 0 k.conjs) (subscribe (name_of_sub n) c.conj ∷ []) k.lines line);
+      lines = subst (AreLines (piece ++ with_lf (sub_line n next))) are (lines_append piece (with_lf (sub_line n next)) (subscriptions_to 0 k.conjs) (subscribe (name_of_sub n) c.conj ∷ []) k.lines line);
     }
 
 -- a line is written behind what was written
@@ -203,25 +203,25 @@ script_drawn number subs event_count few =
       published = then.kind;
     }
 
-script_lines : (subs event_count : ℕ) (text : Text) (k : IsScript subs event_count text) → AreLines text (subscribing 0 k.subscribed.conjs ++ publishing k.published.events)
+script_lines : (subs event_count : ℕ) (text : Text) (k : IsScript subs event_count text) → AreLines text (subscriptions_to 0 k.subscribed.conjs ++ publishing k.published.events)
 script_lines subs event_count text k =
-    subst (λ (t : Text). AreLines t (subscribing 0 k.subscribed.conjs ++ publishing k.published.events)) (sym k.parts)
-    (lines_append k.front k.back (subscribing 0 k.subscribed.conjs) (publishing k.published.events) k.subscribed.lines k.published.lines)
+    subst (λ (t : Text). AreLines t (subscriptions_to 0 k.subscribed.conjs ++ publishing k.published.events)) (sym k.parts)
+    (lines_append k.front k.back (subscriptions_to 0 k.subscribed.conjs) (publishing k.published.events) k.subscribed.lines k.published.lines)
 
-script_read : (subs event_count : ℕ) (text : Text) → IsScript subs event_count text → AreRequests subs event_count (asked text)
+script_read : (subs event_count : ℕ) (text : Text) → IsScript subs event_count text → AreRequests subs event_count (text_asks text)
 script_read subs event_count text k = record {
   conjs = k.subscribed.conjs;
   events = k.published.events;
-  each = lines_ask text (subscribing 0 k.subscribed.conjs ++ publishing k.published.events) (script_lines subs event_count text k);
+  each = lines_ask text (subscriptions_to 0 k.subscribed.conjs ++ publishing k.published.events) (script_lines subs event_count text k);
   conj_for_each = k.subscribed.count;
   event_for_each = k.published.count;
   of_schema = k.published.of_schema;
 }
 
-script_short : (subs event_count : ℕ) (text : Text) → IsScript subs event_count text → asked_by_lines text ≡ asked text
+script_short : (subs event_count : ℕ) (text : Text) → IsScript subs event_count text → asked_by_lines text ≡ text_asks text
 script_short subs event_count text k =
     let lines = script_lines subs event_count text k in
-    let requests = subscribing 0 k.subscribed.conjs ++ publishing k.published.events in
+    let requests = subscriptions_to 0 k.subscribed.conjs ++ publishing k.published.events in
     lines_are_short text requests lines ∙ sym (lines_ask text requests lines)
 
 schema_reads : schema_of schema_text ≡ Ok schema

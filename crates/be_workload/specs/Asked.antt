@@ -37,24 +37,24 @@ schema =
     ∷ []
 
 -- what the lines of a text ask for, in order
-abbrev pub asked : Text → List Request
-asked text = map (reading schema) (lines LINE_BYTES true text)
+abbrev pub text_asks : Text → List Request
+text_asks text = map (reading schema) (lines LINE_BYTES true text)
 
 -- the same of each line, however long
 abbrev pub asked_by_lines : Text → List Request
 asked_by_lines text = map (λ l. reading schema (line.text l)) (file_lines text)
 
 abbrev pub script_requests : ℕ → ℕ → ℕ → List Request
-script_requests number subs events = asked (script_text number subs events)
+script_requests number subs events = text_asks (script_text number subs events)
 
 -- the name of a subscription
 abbrev pub name_of_sub : ℕ → Text
 name_of_sub i = codes "s" ++ decimal i
 
 -- a subscription to each of these conditions, where the first has this number
-abbrev pub subscribing : ℕ → List (List Pred) → List Request
-subscribing i [] = []
-subscribing i (conj ∷ conjs) = subscribe (name_of_sub i) conj ∷ subscribing (i + 1) conjs
+abbrev pub subscriptions_to : ℕ → List (List Pred) → List Request
+subscriptions_to i [] = []
+subscriptions_to i (conj ∷ conjs) = subscribe (name_of_sub i) conj ∷ subscriptions_to (i + 1) conjs
 
 -- each event is published, and then its cost is asked for
 abbrev pub publishing : List Assignments → List Request
@@ -68,7 +68,7 @@ IsOfSchema e = IsEvent e × (event_lies schema e ≡ true)
 pub record AreRequests (subs event_count : ℕ) (requests : List Request) : Type 0 where
   pub conjs : List (List Pred)
   pub events : List Assignments
-  pub each : requests ≡ subscribing 0 conjs ++ publishing events
+  pub each : requests ≡ subscriptions_to 0 conjs ++ publishing events
   pub conj_for_each : length conjs ≡ subs
   pub event_for_each : length events ≡ event_count
   pub of_schema : All IsOfSchema events

@@ -2,7 +2,7 @@ use Rattle.std.proofs.Common.{sym, ◌∙◌, ap, option_map}
 use Rattle.be_base.specs.Tokens.{tokens}
 use Rattle.be_base.specs.Readers.{following}
 use Rattle.be_expr.specs.Parts.{plain_opening, plain_head, with_values}
-use Rattle.be_expr.specs.Readings.{with_attr}
+use Rattle.be_expr.specs.Readings.{with_pred_attr}
 use Rattle.be_expr.specs.declared.faults.Faults.{Faults}
 use Rattle.be_expr.specs.Faults.{faults_with, met_of_op}
 use Rattle.be_expr.proofs.InParts.{pred_first, no_pred_first}
@@ -15,7 +15,7 @@ returns-in_err-met-clause-faults c =
     let left = tokens c.in-Some.rest.now in
     ap (following (λ (faults : Faults). faults)) c.from_residual.ensures
     ∙ sym (ap (option_map (faults_with s)) (pred_first (plain_head c.in-Some.head) (tokens c.args.text.now) left c.in-Some.ensures.head
-    ∙ ap (option_map (with_attr c.in-Some.head.attr)) (map_is_none (met_of_op s c.find-attr.result) (with_values (plain_opening c.in-Some.head.opening) left) c.in_err-met.ensures.met)))
+    ∙ ap (option_map (with_pred_attr c.in-Some.head.attr)) (map_is_none (met_of_op s c.find-attr.result) (with_values (plain_opening c.in-Some.head.opening) left) c.in_err-met.ensures.met)))
 
 pub returns-clause-faults : goal.returns-clause-faults
 returns-clause-faults c =

@@ -3,7 +3,7 @@ use Rattle.std.proofs.Common.{◌≡◌, ◌+◌, Ok, length, sym, ap, ◌∙◌
 use Rattle.be_io.specs.Outside.{LinkState, link_state}
 use Rattle.be_io.specs.Reader.{ReaderState}
 use Rattle.be_protocol.specs.Conduct.{Conduct, KeptByReplier, is_sixteenth, LeavesIf, TendsIf}
-use Rattle.be_protocol.specs.Ends.{is_on}
+use Rattle.be_protocol.specs.Ends.{has_not_ended}
 use Rattle.be_protocol.specs.Turns.{TurnState, Turned, GivenOn}
 use Rattle.be_protocol.specs.declared.replier.Turn.{Turn}
 use Rattle.be_protocol.proofs.Going.{going_first, going_on, taken_within}
@@ -52,7 +52,7 @@ returns-in-Err-written-clause-ends g c =
     ended_cut ((c.next_turn.new.link ≡ c.args.link.now) × (c.leave_unless.new.replier ≡ c.args.replier.now)) m (link_state g.L.Source g.L.Sink c.args.link.now) (g.A.Replier.state c.args.replier.now) before after (g.A.Replier.state c.leave_unless.new.replier)
     c.lines.invariant.answered.going turn c.in-Err-written.fault c.end_of.result
     (subst (λ (k : KeptByReplier). Turned (GivenOn (g.A.Replier.conduct k.schema) before after) before after (Ok turn)) c.lines.invariant.kept c.in-Ok-next_turn.ensures.turned) c.in-Err-written.is
-    (subst (λ (k : KeptByReplier). LeavesIf (g.A.Replier.conduct k.schema) (is_on turn.by) after.state (g.A.Replier.state c.leave_unless.new.replier)) (c.next_turn.ensures.kept ∙ c.lines.invariant.kept) c.leave_unless.ensures.leaves)
+    (subst (λ (k : KeptByReplier). LeavesIf (g.A.Replier.conduct k.schema) (has_not_ended turn.by) after.state (g.A.Replier.state c.leave_unless.new.replier)) (c.next_turn.ensures.kept ∙ c.lines.invariant.kept) c.leave_unless.ensures.leaves)
     c.end_of.ensures
 
 pub returns-in-Err-written-clause-within : goal.returns-in-Err-written-clause-within
