@@ -29,8 +29,9 @@ WantsMemory p request status =
 pub record Promise {L : Type 0} (p : Passage L) (request : Option ProgramRequest) (status : Status) : Type 0 where
   -- each status has its cause, and says what was read and what was written
   pub ends : Ends p request status
-  -- the first faulty file, or a file over the limit, is named, unless reading a file failed or memory was wanting. Where nothing
-  -- is wrong, all is done, or memory was wanting; of `drill`, `heat` and `serve` also Split, Stray or Shut, and of `mirror` FeedBad, Ahead or Shut
+  -- which status is due, over a shelf that tells its files: the first faulty file, or a file over the limit, is named, unless reading
+  -- a file failed or memory was wanting. Where nothing is wrong, all is done, or memory was wanting; of `drill`, `heat` and `serve` also
+  -- Split, Stray or Shut, and of `mirror` FeedBad, Ahead or Shut
   pub exact : EndsExactly p request status
   pub words : RefusesWords request status
   pub memory : WantsMemory p request status

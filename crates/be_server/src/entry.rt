@@ -28,8 +28,8 @@ use std::thread::Threads;
 /// load file are covered by the one of this name, and `drill SCHEMA ROUNDS FILE..`, with `--load FILE` too, serves each file as a
 /// session, on workers of their own, and writes what each was answered and the list. `heat SCHEMA ROUNDS FILE..` writes behind
 /// that what the answered events ask for. `serve SCHEMA PORT SEATS LINKS`, with `--load FILE` too, serves so many links of the
-/// door, and writes the list. `follow SCHEMA FILE` answers events from the list that the file tells. `mirror SCHEMA PORT SEATS LINKS`
-/// takes the input for such a file, and serves links of the door from its list meanwhile. It may wait.
+/// door, and writes the list. `follow SCHEMA FILE` answers the input's events from the list that the file tells.
+/// `mirror SCHEMA PORT SEATS LINKS` takes the input for such a file, and serves links of the door from its list meanwhile. It may wait.
 pub fn be_main<R, F, S, K, L, D, G>(
     rt: &R,
     alloc: Global,
