@@ -13,7 +13,7 @@ use Rattle.be_model.specs.Matching.{Assignments}
 use Rattle.be_change.specs.Requests.{Request, subscribe, publish, costing}
 use Rattle.be_expr.specs.Expressions.{condition}
 use Rattle.be_expr.specs.Named.{naming}
-use Rattle.be_protocol.specs.Readings.{reading, request_of, subscribing as subscribing_to, asking_of}
+use Rattle.be_protocol.specs.Readings.{reading, request_of, subscribe_or_refused, asking_of}
 use Rattle.be_protocol.specs.Replies.{with_lf}
 use Rattle.be_workload.specs.Drawing.{Script, put, subscription, subscriptions, items, event, events, event_text}
 use Rattle.be_event.specs.SchemaTexts.{schema_of}
@@ -56,8 +56,8 @@ sub_read i piece k small =
     let named = word_space (name_of_sub i) piece k.words (IsWord-from_name (name_of_sub i) name) k.lexed in
     ap (λ (t : Text). request_of schema (tokens t)) (sub_joined i piece)
     ∙ ap (request_of schema) (word_space (codes "SUB") (name_of_sub i ++ 32 ∷ piece) (word (name_of_sub i) ∷ k.words) IsWord-SUB named)
-    ∙ ap (λ n. subscribing_to schema (naming n (condition schema (Some k.words)))) (name_of-Ok (name_of_sub i) name)
-    ∙ ap (λ c. subscribing_to schema (naming (Ok (name_of_sub i)) c)) k.read
+    ∙ ap (λ n. subscribe_or_refused schema (naming n (condition schema (Some k.words)))) (name_of-Ok (name_of_sub i) name)
+    ∙ ap (λ c. subscribe_or_refused schema (naming (Ok (name_of_sub i)) c)) k.read
 
 sub_plain : (i : ℕ) (piece : Text) → i < 10 ^ 18 → IsPlain 160 piece → IsPlain 185 (sub_line i piece)
 sub_plain i piece small k =
