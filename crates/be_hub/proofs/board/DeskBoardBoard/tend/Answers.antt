@@ -10,7 +10,7 @@ counted : (tends before after : ℕ) → 0 < tends → RisesBy 1 before after �
 counted tends before after some rise = subst (λ (n : ℕ). RisesBy n before after) (sym (one tends some)) rise
 
 pub returns-in-Some : goal.returns-in-Some
-returns-in-Some g c = (c.one_more.result, c.one_more.ensures.0, counted _ _ _ c.in-then.is c.one_more.ensures.1, refl)
+returns-in-Some g c = (c.one_more-self.result, c.one_more-self.ensures.0, counted g.row.TENDS _ _ c.if-this-gt0.true c.one_more-self.ensures.1, refl)
 
-pub returns-in-then : goal.returns-in-then
-returns-in-then g c = (c.one_more.result, c.one_more.ensures.0, counted _ _ _ c.in-then.is c.one_more.ensures.1, refl)
+pub returns-in_default : goal.returns-in_default
+returns-in_default g c = (c.one_more-self.result, c.one_more-self.ensures.0, counted g.row.TENDS _ _ c.if-this-gt0.true c.one_more-self.ensures.1, refl)
