@@ -1,112 +1,65 @@
 -- All links of a door, served and closed.
-use Rattle.std.proofs.Common.{◌≡◌, ℕ, zero, suc, ◌+◌, ◌*◌, ◌/◌, ◌<◌, ◌≤◌, Bool, true, false, ◌||◌, List, [], ◌∷◌, ◌++◌, length, map, max, fold, sum_by, Some, slice_get, refl, sym, ap, ◌∙◌, subst, arith}
+use Rattle.std.proofs.Common.{◌≡◌, ℕ, suc, ◌+◌, ◌-◌, ◌<◌, ◌≤◌, Bool, true, false, List, [], ◌∷◌, ◌++◌, length, map, sum_by, get_or, Some, slice_get, refl, sym, ap, ◌∙◌, subst, arith}
 use Rattle.std.specs.Prelude.{if◌then◌else◌}
 use Rattle.std.specs.List.{All, Any, Contains, list_any, flat_map, range_with_len}
-use Rattle.std.proofs.Math.Nat.{mul-div_cancel}
 use Rattle.std.proofs.lemmas.List.{length-map, nil_from_length}
 use Rattle.std.proofs.lemmas.List.Concat.{length-flat_map, flat_map-cons}
-use Rattle.std.proofs.lemmas.List.Elements.{All-contains, All-head, All-map, All-tail}
-use Rattle.std.proofs.lemmas.List.Folds.{list_any_none}
+use Rattle.std.proofs.lemmas.List.Elements.{All-contains, All-map}
+use Rattle.std.proofs.lemmas.List.Folds.{list_any_none, sum_by-replicate}
 use Rattle.std.proofs.lemmas.List.FromFn.{length-range_with_len}
 use Rattle.std.proofs.lemmas.List.Sums.{sum_by-cons}
 use Rattle.std.proofs.lemmas.Option.{slice_get-get_or, slice_get_within}
 use Rattle.atomic_table.specs.Seated.{TableId}
 use Rattle.be_base.specs.Counts.{raised, HasRisen}
+use Rattle.be_base.specs.Lists.{BeginsWith}
 use Rattle.be_base.specs.declared.limits.TheConstants.{SEATS}
+use Rattle.be_base.specs.declared.names.SessionNo.{SessionNo}
 use Rattle.be_io.specs.Outside.{LinkState}
+use Rattle.be_model.specs.Letters.{PlainLetter}
 use Rattle.be_model.specs.Schemas.{Attributes}
 use Rattle.be_change.specs.History.{Entry, session_of, IsWellFormed}
-use Rattle.be_mail.specs.Letters.{seat_of}
+use Rattle.be_mail.specs.Letters.{seat_of, letter_in}
+use Rattle.be_mail.specs.Mailbox.{BoxId, Mailbox}
+use Rattle.be_mail.specs.Passes.{new_passes}
+use Rattle.be_desk.specs.Boards.{put_count}
 use Rattle.be_desk.specs.Closing.{AreRecorded}
 use Rattle.be_desk.specs.Desks.{IsOpened}
 use Rattle.be_desk.specs.Seats.{SeatState, first_seat, IsKeptSeat}
 use Rattle.be_door.specs.Counts.{CountState, sums_of, with_counts, all_kept}
 use Rattle.be_door.specs.Door.{DoorState, IsOf, AreAllCounts}
 use Rattle.be_door.specs.Sums.{no_sums}
+use Rattle.be_door.specs.declared.sums.Sums.{Sums}
 use Rattle.be_protocol.specs.declared.ends.SessionEnd.{SessionEnd}
-use Rattle.be_protocol.specs.declared.ends.SessionEnd.TheVariants.{Eof, Quit, ReadFault, WriteFault, Spent, Split, NoMemory}
-use Rattle.be_hub.specs.Closing.{KeepsAll}
+use Rattle.be_hub.specs.Closing.{KeepsAll, AreInOrder}
 use Rattle.be_hub.specs.Files.{is_split_end}
 use Rattle.be_hub.specs.Links.{MayStart, session_at, IsCounted, IsOfLink, SeatVisit, WorkerServed}
-use Rattle.be_hub.specs.Serving.{ServedLink, IsServedLink, AreApart, session_and_link, told_of, AreKept, LinksAreServed}
+use Rattle.be_hub.specs.Posted.{LetterBox, taken_for, StandAmong, WasBox}
+use Rattle.be_hub.specs.Serving.{Told, ServedLink, IsServedLink, AreApart, Worker, IsOfWorker, HasLetters, session_and_link, told_of, AreKept, LinksAreServed}
 use Rattle.be_hub.specs.Settling.{IsUnbroken, CountsSplits}
 use Rattle.be_hub.proofs.Ends.{there, at_its_place}
 use Rattle.be_hub.proofs.Pairs.{get_map, one_at, map_at}
 use Rattle.be_hub.proofs.Choices.{AreChosen, choose, maps_same, flat_maps_same, sums_alike}
-use Rattle.be_hub.proofs.LinksLegal.{shut_of, shut_agrees, none_shut, legal_link}
+use Rattle.be_hub.proofs.DoorCounted.{same_number, sums_same, some_of, any_holds, counted_in}
+use Rattle.be_hub.proofs.LinksLegal.{told_at, shut_agrees, none_shut, legal_link}
+use Rattle.be_hub.proofs.LinksPosted.{notes_for, taken_is, given_among, put_by, workers_of, boxes_are, links_are, worker_at}
 use Rattle.be_hub.proofs.Places.{all_from_places, any_at, at_of_all, flat_differs, flat_has, in_flat, EachDiffers}
+use Rattle.be_hub.proofs.Posted.{IsOfFound, all_boxes, seat_box}
 use Rattle.be_hub.proofs.FilesClosed.{seat_at, there_mapped}
 use Rattle.be_hub.proofs.Shuts.{Stays, same_test, none_at, stays_on}
-
-same_number : (q i j a : ℕ) → 0 < q → a + i * q ≡ a + j * q → i ≡ j
-same_number q i j a some same =
-    let k : i * q ≡ j * q = omega (arith, same) in
-    sym (mul-div_cancel i some) ∙ (ap (λ m. m / q) k ∙ mul-div_cancel j some)
-
--- numbers of counts, added up
-module _ {X : Type 0} where
-  sums_same : (f g : X → ℕ) (xs : List X) → All (λ x. f x ≡ g x) xs → sum_by f xs ≡ sum_by g xs
-  sums_same f g [] all = refl
-  sums_same f g (x ∷ xs) all =
-      let rest = sums_same f g xs (All-tail (λ x. f x ≡ g x) x xs all) in
-      let here = All-head (λ x. f x ≡ g x) x xs all in
-      omega (arith, sum_by-cons f x xs, sum_by-cons g x xs, rest, here)
-
-  some_of : (f g : X → ℕ) (xs : List X) → All (λ x. 0 < f x → 0 < g x) xs → 0 < sum_by f xs → 0 < sum_by g xs
-  some_of f g [] all some = absurd (omega (arith, some))
-  some_of f g (x ∷ xs) all some = one_of (f x) (g x) (sum_by f xs) (sum_by g xs) (sum_by f (x ∷ xs)) (sum_by g (x ∷ xs)) (sum_by-cons f x xs) (sum_by-cons g x xs)
-      (All-head (λ x. 0 < f x → 0 < g x) x xs all) (some_of f g xs (All-tail (λ x. 0 < f x → 0 < g x) x xs all)) some
-    where
-      one_of : (a b m n k l : ℕ) → k ≡ a + m → l ≡ b + n → (0 < a → 0 < b) → (0 < m → 0 < n) → 0 < k → 0 < l
-      one_of zero b m n k l is it here rest some = let r = rest (omega (arith, some, is)) in omega (arith, r, it)
-      one_of (suc a) b m n k l is it here rest some = let r = here (omega arith) in omega (arith, r, it)
-
-  in_sum : (f : X → ℕ) (xs : List X) (i : ℕ) (x : X) → slice_get xs i ≡ Some x → f x ≤ sum_by f xs
-  in_sum f [] i x at = absurd cc
-  in_sum f (y ∷ xs) zero x at = let is = ap f (one_at (y ∷ xs) zero y x refl at) in omega (arith, is, sum_by-cons f y xs)
-  in_sum f (y ∷ xs) (suc i) x at = let r = in_sum f xs i x at in omega (arith, r, sum_by-cons f y xs)
-
-  most_from : (f : X → ℕ) (xs : List X) (a : ℕ) → a ≤ fold (λ most x. max most (f x)) a xs
-  most_from f [] a = omega arith
-  most_from f (x ∷ xs) a = let r = most_from f xs (max a (f x)) in omega (arith, r)
-
-  in_most : (f : X → ℕ) (xs : List X) (a i : ℕ) (x : X) → slice_get xs i ≡ Some x → f x ≤ fold (λ most x. max most (f x)) a xs
-  in_most f [] a i x at = absurd cc
-  in_most f (y ∷ xs) a zero x at = let is = ap f (one_at (y ∷ xs) zero y x refl at) in let r = most_from f xs (max a (f y)) in omega (arith, is, r)
-  in_most f (y ∷ xs) a (suc i) x at = in_most f xs (max a (f y)) i x at
-
--- the test holds of one of them
-any_holds : {X : Type 0} (p : X → Bool) (A : Type 0) (xs : List X) → All (λ x. p x ≡ true → A) xs → list_any p xs ≡ true → A
-any_holds p A [] all some = absurd cc
-any_holds p A (x ∷ xs) all some = go (p x) refl some (any_holds p A xs (All-tail (λ x. p x ≡ true → A) x xs all))
-  where
-    go : (b : Bool) → p x ≡ b → (b || list_any p xs) ≡ true → (list_any p xs ≡ true → A) → A
-    go true is some rest = All-head (λ x. p x ≡ true → A) x xs all is
-    go false is some rest = rest some
-
-module _ {L : Type 0} where
-  -- what one worker's numbers say, those of all say
-  counted_in : (cs : List (CountState L)) (i : ℕ) (c : CountState L) (end : SessionEnd) → slice_get cs i ≡ Some c → IsCounted (sums_of c) end → IsCounted (with_counts no_sums cs) end
-  counted_in cs i c Eof at is = tt
-  counted_in cs i c Quit at is = tt
-  counted_in cs i c (Split a b) at is = tt
-  counted_in cs i c NoMemory at is = tt
-  counted_in cs i c ReadFault at is = some_raised c.read_faults (sum_by (λ (x : CountState L). x.read_faults) cs) is (in_sum (λ (x : CountState L). x.read_faults) cs i c at)
-    where
-      some_raised : (a b : ℕ) → 0 < a → a ≤ b → 0 < raised b 0
-      some_raised a b some le = omega (arith, some, le)
-  counted_in cs i c WriteFault at is = some_raised c.write_faults (sum_by (λ (x : CountState L). x.write_faults) cs) is (in_sum (λ (x : CountState L). x.write_faults) cs i c at)
-    where
-      some_raised : (a b : ℕ) → 0 < a → a ≤ b → 0 < raised b 0
-      some_raised a b some le = omega (arith, some, le)
-  counted_in cs i c Spent at is = let r = in_most (λ (x : CountState L). x.most) cs 0 i c at in omega (arith, is, r)
 
 abbrev pair : ℕ → LinkState → ℕ × LinkState
 pair a x = (a, x)
 
--- a visit as what was served, where this is whether a reply says that a reader was refused
-abbrev pub served_link : Bool → SeatVisit → ServedLink
-served_link shut v = record { session = v.entered.session; link = v.link; end = v.end; shut = shut }
+-- a visit as what was served, whose replies tell this
+abbrev pub served_link : Told → SeatVisit → ServedLink
+served_link told v = record { session = v.entered.session; link = v.link; end = v.end; told = told }
+
+module _ {L : Type 0} (told : L → LinkState) (found : BoxId → Mailbox → Type 0) (s : Attributes) (boxes : List TableId) (opening h : List Entry) (shuts : Bool) (links : ℕ) (keeps : Bool) where
+  -- the links were served, and the workers' boxes are the mailboxes
+  abbrev pub ServedWithBoxes : Sums → List (SessionNo × L) → Type 0
+  ServedWithBoxes sums kept =
+      (served : LinksAreServed told s opening h shuts links sums keeps kept) × (length served.workers ≡ length boxes)
+      × ((i : ℕ) (worker : Worker) → slice_get served.workers i ≡ Some worker → WasBox found boxes i worker.box)
 
 module _ {L : Type 0} (told : L → LinkState) {E : Type 0} (seat_in : E → SeatState) (count_in : E → CountState L) (ends_in : E → List SessionEnd) (calls_in : E → ℕ) (s : Attributes) (boxes : List TableId) (opening : List Entry) (door : DoorState L)
     (ends : List E) (seats : List SeatState) (first : seats ≡ map (first_seat opening boxes) (range_with_len 0 (length boxes))) (count : length ends ≡ length boxes)
@@ -144,18 +97,18 @@ module _ {L : Type 0} (told : L → LinkState) {E : Type 0} (seat_in : E → Sea
     abbrev visits_at : (j : ℕ) (e : E) → slice_get ends j ≡ Some e → List SeatVisit
     visits_at j e at = (served_at j e at).links.visits
 
-    abbrev shut_at : (j : ℕ) (e : E) (at : slice_get ends j ≡ Some e) (k : ℕ) (v : SeatVisit) → slice_get (visits_at j e at) k ≡ Some v → Bool
-    shut_at j e at k v there = shut_of s boxes (session_at (length boxes) (first_seat opening boxes j).session k) (first_seat opening boxes j) (seat_in e) v ((served_at j e at).links.served k v there)
+    abbrev tells_at_place : (j : ℕ) (e : E) (at : slice_get ends j ≡ Some e) (k : ℕ) (v : SeatVisit) → slice_get (visits_at j e at) k ≡ Some v → Told
+    tells_at_place j e at k v there = told_at s boxes (session_at (length boxes) (first_seat opening boxes j).session k) (first_seat opening boxes j) (seat_in e) v ((served_at j e at).links.served k v there)
 
     abbrev IsLinkOf : (j : ℕ) (e : E) → slice_get ends j ≡ Some e → ℕ → SeatVisit → ServedLink → Type 0
-    IsLinkOf j e at k v x = (there : slice_get (visits_at j e at) k ≡ Some v) × (served_link (shut_at j e at k v there) v ≡ x)
+    IsLinkOf j e at k v x = (there : slice_get (visits_at j e at) k ≡ Some v) × (served_link (tells_at_place j e at k v there) v ≡ x)
 
     abbrev IsListOf : ℕ → E → List ServedLink → Type 0
     IsListOf j e ls = (at : slice_get ends j ≡ Some e) × (length ls ≡ length (visits_at j e at)) × AreChosen (IsLinkOf j e at) (visits_at j e at) ls
 
     list_of : (j : ℕ) (e : E) → slice_get ends j ≡ Some e → (ls : List ServedLink) × IsListOf j e ls
     list_of j e at =
-        let c = choose (IsLinkOf j e at) (visits_at j e at) (λ k v there. (served_link (shut_at j e at k v there) v, (there, refl))) in
+        let c = choose (IsLinkOf j e at) (visits_at j e at) (λ k v there. (served_link (tells_at_place j e at k v there) v, (there, refl))) in
         (c.0, (at, c.1, c.2))
 
     lists : (lss : List (List ServedLink)) × (length lss ≡ length ends) × AreChosen IsListOf ends lss
@@ -173,7 +126,7 @@ module _ {L : Type 0} (told : L → LinkState) {E : Type 0} (seat_in : E → Sea
 
     -- the visit of a link in the list of a place
     visit_in : (j : ℕ) (e : E) (ls : List ServedLink) (k : ℕ) (x : ServedLink) → (is : IsListOf j e ls) → slice_get ls k ≡ Some x
-        → (v : SeatVisit) × (there : slice_get (visits_at j e is.0) k ≡ Some v) × (served_link (shut_at j e is.0 k v there) v ≡ x)
+        → (v : SeatVisit) × (there : slice_get (visits_at j e is.0) k ≡ Some v) × (served_link (tells_at_place j e is.0 k v there) v ≡ x)
     visit_in j e ls k x is at = let c = is.2 k x at in (c.0, c.2.0, c.2.1)
 
     session_in : (j : ℕ) (e : E) (ls : List ServedLink) (k : ℕ) (x : ServedLink) → IsListOf j e ls → slice_get ls k ≡ Some x → x.session ≡ session_at (length boxes) (first_seat opening boxes j).session k
@@ -227,6 +180,7 @@ module _ {L : Type 0} (told : L → LinkState) {E : Type 0} (seat_in : E → Sea
         (quiet : shuts ≡ false → All (λ e. (seat_in e).glass.shuts ≡ 0) ends) (loud : All (λ e. (seat_in e).glass.shuts ≡ 0) ends → shuts ≡ false) (unbroken : All (λ e. All IsUnbroken (ends_in e)) ends)
         (formed : IsWellFormed h) (keeps_all : All (KeepsAll boxes h) back) (recorded : AreRecorded (length h) h back) (opened : IsOpened opening h) (door_keeps : keeps ≡ door.keeps)
         (none_refused : (with_counts no_sums counts).refused ≡ 0) (all_links : (with_counts no_sums counts).given + (with_counts no_sums counts).failed ≡ links)
+        (schema : Attributes) (found : BoxId → Mailbox → Type 0) (order : AreInOrder schema found boxes back)
       where
         in_sessions : (place : ℕ) (e : Entry) → length opening ≤ place → slice_get h place ≡ Some e → Any (λ (x : ServedLink). x.session ≡ session_of e) all_served
         in_sessions p e le at =
@@ -276,17 +230,17 @@ module _ {L : Type 0} (told : L → LinkState) {E : Type 0} (seat_in : E → Sea
             })
 
         -- no reply says that a reader was refused where no seat counted one
-        quiet_link : shuts ≡ false → (i : ℕ) (x : ServedLink) → slice_get all_served i ≡ Some x → x.shut ≡ false
+        quiet_link : shuts ≡ false → (i : ℕ) (x : ServedLink) → slice_get all_served i ≡ Some x → x.told.shut ≡ false
         quiet_link off i x at =
             let f = in_flat (λ (ls : List ServedLink). ls) lists.0 i x at in
             let of = lists.2 f.0 f.1 f.3 in
             let v = visit_in f.0 of.0 f.1 f.2 x of.2 f.4 in
-            ap (λ (l : ServedLink). l.shut) (sym v.2)
+            ap (λ (l : ServedLink). l.told.shut) (sym v.2)
             ∙ none_shut s boxes (session_at (length boxes) (first_seat opening boxes f.0).session f.2) (first_seat opening boxes f.0) (seat_in of.0) v.0 ((served_at f.0 of.0 of.2.0).links.served f.2 v.0 v.1)
             (unbroken_at f.0 of.0 of.2.0 f.2 v.0 v.1) (at_of_all (λ e. (seat_in e).glass.shuts ≡ 0) ends f.0 of.0 (quiet off) of.1)
 
         -- no seat counted one where no reply says it
-        quiet_seat : list_any (λ (l : ServedLink). l.shut) all_served ≡ false → (j : ℕ) (e : E) → slice_get ends j ≡ Some e → (seat_in e).glass.shuts ≡ 0
+        quiet_seat : list_any (λ (l : ServedLink). l.told.shut) all_served ≡ false → (j : ℕ) (e : E) → slice_get ends j ≡ Some e → (seat_in e).glass.shuts ≡ 0
         quiet_seat off j e at =
             let list = list_at j e at in
             let w = served_at j e list.2.0 in
@@ -297,9 +251,9 @@ module _ {L : Type 0} (told : L → LinkState) {E : Type 0} (seat_in : E → Sea
                 let x = there ls k (omega (arith, slice_get_within (visits_at j e is.0) k v here, is.1)) in
                 let u = visit_in j e ls k x.0 is x.1 in
                 let placed = flat_has (λ (ls : List ServedLink). ls) lists.0 j ls k x.0 at_ls x.1 in
-                let none_says = none_at (λ (l : ServedLink). l.shut) all_served placed.0 x.0 off placed.1 in
+                let none_says = none_at (λ (l : ServedLink). l.told.shut) all_served placed.0 x.0 off placed.1 in
                 let told = shut_agrees s boxes (session_at (length boxes) (first_seat opening boxes j).session k) (first_seat opening boxes j) (seat_in e) u.0 ((served_at j e is.0).links.served k u.0 u.1) (unbroken_at j e is.0 k u.0 u.1) in
-                subst Stays (one_at (visits_at j e is.0) k u.0 v u.1 here) (told.stays (ap (λ (l : ServedLink). l.shut) u.2 ∙ none_says))
+                subst Stays (one_at (visits_at j e is.0) k u.0 v u.1 here) (told.stays (ap (λ (l : ServedLink). l.told.shut) u.2 ∙ none_says))
 
         -- what a worker kept are the links that it served
         kept_same : (j : ℕ) (e : E) (ls : List ServedLink) → keeps ≡ true → IsListOf j e ls → map (told_of told) (count_in e).kept ≡ map session_and_link ls
@@ -336,28 +290,100 @@ module _ {L : Type 0} (told : L → LinkState) {E : Type 0} (seat_in : E → Sea
                     flat_map-cons (λ (c : CountState L). c.kept) (count_in e) (map count_in es) ∙ (ap (λ l. (count_in e).kept ++ l) (flat_mapped es) ∙ sym (flat_map-cons (λ (d : E). (count_in d).kept) e es))
         are_kept false off = none_kept off ends (λ j e at. let w = served_at j e at in w.sound.kept ∙ ap (λ b. if b then (count_in e).back else 0) (w.is_of.1 ∙ (sym door_keeps ∙ off)))
 
-        pub links_are_served : LinksAreServed told s opening h shuts links (with_counts no_sums counts) keeps (all_kept counts)
-        links_are_served = record {
-          formed = formed;
-          begins = opened.begins;
-          back = ap (λ n. 0 + n) (sums_same (λ (c : CountState L). c.back) (λ (c : CountState L). c.given) counts
-              (All-map (λ (c : CountState L). c.back ≡ c.given) count_in ends (all_from_places (λ e. (count_in e).back ≡ (count_in e).given) ends (λ i e at. sym (served_at i e at).all_back))));
-          all = all_links;
-          none_refused = none_refused;
-          failed = λ some_failed. some_raised _
-              (some_of (λ (c : CountState L). c.failed) (λ (c : CountState L). c.read_faults) counts
-              (All-map (λ (c : CountState L). 0 < c.failed → 0 < c.read_faults) count_in ends (all_from_places (λ e. 0 < (count_in e).failed → 0 < (count_in e).read_faults) ends (λ i e at. (served_at i e at).links.failed)))
-              (plus_none _ some_failed));
-          served = all_served;
-          count = many_served;
-          apart = are_apart some;
-          each = all_from_places (IsServedLink s (length opening) h (with_counts no_sums counts)) all_served is_served_link;
-          some_shut = same_test shuts (list_any (λ (l : ServedLink). l.shut) all_served)
-              (λ off. list_any_none (λ (l : ServedLink). l.shut) all_served (all_from_places (λ (l : ServedLink). l.shut ≡ false) all_served (quiet_link off)))
-              (λ off. loud (all_from_places (λ e. (seat_in e).glass.shuts ≡ 0) ends (quiet_seat off)));
-          sessions = in_sessions;
-          kept_are = are_kept keeps refl;
-        }
+        back_is : length back ≡ length boxes
+        back_is = ap (λ (l : List SeatState). length l) is ∙ (length-map ends seat_in ∙ count)
+
+        back_at : (i : ℕ) (x : SeatState) → slice_get back i ≡ Some x → x.passes.seat ≡ i
+        back_at i x at =
+            let end = get_map seat_in ends i x (subst (λ (l : List SeatState). slice_get l i ≡ Some x) is at) in
+            ap (λ (y : SeatState). y.passes.seat) (sym end.2) ∙ seats_at i end.0 end.1
+
+        known : All (λ (x : SeatState). BeginsWith h x.glass.known) back
+        known k d lt = let some = kept_seats k d lt in (keeps_all k d lt (get_or back k d).session some.somebody some.seat_is).known
+
+        abbrev posted : (bs : List LetterBox) × (length bs ≡ length boxes) × AreChosen (IsOfFound schema found boxes h back order back_is back_at kept_seats known) boxes bs
+        posted = all_boxes schema found boxes h back order back_is back_at kept_seats known
+
+        -- as many lists of links as boxes
+        many_lists : length lists.0 ≡ length posted.0
+        many_lists = lists.1 ∙ (count ∙ sym posted.1)
+
+        abbrev workers : List Worker
+        workers = workers_of lists.0 posted.0
+
+        -- what FETCH gave to a link stands among what its seat took
+        given_at : (j : ℕ) (e : E) (ls : List ServedLink) (k : ℕ) (x : ServedLink) → IsListOf j e ls → slice_get ls k ≡ Some x → StandAmong x.told.given (notes_for x.session (map letter_in (seat_in e).passes.taken))
+        given_at j e ls k x is at =
+            let v = visit_in j e ls k x is at in
+            subst (λ (l : ServedLink). StandAmong l.told.given (notes_for l.session (map letter_in (seat_in e).passes.taken))) v.2
+            (given_among s boxes (session_at (length boxes) (first_seat opening boxes j).session k) (first_seat opening boxes j) (seat_in e) v.0 ((served_at j e is.0).links.served k v.0 v.1) (unbroken_at j e is.0 k v.0 v.1))
+
+        abbrev added_puts : SeatVisit → ℕ
+        added_puts v = put_count v.left.passes - put_count v.entered.passes
+
+        put_at : (j : ℕ) (e : E) (ls : List ServedLink) (k : ℕ) (x : ServedLink) (v : SeatVisit) → (is : IsListOf j e ls) → slice_get ls k ≡ Some x → slice_get (visits_at j e is.0) k ≡ Some v → x.told.put ≡ added_puts v
+        put_at j e ls k x v is at here =
+            let u = visit_in j e ls k x is at in
+            let put = put_by s boxes (session_at (length boxes) (first_seat opening boxes j).session k) (first_seat opening boxes j) (seat_in e) u.0 ((served_at j e is.0).links.served k u.0 u.1) (unbroken_at j e is.0 k u.0 u.1) in
+            ap (λ (l : ServedLink). l.told.put) (sym u.2) ∙ (put ∙ ap added_puts (one_at (visits_at j e is.0) k u.0 v u.1 here))
+
+        -- as many letters as SEND said to all links of a seat it put
+        puts_at : (j : ℕ) (e : E) (ls : List ServedLink) → IsListOf j e ls → sum_by (λ (l : ServedLink). l.told.put) ls ≡ put_count (seat_in e).passes
+        puts_at j e ls is =
+            let w = served_at j e is.0 in
+            let alike = sums_alike (λ (l : ServedLink). l.told.put) added_puts ls (visits_at j e is.0) is.1 (λ k x v at here. put_at j e ls k x v is at here) in
+            let all : put_count (seat_in e).passes ≡ put_count (new_passes boxes j) + sum_by added_puts (visits_at j e is.0) = w.counts.puts in
+            omega (arith, alike, all, sum_by-replicate (λ (letters : List PlainLetter). length letters) (length boxes) [])
+
+        has_letters : (i : ℕ) (w : Worker) → slice_get workers i ≡ Some w → HasLetters h posted.0 (i + 1) w
+        has_letters i w at =
+            let placed = worker_at lists.0 posted.0 i w at in
+            let of = lists.2 i w.links placed.0 in
+            let b = seat_box schema found boxes h back order back_is back_at kept_seats known i (seat_in of.0) w.box (there_mapped seat_in ends back is i of.0 of.1) placed.1 in
+            record {
+              given = all_from_places (λ (l : ServedLink). StandAmong l.told.given (taken_for l.session w.box)) w.links
+                  (λ k x at_x. subst (StandAmong x.told.given) (sym (taken_is x.session (seat_in of.0).passes.taken w.box b.taken)) (given_at i of.0 w.links k x of.2 at_x));
+              sent = puts_at i of.0 w.links of.2 ∙ b.sent;
+              sessions = all_from_places (λ (l : ServedLink). IsOfWorker (length posted.0) (i + 1) l.session) w.links
+                  (λ k x at_x. ap (λ (n : ℕ). n + 1) (ap (λ (n : ℕ). seat_of n x.session) posted.1 ∙ seat_in_list i of.0 w.links k x of.2 at_x));
+              readers = b.readers;
+              box_is = b.box_is;
+            }
+
+        was_box : (i : ℕ) (w : Worker) → slice_get workers i ≡ Some w → WasBox found boxes i w.box
+        was_box i w at =
+            let c = (posted.2 i w.box (worker_at lists.0 posted.0 i w at).1).2 in
+            (c.0.state, c.0.seen, c.1)
+
+        pub links_are_served : ServedWithBoxes told found s boxes opening h shuts links keeps (with_counts no_sums counts) (all_kept counts)
+        links_are_served = (
+          record {
+            formed = formed;
+            begins = opened.begins;
+            back = ap (λ n. 0 + n) (sums_same (λ (c : CountState L). c.back) (λ (c : CountState L). c.given) counts
+                (All-map (λ (c : CountState L). c.back ≡ c.given) count_in ends (all_from_places (λ e. (count_in e).back ≡ (count_in e).given) ends (λ i e at. sym (served_at i e at).all_back))));
+            all = all_links;
+            none_refused = none_refused;
+            failed = λ some_failed. some_raised _
+                (some_of (λ (c : CountState L). c.failed) (λ (c : CountState L). c.read_faults) counts
+                (All-map (λ (c : CountState L). 0 < c.failed → 0 < c.read_faults) count_in ends (all_from_places (λ e. 0 < (count_in e).failed → 0 < (count_in e).read_faults) ends (λ i e at. (served_at i e at).links.failed)))
+                (plus_none _ some_failed));
+            served = all_served;
+            count = many_served;
+            apart = are_apart some;
+            each = all_from_places (IsServedLink s (length opening) h (with_counts no_sums counts)) all_served is_served_link;
+            some_shut = same_test shuts (list_any (λ (l : ServedLink). l.told.shut) all_served)
+                (λ off. list_any_none (λ (l : ServedLink). l.told.shut) all_served (all_from_places (λ (l : ServedLink). l.told.shut ≡ false) all_served (quiet_link off)))
+                (λ off. loud (all_from_places (λ e. (seat_in e).glass.shuts ≡ 0) ends (quiet_seat off)));
+            sessions = in_sessions;
+            kept_are = are_kept keeps refl;
+            workers = workers;
+            by_workers = links_are lists.0 posted.0 many_lists;
+            letters = λ i w at. subst (λ (bs : List LetterBox). HasLetters h bs (i + 1) w) (sym (boxes_are lists.0 posted.0 many_lists)) (has_letters i w at);
+          },
+          sym (length-map workers (λ (w : Worker). w.box)) ∙ (ap (λ (bs : List LetterBox). length bs) (boxes_are lists.0 posted.0 many_lists) ∙ posted.1),
+          was_box,
+        )
           where
             some_raised : (n : ℕ) → 0 < n → 0 < raised n 0
             some_raised n some = omega (arith, some)

@@ -26,7 +26,7 @@ use Rattle.be_protocol.specs.declared.ends.SessionEnd.{SessionEnd}
 use Rattle.be_protocol.specs.declared.ends.SessionEnd.TheVariants.{Eof, Quit, ReadFault, WriteFault, Spent, Split, NoMemory}
 use Rattle.be_hub.specs.Closing.{KeepsAll, AreInOrder}
 use Rattle.be_hub.specs.Files.{FileServed, IsFileEnd, IsRead, lacks_memory, is_split_end, IsEndOf}
-use Rattle.be_hub.specs.Posted.{SessionBox, WasBox}
+use Rattle.be_hub.specs.Posted.{LetterBox, WasBox}
 use Rattle.be_hub.specs.Transcripts.{says_shut, IsTranscript, AreServed}
 use Rattle.be_hub.proofs.Choices.{AreChosen}
 use Rattle.be_hub.proofs.Ends.{there, at_its_place}
@@ -179,11 +179,11 @@ module _ {E F : Type 0} (seat_in : E → SeatState) (text_in : E → List ℕ) (
         known : All (λ (x : SeatState). BeginsWith h x.glass.known) back
         known k d lt = let some = kept k d lt in (keeps k d lt (get_or back k d).session some.somebody some.seat_is).known
 
-        abbrev posted : (bs : List SessionBox) × (length bs ≡ length boxes) × AreChosen (IsOfFound schema found boxes h back order back_is back_at kept known formed session_few) boxes bs
-        posted = all_boxes schema found boxes h back order back_is back_at kept known formed session_few
+        abbrev posted : (bs : List LetterBox) × (length bs ≡ length boxes) × AreChosen (IsOfFound schema found boxes h back order back_is back_at kept known) boxes bs
+        posted = all_boxes schema found boxes h back order back_is back_at kept known
 
         -- all files were served, and each box was a mailbox
-        pub are_served : (served : AreServed s opening h shuts (map bytes_in files) texts) × ((j : ℕ) (box : SessionBox) → slice_get served.boxes j ≡ Some box → WasBox found boxes j box)
+        pub are_served : (served : AreServed s opening h shuts (map bytes_in files) texts) × ((j : ℕ) (box : LetterBox) → slice_get served.boxes j ≡ Some box → WasBox found boxes j box)
         are_served = (
           record {
             formed = formed;

@@ -16,7 +16,9 @@ mod Visits
 mod LinksServed
 mod LinksBegun
 mod LinksLegal
+mod LinksPosted
 pub mod WereRead
 mod DoorSettled
 mod Unbroken
+mod DoorCounted
 mod DoorServed

@@ -1,28 +1,32 @@
 -- A link that was served, read over a list that keeps the words of all sessions of its seat.
-use Rattle.std.proofs.Common.{◌≡◌, ℕ, ◌≤◌, Bool, false, List, [], ◌∷◌, ◌++◌, length, map, Option, Some, None, slice_get, refl, sym, ap, ◌∙◌, subst, arith}
+use Rattle.std.proofs.Common.{◌≡◌, ℕ, ◌+◌, ◌==◌, ◌≤◌, filter, false, sum_by, List, [], ◌∷◌, ◌++◌, length, map, Option, Some, None, slice_get, refl, sym, ap, ◌∙◌, subst, arith}
 use Rattle.std.specs.List.{All}
 use Rattle.atomic_table.specs.Seated.{TableId}
 use Rattle.be_base.specs.Lists.{BeginsWith}
 use Rattle.be_base.proofs.Beginnings.{BeginsWith-along, BeginsWith-length}
 use Rattle.be_io.specs.Lines.{TextLine}
 use Rattle.be_io.specs.Outside.{LinkState}
+use Rattle.be_model.specs.Letters.{PlainLetter}
 use Rattle.be_model.specs.Schemas.{Attributes}
 use Rattle.be_change.specs.History.{Entry, placed_of}
+use Rattle.be_change.specs.Requests.{Exchange}
 use Rattle.be_mail.specs.Letters.{letter_in}
-use Rattle.be_board.specs.State.{BoardState}
+use Rattle.be_board.specs.Letters.{note_of}
+use Rattle.be_board.specs.State.{BoardState, CountsPuts}
 use Rattle.be_board.specs.Word.{Keeps, own_of, IsDelivered}
 use Rattle.be_desk.specs.Boards.{board_of}
 use Rattle.be_desk.specs.Seats.{SeatState, word_of}
 use Rattle.be_protocol.specs.declared.ends.SessionEnd.{SessionEnd}
 use Rattle.be_protocol.specs.declared.ends.SessionEnd.TheVariants.{Eof, Quit, ReadFault, WriteFault, Spent, Split, NoMemory}
 use Rattle.be_protocol.specs.Conversation.{Replied}
+use Rattle.be_session.specs.Given.{GivesNoted}
+use Rattle.be_session.specs.Tied.{letters_put}
 use Rattle.be_session.specs.Served.{SessionEnds, session_terms}
 use Rattle.be_hub.specs.Closing.{KeepsAll}
 use Rattle.be_hub.specs.Links.{WentOn, SeatVisit, LinkServed}
-use Rattle.be_hub.specs.Serving.{legal_terms, LinkEnds}
+use Rattle.be_hub.specs.Serving.{Told, told_in, legal_terms, LinkEnds}
 use Rattle.be_hub.specs.Settling.{IsUnbroken}
 use Rattle.be_hub.proofs.Places.{in_front, all_from_places, at_of_all}
-use Rattle.be_hub.specs.Transcripts.{says_shut}
 use Rattle.be_hub.proofs.Shuts.{Agrees, agrees}
 
 -- what holds of a list holds of its front
@@ -38,19 +42,19 @@ keeps_left h k s s' is w keeps = record {
   notes = all_front (IsDelivered h) (map letter_in s'.passes.taken) (map letter_in s.passes.taken) w.notes keeps.notes;
 }
 
--- whether a reply of a session says that a reader was refused
-abbrev pub shut_by : (P : Type 0) (s : Attributes) (before after : LinkState) (b b' : BoardState) (end : SessionEnd) → SessionEnds P s before after b b' end → Bool
-shut_by P s before after b b' Eof e = says_shut e.replied.exchanges
-shut_by P s before after b b' Quit e = says_shut e.replied.exchanges
-shut_by P s before after b b' ReadFault e = says_shut e.1.replied.exchanges
-shut_by P s before after b b' Spent e = says_shut e.2.replied.exchanges
-shut_by P s before after b b' WriteFault e = says_shut (e.1.replied.exchanges ++ e.1.replied.last ∷ [])
-shut_by P s before after b b' (Split i j) e = false
-shut_by P s before after b b' NoMemory e = false
+-- what the replies of a session tell
+abbrev pub telling : (P : Type 0) (s : Attributes) (before after : LinkState) (b b' : BoardState) (end : SessionEnd) → SessionEnds P s before after b b' end → Told
+telling P s before after b b' Eof e = told_in e.replied.exchanges
+telling P s before after b b' Quit e = told_in e.replied.exchanges
+telling P s before after b b' ReadFault e = told_in e.1.replied.exchanges
+telling P s before after b b' Spent e = told_in e.2.replied.exchanges
+telling P s before after b b' WriteFault e = told_in (e.1.replied.exchanges ++ e.1.replied.last ∷ [])
+telling P s before after b b' (Split i j) e = told_in []
+telling P s before after b b' NoMemory e = told_in []
 
--- it agrees with the board's count
+-- whether one says that a reader was refused agrees with the board's count
 agrees_by : (P : Type 0) (s : Attributes) (before after : LinkState) (b b' : BoardState) (end : SessionEnd) (e : SessionEnds P s before after b b' end) → IsUnbroken end
-    → Agrees (shut_by P s before after b b' end e) b.counts.shuts b'.counts.shuts
+    → Agrees (telling P s before after b b' end e).shut b.counts.shuts b'.counts.shuts
 agrees_by P s before after b b' Eof e u = agrees e.replied.exchanges b.counts.shuts b'.counts.shuts e.replied.legal.tied.shuts
 agrees_by P s before after b b' Quit e u = agrees e.replied.exchanges b.counts.shuts b'.counts.shuts e.replied.legal.tied.shuts
 agrees_by P s before after b b' ReadFault e u = agrees e.1.replied.exchanges b.counts.shuts b'.counts.shuts e.1.replied.legal.tied.shuts
@@ -59,10 +63,31 @@ agrees_by P s before after b b' WriteFault e u = agrees (e.1.replied.exchanges +
 agrees_by P s before after b b' (Split i j) e u = absurd u
 agrees_by P s before after b b' NoMemory e u = absurd u
 
+-- what was told of letters is what a board that tells no box has taken and counted
+pub record TellsLetters (t : Told) (b b' : BoardState) : Type 0 where
+  pub taken : List PlainLetter
+  pub notes : b'.word.notes ≡ b.word.notes ++ taken
+  pub given : t.given ≡ map note_of (filter (λ (l : PlainLetter). l.session == b.word.session) taken)
+  pub put : b'.counts.puts ≡ b.counts.puts + t.put
+
+tells_by : (ps : List Exchange) (b b' : BoardState) → GivesNoted b.word b'.word ps → CountsPuts None (sum_by letters_put ps) b.counts b'.counts → TellsLetters (told_in ps) b b'
+tells_by ps b b' g put = record { taken = g.0; notes = g.1; given = g.2; put = put }
+
+module _ (P : Type 0) (s : Attributes) (before after : LinkState) (tends : ℕ) (entered left : SeatState) where
+  tells_letters : (end : SessionEnd) (e : SessionEnds P s before after (board_of 1 s 0 entered) (board_of 1 s tends left) end) → IsUnbroken end
+      → TellsLetters (telling P s before after (board_of 1 s 0 entered) (board_of 1 s tends left) end e) (board_of 1 s 0 entered) (board_of 1 s tends left)
+  tells_letters Eof e u = tells_by e.replied.exchanges (board_of 1 s 0 entered) (board_of 1 s tends left) e.replied.legal.letters.1 e.replied.legal.puts
+  tells_letters Quit e u = tells_by e.replied.exchanges (board_of 1 s 0 entered) (board_of 1 s tends left) e.replied.legal.letters.1 e.replied.legal.puts
+  tells_letters ReadFault e u = tells_by e.1.replied.exchanges (board_of 1 s 0 entered) (board_of 1 s tends left) e.1.replied.legal.letters.1 e.1.replied.legal.puts
+  tells_letters Spent e u = tells_by e.2.replied.exchanges (board_of 1 s 0 entered) (board_of 1 s tends left) e.2.replied.legal.letters.1 e.2.replied.legal.puts
+  tells_letters WriteFault e u = tells_by (e.1.replied.exchanges ++ e.1.replied.last ∷ []) (board_of 1 s 0 entered) (board_of 1 s tends left) e.1.replied.legal.letters.1 e.1.replied.legal.puts
+  tells_letters (Split i j) e u = absurd u
+  tells_letters NoMemory e u = absurd u
+
 -- a session whose word the list keeps ended so over it
 module _ (P : Type 0) (s : Attributes) (z : ℕ) (h : List Entry) (before after : LinkState) (b b' : BoardState) (keeps : Keeps h b'.word) (within : z ≤ length b.word.known) where
   replied : (lines : List TextLine) (end : Option SessionEnd) → (r : Replied (session_terms s b b') lines end before.sink after.sink)
-      → Replied (legal_terms s b.word.session z h (says_shut r.exchanges)) lines end before.sink after.sink
+      → Replied (legal_terms s b.word.session z h (told_in r.exchanges)) lines end before.sink after.sink
   replied lines end r = record {
     exchanges = r.exchanges;
     asked = r.asked;
@@ -71,7 +96,7 @@ module _ (P : Type 0) (s : Attributes) (z : ℕ) (h : List Entry) (before after 
     legal = ((r.legal.borne h z keeps within).0, refl);
   }
 
-  legal_by : (end : SessionEnd) (e : SessionEnds P s before after b b' end) → IsUnbroken end → LinkEnds (legal_terms s b.word.session z h (shut_by P s before after b b' end e)) before after end
+  legal_by : (end : SessionEnd) (e : SessionEnds P s before after b b' end) → IsUnbroken end → LinkEnds (legal_terms s b.word.session z h (telling P s before after b b' end e)) before after end
   legal_by Eof e u = record { lines = e.lines; read = e.read; reads = e.reads; writes = e.writes; replied = replied e.lines None e.replied }
   legal_by Quit e u = record { lines = e.lines; read = e.read; reads = e.reads; writes = e.writes; replied = replied e.lines (Some Quit) e.replied }
   legal_by ReadFault e u = (e.0, record { lines = e.1.lines; read = e.1.read; writes = e.1.writes; replied = replied e.1.lines None e.1.replied })
@@ -91,17 +116,21 @@ module _ (P : Type 0) (s : Attributes) (z : ℕ) (h : List Entry) (before after 
   legal_by NoMemory e u = absurd u
 
 module _ (s : Attributes) (boxes : List TableId) (k : ℕ) (first last : SeatState) (visit : SeatVisit) (o : LinkServed s boxes k first last visit) where
-  -- whether a reply to the link says that a reader was refused
-  abbrev pub shut_of : Bool
-  shut_of =
-      shut_by ((visit.link ≡ o.unused) × (visit.left ≡ visit.entered) × (o.served.tends ≡ 0)) s o.unused visit.link (board_of 1 s 0 visit.entered) (board_of 1 s o.served.tends visit.left) visit.end o.served.session
+  -- what the replies to the link tell
+  abbrev pub told_at : Told
+  told_at =
+      telling ((visit.link ≡ o.unused) × (visit.left ≡ visit.entered) × (o.served.tends ≡ 0)) s o.unused visit.link (board_of 1 s 0 visit.entered) (board_of 1 s o.served.tends visit.left) visit.end o.served.session
 
-  pub shut_agrees : IsUnbroken visit.end → Agrees shut_of visit.entered.glass.shuts visit.left.glass.shuts
+  pub shut_agrees : IsUnbroken visit.end → Agrees told_at.shut visit.entered.glass.shuts visit.left.glass.shuts
   shut_agrees unbroken =
       agrees_by ((visit.link ≡ o.unused) × (visit.left ≡ visit.entered) × (o.served.tends ≡ 0)) s o.unused visit.link (board_of 1 s 0 visit.entered) (board_of 1 s o.served.tends visit.left) visit.end o.served.session unbroken
 
-  -- none does where the seat counted no refused reader to its end
-  pub none_shut : IsUnbroken visit.end → last.glass.shuts ≡ 0 → shut_of ≡ false
+  pub tells_at : IsUnbroken visit.end → TellsLetters told_at (board_of 1 s 0 visit.entered) (board_of 1 s o.served.tends visit.left)
+  tells_at unbroken =
+      tells_letters ((visit.link ≡ o.unused) × (visit.left ≡ visit.entered) × (o.served.tends ≡ 0)) s o.unused visit.link o.served.tends visit.entered visit.left visit.end o.served.session unbroken
+
+  -- none of them says that a reader was refused where the seat counted none to its end
+  pub none_shut : IsUnbroken visit.end → last.glass.shuts ≡ 0 → told_at.shut ≡ false
   none_shut unbroken is = (shut_agrees unbroken).quiet (omega (arith, is, o.went_on.shuts))
 
 module _ (s : Attributes) (boxes : List TableId) (z : ℕ) (h : List Entry) (k : ℕ) (first last : SeatState) (visit : SeatVisit) (o : LinkServed s boxes k first last visit) (keeps : KeepsAll boxes h last)
@@ -116,6 +145,6 @@ module _ (s : Attributes) (boxes : List TableId) (z : ℕ) (h : List Entry) (k :
     told : z ≤ length visit.entered.glass.known
     told = omega (arith, within, BeginsWith-length visit.entered.glass.known first.glass.known o.known)
 
-    pub legal_link : IsUnbroken visit.end → LinkEnds (legal_terms s visit.entered.session z h (shut_of s boxes k first last visit o)) o.unused visit.link visit.end
+    pub legal_link : IsUnbroken visit.end → LinkEnds (legal_terms s visit.entered.session z h (told_at s boxes k first last visit o)) o.unused visit.link visit.end
     legal_link unbroken =
         legal_by ((visit.link ≡ o.unused) × (visit.left ≡ visit.entered) × (o.served.tends ≡ 0)) s z h o.unused visit.link (board_of 1 s 0 visit.entered) (board_of 1 s o.served.tends visit.left) kept told visit.end o.served.session unbroken

@@ -1,10 +1,10 @@
 -- Where the letters of all seats came to, once the mail is settled.
-use Rattle.std.proofs.Common.{◌≡◌, ℕ, zero, suc, ◌+◌, ◌-◌, ◌%◌, ◌<◌, ◌≤◌, ◌==◌, Bool, true, false, List, [], ◌∷◌, ◌++◌, length, map, sum_by, take, drop, filter, Option, Some, None, slice_get, refl, sym, ap, ◌∙◌, subst, eq-eqb, ne_eqb, arith}
+use Rattle.std.proofs.Common.{◌≡◌, ℕ, ◌+◌, ◌-◌, ◌%◌, ◌<◌, ◌≤◌, ◌==◌, Bool, true, false, List, [], ◌∷◌, length, map, sum_by, take, drop, filter, Option, Some, None, slice_get, refl, sym, ap, ◌∙◌, subst, eq-eqb, ne_eqb, arith}
 use Rattle.std.specs.Prelude.{if◌then◌else◌}
 use Rattle.std.specs.List.{All, Contains}
 use Rattle.std.proofs.Math.Nat.{mod-eq_of_lt}
 use Rattle.std.proofs.lemmas.List.{length-map, map-append, take-append-drop}
-use Rattle.std.proofs.lemmas.List.Elements.{All-map, All-weaker, All-head, All-tail, All-contains, All-contains_itself, Contains-append_left}
+use Rattle.std.proofs.lemmas.List.Elements.{All-map, All-weaker, All-head, All-tail, All-contains, All-contains_itself}
 use Rattle.std.proofs.lemmas.Option.{slice_get_within}
 use Rattle.atomic_table.specs.Seated.{TableId}
 use Rattle.be_base.specs.Lists.{BeginsWith}
@@ -15,13 +15,13 @@ use Rattle.be_model.specs.Schemas.{Attributes}
 use Rattle.be_model.specs.declared.changes.Row.{Row}
 use Rattle.be_change.specs.Entries.{row_in}
 use Rattle.be_change.specs.History.{Entry, subscribed, unsubscribed, left, session_of, live, IsWellFormed}
-use Rattle.be_change.specs.Requests.{Exchange}
+use Rattle.be_change.specs.Requests.{Note, Exchange}
 use Rattle.be_change.specs.Walk.{IsNoteFor}
 use Rattle.be_change.proofs.Forms.{formed_take, formed_each}
 use Rattle.be_change.proofs.Listed.{live_listed}
-use Rattle.be_mail.specs.Letters.{Posting, IsFor, letter_in, letters_from}
+use Rattle.be_mail.specs.Letters.{Posting, IsFor, seat_of, letter_in, letters_from}
 use Rattle.be_mail.specs.Mailbox.{BoxId, Mailbox, all_of}
-use Rattle.be_mail.specs.Passes.{Passes, AreOfSeat, AllPut, put_into, Agrees}
+use Rattle.be_mail.specs.Passes.{AreOfSeat, put_into, Agrees}
 use Rattle.be_mail.specs.Settled.{IsKept}
 use Rattle.be_mail.proofs.AllPut.{AllPut-contains}
 use Rattle.be_mail.proofs.Senders.{among}
@@ -32,12 +32,12 @@ use Rattle.be_session.specs.Tied.{letters_put}
 use Rattle.be_desk.specs.Boards.{put_count}
 use Rattle.be_desk.specs.Seats.{SeatState, IsKeptSeat}
 use Rattle.be_hub.specs.Closing.{AreInOrder}
-use Rattle.be_hub.specs.Posted.{Mailed, note_in, SessionBox, all_in, count_from, IsBoxOf, mailed, box_in}
+use Rattle.be_hub.specs.Posted.{Mailed, note_in, LetterBox, all_in, count_from, IsLetterBox, IsBoxOf, mailed, box_in}
 use Rattle.be_hub.proofs.Choices.{AreChosen, choose, sums_alike}
 use Rattle.be_hub.proofs.Closing.{letters_stand}
 use Rattle.be_hub.proofs.Ends.{there}
 use Rattle.be_hub.proofs.Pairs.{at_place, map_at}
-use Rattle.be_hub.proofs.Places.{one_some, in_front, at_of_all}
+use Rattle.be_hub.proofs.Places.{one_some, in_front, all_from_places, at_of_all}
 use Rattle.be_hub.proofs.Shuts.{same_test}
 
 -- a filter that each element passes keeps all
@@ -62,9 +62,16 @@ owner_of g id row formed at = go (slice_get g id) refl (live_listed g id row at)
 all_mailed : (m : Mailbox) → all_in (box_in m) ≡ map mailed (all_of m)
 all_mailed m = sym (map-append mailed m.taken m.queued)
 
-notes_mailed : (xs : List Posting) → map note_of (map letter_in xs) ≡ map note_in (map mailed xs)
-notes_mailed [] = refl
-notes_mailed (x ∷ xs) = ap (λ l. note_of x.letter ∷ l) (notes_mailed xs)
+-- the notes for a session
+pub noted : (k : ℕ) (xs : List Posting) → map note_in (filter (λ (x : Mailed). x.reader == k) (map mailed xs)) ≡ map note_of (filter (λ (l : PlainLetter). l.session == k) (map letter_in xs))
+noted k [] = refl
+noted k (x ∷ xs) = go (x.letter.session == k) (noted k xs)
+  where
+    go : (b : Bool) → map note_in (filter (λ (y : Mailed). y.reader == k) (map mailed xs)) ≡ map note_of (filter (λ (l : PlainLetter). l.session == k) (map letter_in xs))
+        → map note_in (if b then mailed x ∷ filter (λ (y : Mailed). y.reader == k) (map mailed xs) else filter (λ (y : Mailed). y.reader == k) (map mailed xs))
+        ≡ map note_of (if b then x.letter ∷ filter (λ (l : PlainLetter). l.session == k) (map letter_in xs) else filter (λ (l : PlainLetter). l.session == k) (map letter_in xs))
+    go true rest = ap (λ (ns : List Note). note_of x.letter ∷ ns) rest
+    go false rest = rest
 
 next_same : (m n : ℕ) → (m + 1 == n + 1) ≡ (m == n)
 next_same m n =
@@ -92,16 +99,15 @@ first_of_seat n seat k some few is =
 
 module _ (schema : Attributes) (found : BoxId → Mailbox → Type 0) (boxes : List TableId) (h : List Entry) (seats : List SeatState) (order : AreInOrder schema found boxes seats) (many : length seats ≡ length boxes)
     (places : (i : ℕ) (s : SeatState) → slice_get seats i ≡ Some s → s.passes.seat ≡ i) (kept : All (IsKeptSeat boxes) seats) (known : All (λ (s : SeatState). BeginsWith h s.glass.known) seats)
-    (formed : IsWellFormed h) (within : (p : ℕ) (e : Entry) → slice_get h p ≡ Some e → session_of e ≤ length boxes)
   where
     abbrev pub IsFound : ℕ → Type 0
     IsFound j = IsKept schema (length boxes) found boxes (map (λ (s : SeatState). s.passes) seats) j
 
     -- all boxes, in the order of their seats
-    abbrev pub IsOfFound : ℕ → TableId → SessionBox → Type 0
+    abbrev pub IsOfFound : ℕ → TableId → LetterBox → Type 0
     IsOfFound j queue box = (k : IsFound j) × (box ≡ box_in k.state)
 
-    pub all_boxes : (bs : List SessionBox) × (length bs ≡ length boxes) × AreChosen IsOfFound boxes bs
+    pub all_boxes : (bs : List LetterBox) × (length bs ≡ length boxes) × AreChosen IsOfFound boxes bs
     all_boxes = choose IsOfFound boxes (λ j queue at. let k = order.kept j (slice_get_within boxes j queue at) in (box_in k.state, (k, refl)))
 
     agrees : (j : ℕ) (k : IsFound j) (i : ℕ) (s : SeatState) → slice_get seats i ≡ Some s → Agrees j k.state s.passes
@@ -114,7 +120,6 @@ module _ (schema : Attributes) (found : BoxId → Mailbox → Type 0) (boxes : L
     pub record IsGood (j : ℕ) (x : Posting) : Type 0 where
       pub fit : IsFor schema (length boxes) j x
       pub delivered : IsDelivered h x.letter
-      pub session : x.letter.session ≡ j + 1
 
     good : (j : ℕ) (k : IsFound j) (x : Posting) → Contains (all_of k.state) x → IsGood j x
     good j k x here =
@@ -123,26 +128,18 @@ module _ (schema : Attributes) (found : BoxId → Mailbox → Type 0) (boxes : L
         let stands = letters_stand boxes h s.0 (at_of_all (λ (t : SeatState). BeginsWith h t.glass.known) seats x.from s.0 known s.1) (at_of_all (IsKeptSeat boxes) seats x.from s.0 kept s.1) in
         let delivered : IsDelivered h x.letter =
         AllPut-contains (IsDelivered h) s.0.passes j x.letter stands (subst (λ (l : List PlainLetter). Contains l x.letter) (put_is j k x.from s.0 s.1) (among (all_of k.state) x here)) in
-        let row = x.letter.row in
-        let owner = owner_of (take x.letter.n h) (id_of row) row (formed_take x.letter.n h formed) delivered.stands in
-        let at = subst (λ (l : List Entry). slice_get l (id_of row) ≡ Some owner.0) (take-append-drop x.letter.n h) (in_front (take x.letter.n h) (drop x.letter.n h) (id_of row) owner.0 owner.1) in
-        let few = within (id_of row) owner.0 at in
-        record {
-          fit = fit;
-          delivered = delivered;
-          session = first_of_seat (length boxes) j x.letter.session fit.fit.somebody (omega (arith, few, owner.2, fit.fit.session)) fit.here;
-        }
+        record { fit = fit; delivered = delivered }
 
     all_good : (j : ℕ) (k : IsFound j) → All (IsGood j) (all_of k.state)
     all_good j k = All-weaker (Contains (all_of k.state)) (IsGood j) (good j k) (all_of k.state) (All-contains_itself (all_of k.state))
 
-    note_good : (j : ℕ) (x : Posting) → IsGood j x → IsNoteFor (j + 1) h (note_of x.letter)
+    note_good : (j : ℕ) (x : Posting) → IsGood j x → IsNoteFor x.letter.session h (note_of x.letter)
     note_good j x g = record {
       within = g.delivered.within;
       id = id_of x.letter.row;
       row = x.letter.row;
       stands = g.delivered.stands;
-      owner = g.fit.fit.session ∙ g.session;
+      owner = g.fit.fit.session;
       named = refl;
       satisfied = g.fit.fit.satisfies;
     }
@@ -152,29 +149,21 @@ module _ (schema : Attributes) (found : BoxId → Mailbox → Type 0) (boxes : L
     in_box j k P each =
         subst (All P) (sym (all_mailed k.state)) (All-map P mailed (all_of k.state) (All-weaker (IsGood j) (λ (x : Posting). P (mailed x)) each (all_of k.state) (all_good j k)))
 
-    -- the letters that a seat took are all for its session
-    all_mine : (j : ℕ) (k : IsFound j) → filter (λ (l : PlainLetter). l.session == j + 1) (map letter_in k.state.taken) ≡ map letter_in k.state.taken
-    all_mine j k =
-        let Mine : PlainLetter → Type 0 = λ l. (l.session == j + 1) ≡ true in
-        filter_whole (λ (l : PlainLetter). l.session == j + 1) (map letter_in k.state.taken)
-        (All-map Mine letter_in k.state.taken
-        (All-weaker (Contains k.state.taken) (λ (x : Posting). Mine x.letter)
-        (λ x here. eq-eqb x.letter.session (j + 1) (good j k x (Contains-append_left k.state.taken k.state.queued x here)).session)
-        k.state.taken (All-contains_itself k.state.taken)))
+    -- the box is that of this seat
+    pub record IsSeatBox (j : ℕ) (s : SeatState) (box : LetterBox) : Type 0 where
+      pub taken : box.taken ≡ map mailed s.passes.taken
+      pub sent : put_count s.passes ≡ sum_by (count_from (j + 1)) all_boxes.0
+      pub readers : All (λ (x : Mailed). seat_of (length all_boxes.0) x.reader + 1 ≡ j + 1) (all_in box)
+      pub box_is : IsLetterBox h all_boxes.0 box
 
-    -- the box of a seat that served one session, which had these exchanges
-    pub box_is : (j : ℕ) (s : SeatState) (ps : List Exchange) (box : SessionBox) → slice_get seats j ≡ Some s → letters_given ps ≡ map note_of (filter (λ (l : PlainLetter). l.session == j + 1) (map letter_in s.passes.taken))
-        → put_count s.passes ≡ sum_by letters_put ps → slice_get all_boxes.0 j ≡ Some box → IsBoxOf h all_boxes.0 (j + 1) ps box
-    box_is j s ps box at given put at_box = subst (IsBoxOf h all_boxes.0 (j + 1) ps) (sym (all_boxes.2 j box at_box).2.1) is
+    pub seat_box : (j : ℕ) (s : SeatState) (box : LetterBox) → slice_get seats j ≡ Some s → slice_get all_boxes.0 j ≡ Some box → IsSeatBox j s box
+    seat_box j s box at at_box = subst (IsSeatBox j s) (sym (all_boxes.2 j box at_box).2.1) is
       where
         k : IsFound j
         k = (all_boxes.2 j box at_box).2.0
 
         m : Mailbox
         m = k.state
-
-        taken_is : m.taken ≡ s.passes.taken
-        taken_is = (agrees j k j s at).taken (places j s at)
 
         form : AreOfSeat s.passes
         form = at_of_all AreOfSeat (map (λ (t : SeatState). t.passes) seats) j s.passes order.form (map_at (λ (t : SeatState). t.passes) seats j s at)
@@ -183,7 +172,7 @@ module _ (schema : Attributes) (found : BoxId → Mailbox → Type 0) (boxes : L
         lists = form.each ∙ ap (λ (l : List TableId). length l) (at_of_all (IsKeptSeat boxes) seats j s kept at).boxes_are
 
         -- what one box has of this seat
-        from_one : (i : ℕ) (b : SessionBox) (letters : List PlainLetter) → slice_get all_boxes.0 i ≡ Some b → slice_get s.passes.puts i ≡ Some letters → count_from (j + 1) b ≡ length letters
+        from_one : (i : ℕ) (b : LetterBox) (letters : List PlainLetter) → slice_get all_boxes.0 i ≡ Some b → slice_get s.passes.puts i ≡ Some letters → count_from (j + 1) b ≡ length letters
         from_one i b letters at_b at_letters =
             let c = (all_boxes.2 i b at_b).2 in
             ap (count_from (j + 1)) c.1
@@ -191,13 +180,48 @@ module _ (schema : Attributes) (found : BoxId → Mailbox → Type 0) (boxes : L
             ∙ (count_mailed j (all_of c.0.state)
             ∙ ap (λ (l : List PlainLetter). length l) (put_is i c.0 j s at ∙ (at_place s.passes.puts i [] letters at_letters).1)))
 
-        is : IsBoxOf h all_boxes.0 (j + 1) ps (box_in m)
+        is : IsSeatBox j s (box_in m)
         is = record {
-          fetched = given
-              ∙ (ap (λ (l : List Posting). map note_of (filter (λ (x : PlainLetter). x.session == j + 1) (map letter_in l))) (sym taken_is)
-              ∙ (ap (map note_of) (all_mine j k) ∙ notes_mailed m.taken));
-          sent = sym put ∙ sym (sums_alike (count_from (j + 1)) (λ (l : List PlainLetter). length l) all_boxes.0 s.passes.puts (all_boxes.1 ∙ sym lists) from_one);
-          senders = in_box j k (λ (x : Mailed). (0 < x.sender) × (x.sender ≤ length all_boxes.0)) (λ x g. (omega arith, omega (arith, g.fit.from, all_boxes.1)));
-          notes = in_box j k (λ (x : Mailed). IsNoteFor (j + 1) h x.note) (note_good j);
-          room = omega (arith, length-map m.queued mailed, k.sound.room);
+          taken = ap (map mailed) ((agrees j k j s at).taken (places j s at));
+          sent = sym (sums_alike (count_from (j + 1)) (λ (l : List PlainLetter). length l) all_boxes.0 s.passes.puts (all_boxes.1 ∙ sym lists) from_one);
+          readers = in_box j k (λ (x : Mailed). seat_of (length all_boxes.0) x.reader + 1 ≡ j + 1) (λ x g. ap (λ (n : ℕ). n + 1) (ap (λ (n : ℕ). seat_of n x.letter.session) all_boxes.1 ∙ g.fit.here));
+          box_is = record {
+            senders = in_box j k (λ (x : Mailed). (0 < x.sender) × (x.sender ≤ length all_boxes.0)) (λ x g. (omega arith, omega (arith, g.fit.from, all_boxes.1)));
+            notes = in_box j k (λ (x : Mailed). IsNoteFor x.reader h x.note) (note_good j);
+            room = omega (arith, length-map m.queued mailed, k.sound.room);
+          };
         }
+
+    -- where each seat had one session
+    module _ (formed : IsWellFormed h) (within : (p : ℕ) (e : Entry) → slice_get h p ≡ Some e → session_of e ≤ length boxes) where
+      mine : (j : ℕ) (x : Posting) → IsGood j x → x.letter.session ≡ j + 1
+      mine j x g =
+          let row = x.letter.row in
+          let owner = owner_of (take x.letter.n h) (id_of row) row (formed_take x.letter.n h formed) g.delivered.stands in
+          let at = subst (λ (l : List Entry). slice_get l (id_of row) ≡ Some owner.0) (take-append-drop x.letter.n h) (in_front (take x.letter.n h) (drop x.letter.n h) (id_of row) owner.0 owner.1) in
+          let few = within (id_of row) owner.0 at in
+          first_of_seat (length boxes) j x.letter.session g.fit.fit.somebody (omega (arith, few, owner.2, g.fit.fit.session)) g.fit.here
+
+      all_mine : (j : ℕ) (box : LetterBox) → slice_get all_boxes.0 j ≡ Some box → All (λ (x : Mailed). x.reader ≡ j + 1) (all_in box)
+      all_mine j box at_box =
+          let c = (all_boxes.2 j box at_box).2 in
+          subst (λ (b : LetterBox). All (λ (x : Mailed). x.reader ≡ j + 1) (all_in b)) (sym c.1) (in_box j c.0 (λ (x : Mailed). x.reader ≡ j + 1) (mine j))
+
+      -- the box of a seat that served one session, which had these exchanges
+      pub box_is : (j : ℕ) (s : SeatState) (ps : List Exchange) (box : LetterBox) → slice_get seats j ≡ Some s → letters_given ps ≡ map note_of (filter (λ (l : PlainLetter). l.session == j + 1) (map letter_in s.passes.taken))
+          → put_count s.passes ≡ sum_by letters_put ps → slice_get all_boxes.0 j ≡ Some box → IsBoxOf h all_boxes.0 (j + 1) ps box
+      box_is j s ps box at given put at_box = record {
+        fetched = given
+            ∙ (sym (noted (j + 1) s.passes.taken)
+            ∙ (ap (λ (l : List Mailed). map note_in (filter (λ (x : Mailed). x.reader == j + 1) l)) (sym b.taken) ∙ ap (map note_in) (filter_whole (λ (x : Mailed). x.reader == j + 1) box.taken taken_mine)));
+        sent = sym put ∙ b.sent;
+        mine = all_mine j box at_box;
+        box_is = b.box_is;
+      }
+        where
+          b : IsSeatBox j s box
+          b = seat_box j s box at at_box
+
+          taken_mine : All (λ (x : Mailed). (x.reader == j + 1) ≡ true) box.taken
+          taken_mine = all_from_places (λ (x : Mailed). (x.reader == j + 1) ≡ true) box.taken
+              (λ i x at_x. eq-eqb x.reader (j + 1) (at_of_all (λ (y : Mailed). y.reader ≡ j + 1) (all_in box) i x (all_mine j box at_box) (in_front box.taken box.left i x at_x)))

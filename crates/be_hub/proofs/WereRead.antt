@@ -37,10 +37,10 @@ module _ {L : Type 0} (told : L → LinkState) (s : Attributes) (opening h : Lis
       record {
         given = all;
         back = l.back ∙ all;
-        each = all_from_places (λ (x : ServedLink). IsRead x.end × (x.shut ≡ false)) l.served
+        each = all_from_places (λ (x : ServedLink). IsRead x.end × (x.told.shut ≡ false)) l.served
             (λ i x at. (
-              read_by (legal_terms s x.session (length opening) h x.shut) sums x.link x.end (at_of_all (IsServedLink s (length opening) h sums) l.served i x l.each at).legal none,
-              none_at (λ (y : ServedLink). y.shut) l.served i x (sym l.some_shut ∙ is) at,
+              read_by (legal_terms s x.session (length opening) h x.told) sums x.link x.end (at_of_all (IsServedLink s (length opening) h sums) l.served i x l.each at).legal none,
+              none_at (λ (y : ServedLink). y.told.shut) l.served i x (sym l.some_shut ∙ is) at,
             ));
       }
 

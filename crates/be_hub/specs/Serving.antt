@@ -1,6 +1,6 @@
 -- What the links of a door gave and hold, over one list of changes, and what was made of the door.
 use Rattle.std.specs.Prelude.{◌≡◌, ℕ, ◌+◌, ◌<◌, ◌≤◌, ◌++◌, ◌⊎◌, Bool, true, false, List, [], ◌∷◌, length, map, All, Any, None, Some, slice_get}
-use Rattle.std.specs.List.{list_any}
+use Rattle.std.specs.List.{flat_map, list_any, sum_by}
 use Rattle.be_base.specs.Counts.{raised, HasRisen, HasRisenBy}
 use Rattle.be_base.specs.Lists.{BeginsWith}
 use Rattle.be_base.specs.declared.limits.TheConstants.{SOURCE_BYTES}
@@ -8,6 +8,8 @@ use Rattle.be_base.specs.declared.names.SessionNo.{SessionNo}
 use Rattle.be_io.specs.Outside.{LinkState}
 use Rattle.be_model.specs.Schemas.{Attributes}
 use Rattle.be_change.specs.History.{Entry, session_of, IsWellFormed}
+use Rattle.be_change.specs.Requests.{Note, Exchange}
+use Rattle.be_mail.specs.Letters.{seat_of}
 use Rattle.be_door.specs.Door.{DoorState, after_try}
 use Rattle.be_door.specs.Links.{IsUnused}
 use Rattle.be_door.specs.declared.sums.Sums.{Sums}
@@ -16,8 +18,11 @@ use Rattle.be_protocol.specs.Readings.{reading}
 use Rattle.be_protocol.specs.Transcript.{AreExchanges}
 use Rattle.be_protocol.specs.declared.ends.SessionEnd.{SessionEnd}
 use Rattle.be_protocol.specs.declared.ends.SessionEnd.TheVariants.{Split, NoMemory}
+use Rattle.be_session.specs.Given.{letters_given}
+use Rattle.be_session.specs.Tied.{letters_put}
 use Rattle.be_hub.specs.Files.{IsRead}
 use Rattle.be_hub.specs.Links.{IsCounted}
+use Rattle.be_hub.specs.Posted.{Mailed, LetterBox, all_in, count_from, taken_for, StandAmong, IsLetterBox}
 use Rattle.be_hub.specs.Transcripts.{says_shut}
 use Rattle.be_hub.specs.declared.close.CloseFault.{CloseFault}
 use Rattle.be_hub.specs.declared.close.CloseFault.TheVariants as close
@@ -26,14 +31,24 @@ use Rattle.be_io.specs.declared.faults.ListenFault.TheVariants as listen
 use Rattle.be_hub.specs.declared.serving.ServeFault.{ServeFault}
 use Rattle.be_hub.specs.declared.serving.ServeFault.TheVariants as fault
 
--- session k's conversation over the list, of which it was told z entries before. `shut` is whether some reply says that a reader was
--- refused
-abbrev pub legal_terms : Attributes → (k z : ℕ) → List Entry → (shut : Bool) → Terms
-legal_terms s k z h shut = record {
+-- what the replies of a session tell: whether one says that a reader was refused, the letters that FETCH gave, in order, and how many
+-- letters SEND says were put
+pub record Told : Type 0 where
+  pub shut : Bool
+  pub given : List Note
+  pub put : ℕ
+
+abbrev pub told_in : List Exchange → Told
+told_in ps = record { shut = says_shut ps; given = letters_given ps; put = sum_by letters_put ps }
+
+-- session k's conversation over the list, of which it was told z entries before. Its replies tell this. A last reply of which a part may
+-- be missing tells it too
+abbrev pub legal_terms : Attributes → (k z : ℕ) → List Entry → Told → Terms
+legal_terms s k z h told = record {
   schema = s;
   asks = reading s;
-  Whole = λ end lines ps. AreExchanges s k z h lines ps × (says_shut ps ≡ shut);
-  InPart = λ lines ps p out. AreExchanges s k z h lines (ps ++ p ∷ []) × (says_shut (ps ++ p ∷ []) ≡ shut);
+  Whole = λ end lines ps. AreExchanges s k z h lines ps × (told_in ps ≡ told);
+  InPart = λ lines ps p out. AreExchanges s k z h lines (ps ++ p ∷ []) × (told_in (ps ++ p ∷ []) ≡ told);
 }
 
 -- how the conversation with a link that is told of may have ended: memory wasn't wanting to it, and it didn't end by two numbers that
@@ -57,18 +72,18 @@ pub record IsServedUnder (t : Terms) (sums : Sums) (link : LinkState) (end : Ses
 abbrev pub AreFaultless : Sums → Type 0
 AreFaultless sums = (sums.read_faults ≡ 0) × (sums.write_faults ≡ 0) × (sums.most < SOURCE_BYTES)
 
--- a link that was given out and served: its session, the link as it stood when it came back, how the session ended, and whether
--- some reply says that a reader was refused
+-- a link that was given out and served: its session, the link as it stood when it came back, how the session ended, and what its
+-- replies tell
 pub record ServedLink : Type 0 where
   pub session : ℕ
   pub link : LinkState
   pub end : SessionEnd
-  pub shut : Bool
+  pub told : Told
 
 -- the link was served over the list as the session that it names. Session 0 is nobody
 pub record IsServedLink (s : Attributes) (z : ℕ) (h : List Entry) (sums : Sums) (l : ServedLink) : Type 0 where
   pub somebody : 0 < l.session
-  pub legal : IsServedUnder (legal_terms s l.session z h l.shut) sums l.link l.end
+  pub legal : IsServedUnder (legal_terms s l.session z h l.told) sums l.link l.end
 
 -- no two of these links have the same session
 abbrev pub AreApart : List ServedLink → Type 0
@@ -76,7 +91,31 @@ AreApart ls = (i j : ℕ) (x y : ServedLink) → slice_get ls i ≡ Some x → s
 
 -- each was read to its end or to a QUIT, and none says that a reader was refused
 abbrev pub AreRead : List ServedLink → Type 0
-AreRead ls = All (λ (l : ServedLink). IsRead l.end × (l.shut ≡ false)) ls
+AreRead ls = All (λ (l : ServedLink). IsRead l.end × (l.told.shut ≡ false)) ls
+
+-- a worker: the links that it served, in order, and its box of letters
+pub record Worker : Type 0 where
+  pub links : List ServedLink
+  pub box : LetterBox
+
+abbrev pub boxes_of : List Worker → List LetterBox
+boxes_of workers = map (λ (w : Worker). w.box) workers
+
+-- of so many workers, worker k, from 1, has the session
+abbrev pub IsOfWorker : (workers k session : ℕ) → Type 0
+IsOfWorker workers k session = seat_of workers session + 1 ≡ k
+
+-- the letters of worker k among the boxes of all workers, over the list
+pub record HasLetters (h : List Entry) (boxes : List LetterBox) (k : ℕ) (w : Worker) : Type 0 where
+  -- the letters that FETCH gave to a link stand in one piece, in order, among those that were taken out of the worker's box for the
+  -- link's session
+  pub given : All (λ (l : ServedLink). StandAmong l.told.given (taken_for l.session w.box)) w.links
+  -- as many letters as SEND said to all of its links lie in all boxes from the worker
+  pub sent : sum_by (λ (l : ServedLink). l.told.put) w.links ≡ sum_by (count_from k) boxes
+  -- each of its links, and each letter in its box, is of a session that it has
+  pub sessions : All (λ (l : ServedLink). IsOfWorker (length boxes) k l.session) w.links
+  pub readers : All (λ (x : Mailed). IsOfWorker (length boxes) k x.reader) (all_in w.box)
+  pub box_is : IsLetterBox h boxes w.box
 
 abbrev pub session_and_link : ServedLink → ℕ × LinkState
 session_and_link l = (l.session, l.link)
@@ -91,7 +130,8 @@ module _ {L : Type 0} (told : L → LinkState) where
   AreKept false kept ls = kept ≡ []
 
   -- so many links were to be given out, and what came of them has these numbers. Each that was given out was served as a session of
-  -- its own, over one well formed list that begins with the opening and has the changes of these sessions alone behind it
+  -- its own, over one well formed list that begins with the opening and has the changes of these sessions alone behind it. Each worker
+  -- has a box of letters, and the replies to its links say what was put and what was taken out
   pub record LinksAreServed (s : Attributes) (opening h : List Entry) (shuts : Bool) (links : ℕ) (sums : Sums) (keeps : Bool) (kept : List (SessionNo × L)) : Type 0 where
     pub formed : IsWellFormed h
     pub begins : BeginsWith h opening
@@ -106,9 +146,13 @@ module _ {L : Type 0} (told : L → LinkState) where
     pub apart : AreApart served
     pub each : All (IsServedLink s (length opening) h sums) served
     -- a session's read was refused its entry exactly where a reply to some link says so
-    pub some_shut : shuts ≡ list_any (λ (l : ServedLink). l.shut) served
+    pub some_shut : shuts ≡ list_any (λ (l : ServedLink). l.told.shut) served
     pub sessions : (place : ℕ) (e : Entry) → length opening ≤ place → slice_get h place ≡ Some e → Any (λ (l : ServedLink). l.session ≡ session_of e) served
     pub kept_are : AreKept keeps kept served
+    -- one a worker, and the links are theirs, one worker's behind another's
+    pub workers : List Worker
+    pub by_workers : served ≡ flat_map (λ (w : Worker). w.links) workers
+    pub letters : (i : ℕ) (w : Worker) → slice_get workers i ≡ Some w → HasLetters h (boxes_of workers) (i + 1) w
 
 -- all links were given out and came back, each was read to its end or to a QUIT, and none says that a reader was refused
 pub record WereRead (links : ℕ) (sums : Sums) (served : List ServedLink) : Type 0 where

@@ -10,7 +10,7 @@ use Rattle.be_change.specs.Requests.{Exchange}
 use Rattle.be_protocol.specs.Runs.{HasNoQuit, EndsWithQuit}
 use Rattle.be_protocol.specs.Transcript.{AreExchanges, texts}
 use Rattle.be_session.specs.Tied.{is_shut, is_split}
-use Rattle.be_hub.specs.Posted.{SessionBox, IsBoxOf}
+use Rattle.be_hub.specs.Posted.{LetterBox, IsBoxOf}
 
 -- these are all lines of the file, none of which is a QUIT, or those up to the first QUIT
 abbrev pub AreServedLines : Attributes → List ℕ → List TextLine → Type 0
@@ -50,7 +50,7 @@ pub record AreServed (s : Attributes) (opening h : List Entry) (shuts : Bool) (f
       → (i : ℕ) × (file : List ℕ) × (transcript : List ℕ) × (here : slice_get files i ≡ Some file) × (there : slice_get transcripts i ≡ Some transcript)
       × (says_shut (each i file transcript here there).exchanges ≡ true)
   -- one a session
-  pub boxes : List SessionBox
+  pub boxes : List LetterBox
   pub box_count : length boxes ≡ length files
-  pub letters : (i : ℕ) (file transcript : List ℕ) (box : SessionBox) (here : slice_get files i ≡ Some file) (there : slice_get transcripts i ≡ Some transcript)
+  pub letters : (i : ℕ) (file transcript : List ℕ) (box : LetterBox) (here : slice_get files i ≡ Some file) (there : slice_get transcripts i ≡ Some transcript)
       → slice_get boxes i ≡ Some box → IsBoxOf h boxes (i + 1) (each i file transcript here there).exchanges box

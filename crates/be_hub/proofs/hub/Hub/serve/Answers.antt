@@ -5,8 +5,8 @@ use Rattle.be_desk.specs.Seats.{first_seat}
 use Rattle.be_door.specs.Counts.{with_counts}
 use Rattle.be_door.specs.Door.{after_listen}
 use Rattle.be_door.specs.Sums.{no_sums}
-use Rattle.be_hub.specs.Serving.{LinksAreServed, LeavesDoor, served_door}
-use Rattle.be_hub.proofs.DoorServed.{seats_at, splits_are, counts_are, links_are_served, may_start}
+use Rattle.be_hub.specs.Serving.{LeavesDoor, served_door}
+use Rattle.be_hub.proofs.DoorServed.{ServedWithBoxes, seats_at, splits_are, counts_are, links_are_served, may_start}
 use Rattle.be_hub.proofs.DoorSettled.{kept_is, keeps_is, door_served, all_links, leaves_closing, leaves_settling}
 use Rattle.be_hub.proofs.Ends.{all_back}
 use Rattle.be_hub.proofs.FilesClosed.{none_is}
@@ -96,8 +96,8 @@ close-requires g c =
     let e = c.in-Ok-settle_links.ensures in
     record { all = all_back (λ end. end.seat) boxes ends c.in-Ok-settle_links.left.seats.items e.seats count e.kept (seats_at told (λ end. end.seat) (λ end. end.count) (λ end. end.ends.items) (λ end. end.tended) g.J.Naming.schema boxes g.J.Naming.opening d₁ ends c.args.seats.items c.requires.seats count c.in-Ok-run_door.ensures.ends) }
 
-pub returns-in-Ok-close-clause-served : goal.returns-in-Ok-close-clause-served
-returns-in-Ok-close-clause-served g c =
+pub returns-in-Ok-close-clause-letters : goal.returns-in-Ok-close-clause-letters
+returns-in-Ok-close-clause-letters g c =
     let boxes = g.J.BoxNames.boxes in
     let many : length c.args.seats.items ≡ length boxes = ap (λ l. length l) c.requires.seats ∙ length-map-range_with_len (first_seat g.J.Naming.opening boxes) 0 (length boxes) in
     let workers : c.len.result ≡ length boxes = omega (arith, many, c.len.ensures, c.args.seats.ok.0) in
@@ -116,9 +116,12 @@ returns-in-Ok-close-clause-served g c =
     let closed = c.in-Ok-close.ensures in
     let served = links_are_served told (λ end. end.seat) (λ end. end.count) (λ end. end.ends.items) (λ end. end.tended) g.J.Naming.schema boxes g.J.Naming.opening d₁ ends c.args.seats.items c.requires.seats count c.in-Ok-run_door.ensures.ends list left.seats.items (is_some left.shade) c.args.links d₂.keeps c.requires.few.0 e.kept e.seats
     (λ is. e.shade.0 (none_is left.shade is)) (λ all. ap is_some (e.shade.1 all)) e.unbroken closed.sound.formed closed.keeps closed.recorded closed.opened (keeps_is d d₁ d₂ c.args.port c.args.links (length boxes) listened counts e.settled)
-    none (all_links d d₁ d₂ c.args.port c.args.links (length boxes) listened counts e.settled e.links none) in
-    subst (λ x. LinksAreServed told g.J.Naming.schema g.J.Naming.opening list (is_some left.shade) c.args.links x d₂.keeps d₂.kept) (sym e.sums)
-    (subst (λ x. LinksAreServed told g.J.Naming.schema g.J.Naming.opening list (is_some left.shade) c.args.links (with_counts no_sums counts) d₂.keeps x) (sym (kept_is d d₁ d₂ c.args.port c.args.links (length boxes) listened counts e.settled)) served)
+    none (all_links d d₁ d₂ c.args.port c.args.links (length boxes) listened counts e.settled e.links none) g.S.Post.schema g.S.Post.found closed.letters in
+    let Is = ServedWithBoxes told g.S.Post.found g.J.Naming.schema boxes g.J.Naming.opening list (is_some left.shade) c.args.links d₂.keeps in
+    subst (λ x. Is x d₂.kept) (sym e.sums) (subst (λ x. Is (with_counts no_sums counts) x) (sym (kept_is d d₁ d₂ c.args.port c.args.links (length boxes) listened counts e.settled)) served)
+
+pub returns-in-Ok-close-clause-served : goal.returns-in-Ok-close-clause-served
+returns-in-Ok-close-clause-served g c = (returns-in-Ok-close-clause-letters g c).0
 
 pub returns-in-Ok-close-clause-door : goal.returns-in-Ok-close-clause-door
 returns-in-Ok-close-clause-door g c =
