@@ -20,7 +20,8 @@ use Rattle.be_model.specs.Schemas.{Attributes}
 use Rattle.be_change.specs.History.{Entry, session_of, IsWellFormed}
 use Rattle.be_mail.specs.Letters.{seat_of, letter_in}
 use Rattle.be_mail.specs.Mailbox.{BoxId, Mailbox}
-use Rattle.be_mail.specs.Passes.{new_passes}
+use Rattle.be_mail.specs.Passes.{Passes, new_passes}
+use Rattle.be_mail.specs.Settled.{AreAll}
 use Rattle.be_desk.specs.Boards.{put_count}
 use Rattle.be_desk.specs.Closing.{AreRecorded}
 use Rattle.be_desk.specs.Desks.{IsOpened}
@@ -54,19 +55,19 @@ pair a x = (a, x)
 abbrev pub served_link : Told → SeatVisit → ServedLink
 served_link told v = record { session = v.entered.session; link = v.link; end = v.end; told = told }
 
-module _ {L : Type 0} (told : L → LinkState) (found : BoxId → Mailbox → Type 0) (s : Attributes) (boxes : List TableId) (opening h : List Entry) (shuts : Bool) (links : ℕ) (keeps : Bool) where
+module _ {L : Type 0} (told : L → LinkState) (schema : Attributes) (found : BoxId → Mailbox → Type 0) (s : Attributes) (boxes : List TableId) (opening h : List Entry) (shuts : Bool) (links : ℕ) (keeps : Bool) where
   -- the links were served, and the workers' boxes are the mailboxes
   abbrev pub ServedWithBoxes : Sums → List (SessionNo × L) → Type 0
   ServedWithBoxes sums kept =
-      (served : LinksAreServed told s opening h shuts links sums keeps kept) × (length served.workers ≡ length boxes)
-      × ((i : ℕ) (worker : Worker) → slice_get served.workers i ≡ Some worker → WasBox found boxes i worker.box)
+      (served : LinksAreServed told s opening h shuts (length boxes) links sums keeps kept) × (passes : List Passes) × AreAll boxes passes
+      × ((i : ℕ) (worker : Worker) → slice_get served.workers i ≡ Some worker → WasBox schema found boxes passes i worker.box)
 
-module _ {L : Type 0} (told : L → LinkState) {E : Type 0} (seat_in : E → SeatState) (count_in : E → CountState L) (ends_in : E → List SessionEnd) (calls_in : E → ℕ) (s : Attributes) (boxes : List TableId) (opening : List Entry) (door : DoorState L)
+module _ {L : Type 0} (told : L → LinkState) {E : Type 0} (seat_in : E → SeatState) (count_in : E → CountState L) (ends_in : E → List SessionEnd) (calls_in asked_in between_in : E → ℕ) (s : Attributes) (boxes : List TableId) (opening : List Entry) (door : DoorState L)
     (ends : List E) (seats : List SeatState) (first : seats ≡ map (first_seat opening boxes) (range_with_len 0 (length boxes))) (count : length ends ≡ length boxes)
-    (served : (i : ℕ) (seat : SeatState) (end : E) → slice_get seats i ≡ Some seat → slice_get ends i ≡ Some end → WorkerServed told s boxes door seat (seat_in end) (count_in end) (ends_in end) (calls_in end))
+    (served : (i : ℕ) (seat : SeatState) (end : E) → slice_get seats i ≡ Some seat → slice_get ends i ≡ Some end → WorkerServed told s boxes door seat (seat_in end) (count_in end) (ends_in end) (calls_in end) (asked_in end) (between_in end))
   where
     -- what was left at a place is of the seat there
-    served_at : (i : ℕ) (end : E) → slice_get ends i ≡ Some end → WorkerServed told s boxes door (first_seat opening boxes i) (seat_in end) (count_in end) (ends_in end) (calls_in end)
+    served_at : (i : ℕ) (end : E) → slice_get ends i ≡ Some end → WorkerServed told s boxes door (first_seat opening boxes i) (seat_in end) (count_in end) (ends_in end) (calls_in end) (asked_in end) (between_in end)
     served_at i end at =
         let lt : i < length boxes = omega (arith, slice_get_within ends i end at, count) in
         served i (first_seat opening boxes i) end (seat_at opening boxes (length boxes) i seats first lt) at
@@ -350,13 +351,11 @@ module _ {L : Type 0} (told : L → LinkState) {E : Type 0} (seat_in : E → Sea
               box_is = b.box_is;
             }
 
-        was_box : (i : ℕ) (w : Worker) → slice_get workers i ≡ Some w → WasBox found boxes i w.box
-        was_box i w at =
-            let c = (posted.2 i w.box (worker_at lists.0 posted.0 i w at).1).2 in
-            (c.0.state, c.0.seen, c.1)
+        was_box : (i : ℕ) (w : Worker) → slice_get workers i ≡ Some w → WasBox schema found boxes (map (λ (x : SeatState). x.passes) back) i w.box
+        was_box i w at = (posted.2 i w.box (worker_at lists.0 posted.0 i w at).1).2
 
-        pub links_are_served : ServedWithBoxes told found s boxes opening h shuts links keeps (with_counts no_sums counts) (all_kept counts)
-        links_are_served = (
+        pub links_are_served : AreAll boxes (map (λ (x : SeatState). x.passes) back) → ServedWithBoxes told schema found s boxes opening h shuts links keeps (with_counts no_sums counts) (all_kept counts)
+        links_are_served all = (
           record {
             formed = formed;
             begins = opened.begins;
@@ -378,10 +377,12 @@ module _ {L : Type 0} (told : L → LinkState) {E : Type 0} (seat_in : E → Sea
             sessions = in_sessions;
             kept_are = are_kept keeps refl;
             workers = workers;
+            worker_count = sym (length-map workers (λ (w : Worker). w.box)) ∙ (ap (λ (bs : List LetterBox). length bs) (boxes_are lists.0 posted.0 many_lists) ∙ posted.1);
             by_workers = links_are lists.0 posted.0 many_lists;
             letters = λ i w at. subst (λ (bs : List LetterBox). HasLetters h bs (i + 1) w) (sym (boxes_are lists.0 posted.0 many_lists)) (has_letters i w at);
           },
-          sym (length-map workers (λ (w : Worker). w.box)) ∙ (ap (λ (bs : List LetterBox). length bs) (boxes_are lists.0 posted.0 many_lists) ∙ posted.1),
+          map (λ (x : SeatState). x.passes) back,
+          all,
           was_box,
         )
           where

@@ -15,7 +15,8 @@ use Rattle.be_model.specs.Letters.{PlainLetter}
 use Rattle.be_model.specs.Schemas.{Attributes}
 use Rattle.be_change.specs.History.{Entry, session_of, IsWellFormed}
 use Rattle.be_mail.specs.Mailbox.{BoxId, Mailbox}
-use Rattle.be_mail.specs.Passes.{new_passes}
+use Rattle.be_mail.specs.Passes.{Passes, new_passes}
+use Rattle.be_mail.specs.Settled.{AreAll}
 use Rattle.be_board.specs.Letters.{note_of}
 use Rattle.be_session.specs.Tied.{letters_put}
 use Rattle.be_desk.specs.Boards.{board_of, put_count}
@@ -183,8 +184,9 @@ module _ {E F : Type 0} (seat_in : E → SeatState) (text_in : E → List ℕ) (
         posted = all_boxes schema found boxes h back order back_is back_at kept known
 
         -- all files were served, and each box was a mailbox
-        pub are_served : (served : AreServed s opening h shuts (map bytes_in files) texts) × ((j : ℕ) (box : LetterBox) → slice_get served.boxes j ≡ Some box → WasBox found boxes j box)
-        are_served = (
+        pub are_served : AreAll boxes (map (λ (x : SeatState). x.passes) back)
+            → (served : AreServed s opening h shuts (map bytes_in files) texts) × (passes : List Passes) × AreAll boxes passes × ((j : ℕ) (box : LetterBox) → slice_get served.boxes j ≡ Some box → WasBox schema found boxes passes j box)
+        are_served all = (
           record {
             formed = formed;
             begins = opened.begins;
@@ -211,5 +213,7 @@ module _ {E F : Type 0} (seat_in : E → SeatState) (text_in : E → List ℕ) (
                 (omega (arith, put, sum_by-replicate (λ (ls : List PlainLetter). length ls) (length boxes) []))
                 at_box;
           },
-          λ j box at. let c = (posted.2 j box at).2 in (c.0.state, c.0.seen, c.1),
+          map (λ (x : SeatState). x.passes) back,
+          all,
+          λ j box at. (posted.2 j box at).2,
         )

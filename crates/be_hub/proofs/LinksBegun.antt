@@ -22,10 +22,10 @@ use Rattle.be_hub.proofs.LinksServed.{accepted}
 
 module _ {L : Type 0} (told : L → LinkState) (s : Attributes) (boxes : List TableId) where
   -- nothing was served yet
-  pub none_served : (first : SeatState) (count : CountState L) (of : TableId) (links : ℕ) (keeps : Bool) (ends : List SessionEnd) (calls : ℕ) → count ≡ new_count of links keeps → ends ≡ [] → LinksServed told s boxes first first count ends calls
+  pub none_served : (first : SeatState) (count : CountState L) (of : TableId) (links : ℕ) (keeps : Bool) (ends : List SessionEnd) (calls : ℕ) → count ≡ new_count of links keeps → ends ≡ [] → LinksServed told s boxes first first count ends calls 0
   none_served first count of links keeps ends calls is none =
-      subst (λ es. LinksServed told s boxes first first count es calls) (sym none)
-      (subst (λ c. LinksServed told s boxes first first c [] calls) (sym is)
+      subst (λ es. LinksServed told s boxes first first count es calls 0) (sym none)
+      (subst (λ c. LinksServed told s boxes first first c [] calls 0) (sym is)
       (record {
         back = refl;
         seat = refl;
@@ -36,6 +36,7 @@ module _ {L : Type 0} (told : L → LinkState) (s : Attributes) (boxes : List Ta
         visits = [];
         ends_are = refl;
         chain = refl;
+        tends = refl;
         served = λ i v at. absurd cc;
         kept = λ i x at. absurd cc;
         counted = All-nil (IsCounted (sums_of (new_count {L = L} of links keeps)));
@@ -47,28 +48,28 @@ module _ {L : Type 0} (told : L → LinkState) (s : Attributes) (boxes : List Ta
       plus_none : (a q : ℕ) → a ≡ a + 0 * q
       plus_none a q = omega arith
 
-  module _ (first last : SeatState) (c c' : CountState L) (ends : List SessionEnd) (calls : ℕ) (l : LinksServed told s boxes first last c ends calls) where
-    pub was_given : c' ≡ after_given c → LinksServed told s boxes first last c' ends calls
-    was_given is = subst (λ x. LinksServed told s boxes first last x ends calls) (sym is)
-        (accepted told s boxes first last c (after_given c) ends calls l refl refl (record { read_faults = λ h. h; write_faults = λ h. h; most = omega arith }) l.failed)
+  module _ (first last : SeatState) (c c' : CountState L) (ends : List SessionEnd) (calls asked : ℕ) (l : LinksServed told s boxes first last c ends calls asked) where
+    pub was_given : c' ≡ after_given c → LinksServed told s boxes first last c' ends calls asked
+    was_given is = subst (λ x. LinksServed told s boxes first last x ends calls asked) (sym is)
+        (accepted told s boxes first last c (after_given c) ends calls asked l refl refl (record { read_faults = λ h. h; write_faults = λ h. h; most = omega arith }) l.failed)
 
-    pub has_ended : c' ≡ after_end c → LinksServed told s boxes first last c' ends calls
-    has_ended is = subst (λ x. LinksServed told s boxes first last x ends calls) (sym is)
-        (accepted told s boxes first last c (after_end c) ends calls l refl refl (record { read_faults = λ h. h; write_faults = λ h. h; most = omega arith }) l.failed)
+    pub has_ended : c' ≡ after_end c → LinksServed told s boxes first last c' ends calls asked
+    has_ended is = subst (λ x. LinksServed told s boxes first last x ends calls asked) (sym is)
+        (accepted told s boxes first last c (after_end c) ends calls asked l refl refl (record { read_faults = λ h. h; write_faults = λ h. h; most = omega arith }) l.failed)
 
-    was_failed : c' ≡ after_failed c → LinksServed told s boxes first last c' ends calls
-    was_failed is = subst (λ x. LinksServed told s boxes first last x ends calls) (sym is)
-        (accepted told s boxes first last c (after_failed c) ends calls l refl refl (record { read_faults = λ h. one_more c.read_faults; write_faults = λ h. h; most = omega arith }) (λ some. one_more c.read_faults))
+    was_failed : c' ≡ after_failed c → LinksServed told s boxes first last c' ends calls asked
+    was_failed is = subst (λ x. LinksServed told s boxes first last x ends calls asked) (sym is)
+        (accepted told s boxes first last c (after_failed c) ends calls asked l refl refl (record { read_faults = λ h. one_more c.read_faults; write_faults = λ h. h; most = omega arith }) (λ some. one_more c.read_faults))
       where
         one_more : (n : ℕ) → 0 < raised 1 n
         one_more n = omega arith
 
-    was_refused : c' ≡ after_refused c → LinksServed told s boxes first last c' ends calls
-    was_refused is = subst (λ x. LinksServed told s boxes first last x ends calls) (sym is)
-        (accepted told s boxes first last c (after_refused c) ends calls l refl refl (record { read_faults = λ h. h; write_faults = λ h. h; most = omega arith }) l.failed)
+    was_refused : c' ≡ after_refused c → LinksServed told s boxes first last c' ends calls asked
+    was_refused is = subst (λ x. LinksServed told s boxes first last x ends calls asked) (sym is)
+        (accepted told s boxes first last c (after_refused c) ends calls asked l refl refl (record { read_faults = λ h. h; write_faults = λ h. h; most = omega arith }) l.failed)
 
     -- an accept that gave no link leaves what was served
-    pub none_given : {X : Type 0} (r : Result X AcceptFault) (f : AcceptFault) → r ≡ Err f → (r ≡ Err accept.Failed → c' ≡ after_failed c) → (r ≡ Err accept.NoMemory → c' ≡ after_refused c) → LinksServed told s boxes first last c' ends calls
+    pub none_given : {X : Type 0} (r : Result X AcceptFault) (f : AcceptFault) → r ≡ Err f → (r ≡ Err accept.Failed → c' ≡ after_failed c) → (r ≡ Err accept.NoMemory → c' ≡ after_refused c) → LinksServed told s boxes first last c' ends calls asked
     none_given r accept.Failed is failed refused = was_failed (failed is)
     none_given r accept.NoMemory is failed refused = was_refused (refused is)
 

@@ -73,14 +73,14 @@ pub record TellsLetters (t : Told) (b b' : BoardState) : Type 0 where
 tells_by : (ps : List Exchange) (b b' : BoardState) → GivesNoted b.word b'.word ps → CountsPuts None (sum_by letters_put ps) b.counts b'.counts → TellsLetters (told_in ps) b b'
 tells_by ps b b' g put = record { taken = g.0; notes = g.1; given = g.2; put = put }
 
-module _ (P : Type 0) (s : Attributes) (before after : LinkState) (tends : ℕ) (entered left : SeatState) where
-  tells_letters : (end : SessionEnd) (e : SessionEnds P s before after (board_of 1 s 0 entered) (board_of 1 s tends left) end) → IsUnbroken end
-      → TellsLetters (telling P s before after (board_of 1 s 0 entered) (board_of 1 s tends left) end e) (board_of 1 s 0 entered) (board_of 1 s tends left)
-  tells_letters Eof e u = tells_by e.replied.exchanges (board_of 1 s 0 entered) (board_of 1 s tends left) e.replied.legal.letters.1 e.replied.legal.puts
-  tells_letters Quit e u = tells_by e.replied.exchanges (board_of 1 s 0 entered) (board_of 1 s tends left) e.replied.legal.letters.1 e.replied.legal.puts
-  tells_letters ReadFault e u = tells_by e.1.replied.exchanges (board_of 1 s 0 entered) (board_of 1 s tends left) e.1.replied.legal.letters.1 e.1.replied.legal.puts
-  tells_letters Spent e u = tells_by e.2.replied.exchanges (board_of 1 s 0 entered) (board_of 1 s tends left) e.2.replied.legal.letters.1 e.2.replied.legal.puts
-  tells_letters WriteFault e u = tells_by (e.1.replied.exchanges ++ e.1.replied.last ∷ []) (board_of 1 s 0 entered) (board_of 1 s tends left) e.1.replied.legal.letters.1 e.1.replied.legal.puts
+module _ (P : Type 0) (s : Attributes) (before after : LinkState) (asked asked' : ℕ) (entered left : SeatState) where
+  tells_letters : (end : SessionEnd) (e : SessionEnds P s before after (board_of 1 s asked entered) (board_of 1 s asked' left) end) → IsUnbroken end
+      → TellsLetters (telling P s before after (board_of 1 s asked entered) (board_of 1 s asked' left) end e) (board_of 1 s asked entered) (board_of 1 s asked' left)
+  tells_letters Eof e u = tells_by e.replied.exchanges (board_of 1 s asked entered) (board_of 1 s asked' left) e.replied.legal.letters.1 e.replied.legal.puts
+  tells_letters Quit e u = tells_by e.replied.exchanges (board_of 1 s asked entered) (board_of 1 s asked' left) e.replied.legal.letters.1 e.replied.legal.puts
+  tells_letters ReadFault e u = tells_by e.1.replied.exchanges (board_of 1 s asked entered) (board_of 1 s asked' left) e.1.replied.legal.letters.1 e.1.replied.legal.puts
+  tells_letters Spent e u = tells_by e.2.replied.exchanges (board_of 1 s asked entered) (board_of 1 s asked' left) e.2.replied.legal.letters.1 e.2.replied.legal.puts
+  tells_letters WriteFault e u = tells_by (e.1.replied.exchanges ++ e.1.replied.last ∷ []) (board_of 1 s asked entered) (board_of 1 s asked' left) e.1.replied.legal.letters.1 e.1.replied.legal.puts
   tells_letters (Split i j) e u = absurd u
   tells_letters NoMemory e u = absurd u
 
@@ -119,15 +119,15 @@ module _ (s : Attributes) (boxes : List TableId) (k : ℕ) (first last : SeatSta
   -- what the replies to the link tell
   abbrev pub told_at : Told
   told_at =
-      telling ((visit.link ≡ o.unused) × (visit.left ≡ visit.entered) × (o.served.tends ≡ 0)) s o.unused visit.link (board_of 1 s 0 visit.entered) (board_of 1 s o.served.tends visit.left) visit.end o.served.session
+      telling ((visit.link ≡ o.unused) × (visit.left ≡ visit.entered) × (visit.asked_after ≡ visit.asked_before)) s o.unused visit.link (board_of 1 s visit.asked_before visit.entered) (board_of 1 s visit.asked_after visit.left) visit.end o.served.session
 
   pub shut_agrees : IsUnbroken visit.end → Agrees told_at.shut visit.entered.glass.shuts visit.left.glass.shuts
   shut_agrees unbroken =
-      agrees_by ((visit.link ≡ o.unused) × (visit.left ≡ visit.entered) × (o.served.tends ≡ 0)) s o.unused visit.link (board_of 1 s 0 visit.entered) (board_of 1 s o.served.tends visit.left) visit.end o.served.session unbroken
+      agrees_by ((visit.link ≡ o.unused) × (visit.left ≡ visit.entered) × (visit.asked_after ≡ visit.asked_before)) s o.unused visit.link (board_of 1 s visit.asked_before visit.entered) (board_of 1 s visit.asked_after visit.left) visit.end o.served.session unbroken
 
-  pub tells_at : IsUnbroken visit.end → TellsLetters told_at (board_of 1 s 0 visit.entered) (board_of 1 s o.served.tends visit.left)
+  pub tells_at : IsUnbroken visit.end → TellsLetters told_at (board_of 1 s visit.asked_before visit.entered) (board_of 1 s visit.asked_after visit.left)
   tells_at unbroken =
-      tells_letters ((visit.link ≡ o.unused) × (visit.left ≡ visit.entered) × (o.served.tends ≡ 0)) s o.unused visit.link o.served.tends visit.entered visit.left visit.end o.served.session unbroken
+      tells_letters ((visit.link ≡ o.unused) × (visit.left ≡ visit.entered) × (visit.asked_after ≡ visit.asked_before)) s o.unused visit.link visit.asked_before visit.asked_after visit.entered visit.left visit.end o.served.session unbroken
 
   -- none of them says that a reader was refused where the seat counted none to its end
   pub none_shut : IsUnbroken visit.end → last.glass.shuts ≡ 0 → told_at.shut ≡ false
@@ -147,4 +147,4 @@ module _ (s : Attributes) (boxes : List TableId) (z : ℕ) (h : List Entry) (k :
 
     pub legal_link : IsUnbroken visit.end → LinkEnds (legal_terms s visit.entered.session z h (told_at s boxes k first last visit o)) o.unused visit.link visit.end
     legal_link unbroken =
-        legal_by ((visit.link ≡ o.unused) × (visit.left ≡ visit.entered) × (o.served.tends ≡ 0)) s z h o.unused visit.link (board_of 1 s 0 visit.entered) (board_of 1 s o.served.tends visit.left) kept told visit.end o.served.session unbroken
+        legal_by ((visit.link ≡ o.unused) × (visit.left ≡ visit.entered) × (visit.asked_after ≡ visit.asked_before)) s z h o.unused visit.link (board_of 1 s visit.asked_before visit.entered) (board_of 1 s visit.asked_after visit.left) kept told visit.end o.served.session unbroken

@@ -32,7 +32,7 @@ use Rattle.be_hub.specs.Links.{session_at, SessionServed, WentOn, SeatVisit, Lin
 use Rattle.be_hub.proofs.Entered.{number_is, own_same, glass_same, splits_same, place_same, notes_grow}
 use Rattle.be_hub.proofs.Places.{at_last, in_front, in_push}
 use Rattle.be_hub.proofs.Transcripts.{is_split_of, some_counted}
-use Rattle.be_hub.proofs.Visits.{as_many, follows_on}
+use Rattle.be_hub.proofs.Visits.{as_many, follows_on, asks_on}
 
 -- the changes of one session have none of another
 none_of : (k m : ℕ) (new : List (ℕ × Entry)) → k ≢ m → All (λ (q : ℕ × Entry). session_of q.1 ≡ m) new → own_of k new ≡ []
@@ -118,7 +118,7 @@ went_nowhere k s = record {
   splits = omega arith;
 }
 
-module _ (schema : Attributes) (seats n : ℕ) (first last e seat' : SeatState) (tends : ℕ) (ent : Enters schema seats n first last e) (board : BoardLeft (board_of 1 schema 0 e) (board_of 1 schema tends seat')) where
+module _ (schema : Attributes) (seats n : ℕ) (first last e seat' : SeatState) (asked asked' : ℕ) (ent : Enters schema seats n first last e) (board : BoardLeft (board_of 1 schema asked e) (board_of 1 schema asked' seat')) where
   abbrev new : List (ℕ × Entry)
   new = board.own.0
 
@@ -192,9 +192,9 @@ module _ {L : Type 0} (told : L → LinkState) where
   counted_on c c' g NoMemory is = tt
 
   -- an accept leaves what was served
-  pub accepted : (s : Attributes) (boxes : List TableId) (first last : SeatState) (c c' : CountState L) (ends : List SessionEnd) (calls : ℕ) → LinksServed told s boxes first last c ends calls → c'.back ≡ c.back → c'.kept ≡ c.kept → GoesFurther c c'
-      → (0 < c'.failed → 0 < c'.read_faults) → LinksServed told s boxes first last c' ends calls
-  accepted s boxes first last c c' ends calls l back kept more failed = record {
+  pub accepted : (s : Attributes) (boxes : List TableId) (first last : SeatState) (c c' : CountState L) (ends : List SessionEnd) (calls asked : ℕ) → LinksServed told s boxes first last c ends calls asked → c'.back ≡ c.back → c'.kept ≡ c.kept → GoesFurther c c'
+      → (0 < c'.failed → 0 < c'.read_faults) → LinksServed told s boxes first last c' ends calls asked
+  accepted s boxes first last c c' ends calls asked l back kept more failed = record {
     back = back ∙ l.back;
     seat = l.seat;
     session = l.session;
@@ -204,6 +204,7 @@ module _ {L : Type 0} (told : L → LinkState) where
     visits = l.visits;
     ends_are = l.ends_are;
     chain = l.chain;
+    tends = l.tends;
     served = l.served;
     kept = λ i x at. l.kept i x (subst (λ ks. slice_get ks i ≡ Some x) kept at);
     counted = All-weaker (IsCounted (sums_of c)) (IsCounted (sums_of c')) (counted_on c c' more) ends l.counted;
@@ -242,9 +243,9 @@ module _ {L : Type 0} (told : L → LinkState) where
       risen : (a b d : ℕ) → HasRisenBy SOURCE_BYTES a b → SOURCE_BYTES ≤ max d b
       risen a b d h = omega (arith, h)
 
-  module _ (s : Attributes) (boxes : List TableId) (first last e seat' : SeatState) (c : CountState L) (ends : List SessionEnd) (session : SessionNo) (link : L) (before : LinkState) (end : SessionEnd) (calls : ℕ)
-      (l : LinksServed told s boxes first last c ends calls) (sound : IsSound c) (ent : Enters s (length boxes) (length ends) first last e) (is : session.0 ≡ e.session) (kept_seat : IsKeptSeat boxes e)
-      (unused : IsUnused before) (served : SessionServed s e seat' before (told link) end)
+  module _ (s : Attributes) (boxes : List TableId) (first last e seat' : SeatState) (c : CountState L) (ends : List SessionEnd) (session : SessionNo) (link : L) (before : LinkState) (end : SessionEnd) (calls asked asked' : ℕ)
+      (l : LinksServed told s boxes first last c ends calls asked) (sound : IsSound c) (ent : Enters s (length boxes) (length ends) first last e) (is : session.0 ≡ e.session) (kept_seat : IsKeptSeat boxes e)
+      (unused : IsUnused before) (served : SessionServed s asked asked' e seat' before (told link) end)
     where
       abbrev after : LinkState
       after = told link
@@ -263,13 +264,13 @@ module _ {L : Type 0} (told : L → LinkState) where
 
       -- what was served now
       abbrev visit : SeatVisit
-      visit = record { entered = e; left = seat'; link = after; end = end }
+      visit = record { entered = e; left = seat'; asked_before = asked; asked_after = asked'; link = after; end = end }
 
       abbrev visits' : List SeatVisit
       visits' = l.visits ++ visit ∷ []
 
       many : length l.visits ≡ n
-      many = as_many told s boxes first last c ends calls l
+      many = as_many told s boxes first last c ends calls asked l
 
       new_visit : LinkServed s boxes e.session first seat' visit
       new_visit = record {
@@ -290,10 +291,10 @@ module _ {L : Type 0} (told : L → LinkState) where
         is_unused = o.is_unused;
         somebody = o.somebody;
         session_is = o.session_is;
-        seat_is = o.seat_is ∙ sym (seat_same s (length boxes) n first last e seat' served.tends ent served.board);
+        seat_is = o.seat_is ∙ sym (seat_same s (length boxes) n first last e seat' asked asked' ent served.board);
         known = o.known;
         served = o.served;
-        went_on = went_further s (length boxes) n first last e seat' served.tends ent served.board k v.left
+        went_on = went_further s (length boxes) n first last e seat' asked asked' ent served.board k v.left
             (λ same. absurd (omega (arith, same, o.went_on.session, ent.later some, o.session_is, o.served.board.goes.session))) o.went_on;
       }
 
@@ -325,25 +326,26 @@ module _ {L : Type 0} (told : L → LinkState) where
         link = refl;
       })
 
-      pub one_served : (calls' : ℕ) → n + 1 ≤ calls' → LinksServed told s boxes first seat' c' ends' calls'
+      pub one_served : (calls' : ℕ) → n + 1 ≤ calls' → LinksServed told s boxes first seat' c' ends' calls' asked'
       one_served calls' swept = record {
         back = ap (λ m. m + 1) l.back ∙ sym one_more;
-        seat = seat_same s (length boxes) n first last e seat' served.tends ent served.board ∙ l.seat;
+        seat = seat_same s (length boxes) n first last e seat' asked asked' ent served.board ∙ l.seat;
         session = served.board.goes.session ∙ (ent.session ∙ ap (session_at (length boxes) first.session) (less n (length ends') one_more));
-        known = BeginsWith-along seat'.glass.known last.glass.known first.glass.known (knows_more s (length boxes) n first last e seat' served.tends ent served.board) l.known;
+        known = BeginsWith-along seat'.glass.known last.glass.known first.glass.known (knows_more s (length boxes) n first last e seat' asked asked' ent served.board) l.known;
         splits = omega (arith, l.splits, served.board.goes.counts.splits, ent.splits);
-        own = subst (λ m. AddsOfLinks (length boxes) m first seat') (sym one_more) (adds s (length boxes) n first last e seat' served.tends ent served.board l.own);
+        own = subst (λ m. AddsOfLinks (length boxes) m first seat') (sym one_more) (adds s (length boxes) n first last e seat' asked asked' ent served.board l.own);
         visits = visits';
         ends_are = ap (λ es. es ++ end ∷ []) l.ends_are ∙ sym (map-append (λ (v : SeatVisit). v.end) l.visits (visit ∷ []));
         chain = follows_on s (length boxes) first last l.visits visit l.chain (λ none. ent.same (sym many ∙ none)) (λ some. ent.next (omega (arith, some, many)));
+        tends = asks_on 0 asked l.visits visit l.tends refl;
         served = λ i v at. served_there i v (in_push l.visits visit i v at);
         kept = λ i x at. kept_there i x (kept_before c.keeps refl i x at);
         counted = All-push (IsCounted (sums_of c')) ends end (All-weaker (IsCounted (sums_of c)) (IsCounted (sums_of c')) (counted_on c c' (raised_by c session link after)) ends l.counted)
-            (new_counted _ s before c session link after 0 served.tends e seat' end served.session);
+            (new_counted _ s before c session link after asked asked' e seat' end served.session);
         split = All-push (λ (x : SessionEnd). is_split_end x ≡ true → HasRisen first.splits seat'.splits) ends end
             (All-weaker (λ (x : SessionEnd). is_split_end x ≡ true → HasRisen first.splits last.splits) (λ (x : SessionEnd). is_split_end x ≡ true → HasRisen first.splits seat'.splits)
             (λ x f y. risen_on first.splits last.splits e.splits seat'.splits (f y) ent.splits served.board.goes.counts.splits) ends l.split)
-            (λ y. risen_since first.splits last.splits e.splits seat'.splits l.splits ent.splits (splits_of _ s before after 0 served.tends e seat' end served.session y));
+            (λ y. risen_since first.splits last.splits e.splits seat'.splits l.splits ent.splits (splits_of _ s before after asked asked' e seat' end served.session y));
         failed = λ some. (raised_by c session link after).read_faults (l.failed some);
         swept = omega (arith, one_more, swept);
       }

@@ -187,7 +187,7 @@ module _ (schema : Attributes) (found : BoxId → Mailbox → Type 0) (boxes : L
           readers = in_box j k (λ (x : Mailed). seat_of (length all_boxes.0) x.reader + 1 ≡ j + 1) (λ x g. ap (λ (n : ℕ). n + 1) (ap (λ (n : ℕ). seat_of n x.letter.session) all_boxes.1 ∙ g.fit.here));
           box_is = record {
             senders = in_box j k (λ (x : Mailed). (0 < x.sender) × (x.sender ≤ length all_boxes.0)) (λ x g. (omega arith, omega (arith, g.fit.from, all_boxes.1)));
-            notes = in_box j k (λ (x : Mailed). IsNoteFor x.reader h x.note) (note_good j);
+            notes = in_box j k (λ (x : Mailed). (0 < x.reader) × IsNoteFor x.reader h x.note) (λ x g. (g.fit.fit.somebody, note_good j x g));
             room = omega (arith, length-map m.queued mailed, k.sound.room);
           };
         }

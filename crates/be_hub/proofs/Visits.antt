@@ -12,7 +12,7 @@ use Rattle.be_desk.specs.Seats.{SeatState}
 use Rattle.be_door.specs.Counts.{CountState, IsSound}
 use Rattle.be_door.specs.Door.{DoorState, IsOf}
 use Rattle.be_protocol.specs.declared.ends.SessionEnd.{SessionEnd}
-use Rattle.be_hub.specs.Links.{session_at, SeatVisit, EntersNext, FollowLeft, FollowOn, LinkServed, added_between, AddUp, AddUpWith, CountsAddUp, LinksServed, WorkerServed}
+use Rattle.be_hub.specs.Links.{session_at, SeatVisit, EntersNext, FollowLeft, FollowOn, AskOn, LinkServed, added_between, AddUp, AddUpWith, CountsAddUp, LinksServed, WorkerServed}
 use Rattle.be_hub.proofs.Entered.{glass_same, splits_same, fulls_same, puts_same, empties_grow}
 use Rattle.be_hub.proofs.Places.{all_from_places}
 
@@ -25,6 +25,11 @@ pub follows_on : (s : Attributes) (seats : ℕ) (first last : SeatState) (vs : L
     → FollowOn s seats first (vs ++ v ∷ []) v.left
 follows_on s seats first last [] v chain same next = (same refl ∙ chain, refl)
 follows_on s seats first last (w ∷ vs) v chain same next = (chain.0, follows_left s seats w.left last vs v chain.1 (next (omega arith)))
+
+-- one more visit asks on
+pub asks_on : (before last : ℕ) (vs : List SeatVisit) (v : SeatVisit) → AskOn before vs last → v.asked_before ≡ last → AskOn before (vs ++ v ∷ []) v.asked_after
+asks_on before last [] v chain same = (same ∙ chain, refl)
+asks_on before last (w ∷ vs) v chain same = (chain.0, asks_on w.asked_after last vs v chain.1 same)
 
 module _ (s : Attributes) (seats : ℕ) (count : SeatState → ℕ) where
   abbrev added : SeatVisit → ℕ
@@ -67,7 +72,7 @@ module _ (s : Attributes) (seats : ℕ) (count : SeatState → ℕ) where
         let none = none_between first last vs chain in
         omega (arith, with_none, none)
 
-module _ {L : Type 0} (told : L → LinkState) (s : Attributes) (boxes : List TableId) (first last : SeatState) (c : CountState L) (ends : List SessionEnd) (calls : ℕ) (l : LinksServed told s boxes first last c ends calls) where
+module _ {L : Type 0} (told : L → LinkState) (s : Attributes) (boxes : List TableId) (first last : SeatState) (c : CountState L) (ends : List SessionEnd) (calls asked : ℕ) (l : LinksServed told s boxes first last c ends calls asked) where
   -- each visit has its end
   pub as_many : length l.visits ≡ length ends
   as_many = sym (length-map l.visits (λ (v : SeatVisit). v.end)) ∙ ap (λ es. length es) (sym l.ends_are)
@@ -85,9 +90,10 @@ module _ {L : Type 0} (told : L → LinkState) (s : Attributes) (boxes : List Ta
     puts = adds_up s (length boxes) (λ x. put_count x.passes) (puts_same s (length boxes)) first last l.visits l.chain (grows (λ x. put_count x.passes) (λ k v o. o.served.board.goes.counts.puts));
   }
 
-  pub worker_served : (door : DoorState L) → c.given ≡ c.back → c.ended ≡ true → IsOf door c → IsSound c → WorkerServed told s boxes door first last c ends calls
-  worker_served door all_back ended is_of sound = record {
+  pub worker_served : (between : ℕ) → between ≤ asked → (door : DoorState L) → c.given ≡ c.back → c.ended ≡ true → IsOf door c → IsSound c → WorkerServed told s boxes door first last c ends calls asked between
+  worker_served between reached door all_back ended is_of sound = record {
     links = l;
+    reached = reached;
     counts = counts_add_up;
     all_back = all_back;
     ended = ended;

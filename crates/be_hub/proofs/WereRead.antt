@@ -30,8 +30,8 @@ pub all_given : (given failed links : ℕ) → given + failed ≡ links → (0 <
 all_given given zero links is never = omega (arith, is)
 all_given given (suc n) links is never = absurd (never (omega arith))
 
-module _ {L : Type 0} (told : L → LinkState) (s : Attributes) (opening h : List Entry) (shuts : Bool) (links : ℕ) (sums : Sums) (keeps : Bool) (kept : List (SessionNo × L)) where
-  pub were_read : (l : LinksAreServed told s opening h shuts links sums keeps kept) → shuts ≡ false → AreFaultless sums → WereRead links sums l.served
+module _ {L : Type 0} (told : L → LinkState) (s : Attributes) (opening h : List Entry) (shuts : Bool) (seats links : ℕ) (sums : Sums) (keeps : Bool) (kept : List (SessionNo × L)) where
+  pub were_read : (l : LinksAreServed told s opening h shuts seats links sums keeps kept) → shuts ≡ false → AreFaultless sums → WereRead links sums l.served
   were_read l is none =
       let all : sums.given ≡ links = all_given sums.given sums.failed links l.all (λ some. absurd (omega (arith, l.failed some, none.0))) in
       record {

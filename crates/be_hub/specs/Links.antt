@@ -28,11 +28,10 @@ use Rattle.be_session.specs.Served.{SessionEnds, BoardLeft}
 abbrev pub session_at : ℕ → ℕ → ℕ → ℕ
 session_at seats first i = first + i * seats
 
--- the seat's session was served over the link, by a board that counts its tends from 0
-pub record SessionServed (s : Attributes) (seat seat' : SeatState) (before after : LinkState) (end : SessionEnd) : Type 0 where
-  pub tends : ℕ
-  pub session : SessionEnds ((after ≡ before) × (seat' ≡ seat) × (tends ≡ 0)) s before after (board_of 1 s 0 seat) (board_of 1 s tends seat') end
-  pub board : BoardLeft (board_of 1 s 0 seat) (board_of 1 s tends seat')
+-- the seat's session was served over the link, by a board that is to tend. It counts on from the tends that were asked for before it
+pub record SessionServed (s : Attributes) (asked asked' : ℕ) (seat seat' : SeatState) (before after : LinkState) (end : SessionEnd) : Type 0 where
+  pub session : SessionEnds ((after ≡ before) × (seat' ≡ seat) × (asked' ≡ asked)) s before after (board_of 1 s asked seat) (board_of 1 s asked' seat') end
+  pub board : BoardLeft (board_of 1 s asked seat) (board_of 1 s asked' seat')
   -- all bytes that the link gives from first to last are the same ones
   pub whole : after.source.whole ≡ before.source.whole
 
@@ -46,11 +45,13 @@ pub record WentOn (k : ℕ) (s s' : SeatState) : Type 0 where
   pub shuts : s.glass.shuts ≤ s'.glass.shuts
   pub splits : s.splits ≤ s'.splits
 
--- a link that was served at a seat: the seat as the session found it and left it, the link as it stands now, and how the session
--- ended
+-- a link that was served at a seat: the seat as the session found it and left it, how many tends its worker's boards had been asked
+-- for by then and by its end, the link as it stands now, and how the session ended
 pub record SeatVisit : Type 0 where
   pub entered : SeatState
   pub left : SeatState
+  pub asked_before : ℕ
+  pub asked_after : ℕ
   pub link : LinkState
   pub end : SessionEnd
 
@@ -71,6 +72,11 @@ abbrev pub FollowOn : Attributes → (seats : ℕ) → SeatState → List SeatVi
 FollowOn s seats first [] last = last ≡ first
 FollowOn s seats first (v ∷ vs) last = (v.entered ≡ first) × FollowLeft s seats v.left vs last
 
+-- the visits' boards were asked for tends from this number on, and up to that one. Each counts on from the one before it
+abbrev pub AskOn : (before : ℕ) → List SeatVisit → (after : ℕ) → Type 0
+AskOn before [] after = after ≡ before
+AskOn before (v ∷ vs) after = (v.asked_before ≡ before) × AskOn v.asked_after vs after
+
 -- a link that nobody had used was served as session k, and stands so now. The seat began as `first`, knew no less when the
 -- session began, and stands at `last`
 pub record LinkServed (s : Attributes) (boxes : List TableId) (k : ℕ) (first last : SeatState) (visit : SeatVisit) : Type 0 where
@@ -80,7 +86,7 @@ pub record LinkServed (s : Attributes) (boxes : List TableId) (k : ℕ) (first l
   pub session_is : visit.entered.session ≡ k
   pub seat_is : seat_of (length boxes) k ≡ last.passes.seat
   pub known : BeginsWith visit.entered.glass.known first.glass.known
-  pub served : SessionServed s visit.entered visit.left unused visit.link visit.end
+  pub served : SessionServed s visit.asked_before visit.asked_after visit.entered visit.left unused visit.link visit.end
   pub went_on : WentOn k visit.left last
 
 -- what the visits added to a count of the seat, together
@@ -100,8 +106,8 @@ AddUp count visits first last = count last ≡ count first + added_by count visi
 abbrev pub AddUpWith : (SeatState → ℕ) → List SeatVisit → SeatState → SeatState → Type 0
 AddUpWith count visits first last = count last ≡ count first + added_between count first visits + added_by count visits
 
--- so it is of each count to which a session's replies are tied, but that of tends, which begins anew: no rise of it belongs to two
--- visits. Between two visits only the look that found the mailbox empty is counted
+-- so it is of each count of the seat to which a session's replies are tied: no rise of it belongs to two visits. Between two visits
+-- only the look that found the mailbox empty is counted
 pub record CountsAddUp (visits : List SeatVisit) (first last : SeatState) : Type 0 where
   pub reads : AddUp (λ x. x.glass.reads) visits first last
   pub shuts : AddUp (λ x. x.glass.shuts) visits first last
@@ -136,7 +142,7 @@ module _ {L : Type 0} (told : L → LinkState) where
 
   -- the links that came back were served one after another, each as a session of its own, whether they are kept or not. Those
   -- that are kept stand with their sessions, in order. It is so while a link is out, too
-  pub record LinksServed (s : Attributes) (boxes : List TableId) (first last : SeatState) (count : CountState L) (ends : List SessionEnd) (calls : ℕ) : Type 0 where
+  pub record LinksServed (s : Attributes) (boxes : List TableId) (first last : SeatState) (count : CountState L) (ends : List SessionEnd) (calls asked : ℕ) : Type 0 where
     pub back : count.back ≡ length ends
     pub seat : last.passes.seat ≡ first.passes.seat
     -- the session is the last link's, or the first one of all
@@ -148,6 +154,8 @@ module _ {L : Type 0} (told : L → LinkState) where
     pub visits : List SeatVisit
     pub ends_are : ends ≡ map (λ (v : SeatVisit). v.end) visits
     pub chain : FollowOn s (length boxes) first visits last
+    -- between replies the boards of all sessions were asked for so many tends, all told
+    pub tends : AskOn 0 visits asked
     pub served : (i : ℕ) (visit : SeatVisit) → slice_get visits i ≡ Some visit → LinkServed s boxes (session_at (length boxes) first.session i) first last visit
     pub kept : (i : ℕ) (kept : SessionNo × L) → slice_get count.kept i ≡ Some kept → IsOfVisit visits i kept
     pub counted : All (IsCounted (sums_of count)) ends
@@ -158,8 +166,10 @@ module _ {L : Type 0} (told : L → LinkState) where
     pub swept : length ends ≤ calls
 
   -- a worker has met the end of the links, and all that it was given are back
-  pub record WorkerServed (s : Attributes) (boxes : List TableId) (door : DoorState L) (first last : SeatState) (count : CountState L) (ends : List SessionEnd) (calls : ℕ) : Type 0 where
-    pub links : LinksServed s boxes first last count ends calls
+  pub record WorkerServed (s : Attributes) (boxes : List TableId) (door : DoorState L) (first last : SeatState) (count : CountState L) (ends : List SessionEnd) (calls asked between : ℕ) : Type 0 where
+    pub links : LinksServed s boxes first last count ends calls asked
+    -- no more tends than that reached the desk
+    pub reached : between ≤ asked
     pub counts : CountsAddUp links.visits first last
     pub all_back : count.given ≡ count.back
     pub ended : count.ended ≡ true

@@ -6,9 +6,11 @@ use Rattle.be_base.specs.declared.limits.TheConstants.{BOX_LETTERS}
 use Rattle.be_change.specs.History.{Entry}
 use Rattle.be_change.specs.Requests.{Note, Exchange}
 use Rattle.be_change.specs.Walk.{IsNoteFor}
+use Rattle.be_model.specs.Schemas.{Attributes}
 use Rattle.be_mail.specs.Letters.{Posting}
 use Rattle.be_mail.specs.Mailbox.{BoxId, Mailbox}
-use Rattle.be_mail.specs.Passes.{WasFound}
+use Rattle.be_mail.specs.Passes.{Passes}
+use Rattle.be_mail.specs.Settled.{IsKept}
 use Rattle.be_board.specs.Letters.{note_of}
 use Rattle.be_session.specs.Given.{letters_given}
 use Rattle.be_session.specs.Tied.{letters_put}
@@ -45,9 +47,9 @@ StandAmong {X} part whole = (before after : List X) × (whole ≡ before ++ (par
 
 -- a box among the boxes of all workers, over the list
 pub record IsLetterBox (h : List Entry) (boxes : List LetterBox) (box : LetterBox) : Type 0 where
-  -- each letter in it is from one of the workers, and for a row of the session that it names
+  -- each letter in it is from one of the workers, and for a row of the session that it names, which isn't 0, nobody's
   pub senders : All (λ (x : Mailed). (0 < x.sender) × (x.sender ≤ length boxes)) (all_in box)
-  pub notes : All (λ (x : Mailed). IsNoteFor x.reader h x.note) (all_in box)
+  pub notes : All (λ (x : Mailed). (0 < x.reader) × IsNoteFor x.reader h x.note) (all_in box)
   pub room : length box.left ≤ BOX_LETTERS
 
 -- the box of worker k, whose only session is session k and had these exchanges, among the boxes of all workers, over the list
@@ -68,6 +70,8 @@ mailed x = record { sender = x.from + 1; reader = x.letter.session; note = note_
 abbrev pub box_in : Mailbox → LetterBox
 box_in m = record { taken = map mailed m.taken; left = map mailed m.queued }
 
--- the box is what this mailbox, of these, was when it was found
-abbrev pub WasBox : (found : BoxId → Mailbox → Type 0) → List TableId → (mailbox : ℕ) → LetterBox → Type 0
-WasBox found boxes mailbox box = (state : Mailbox) × WasFound found boxes mailbox state × (box ≡ box_in state)
+-- the box is what this mailbox, of these, was when it was found. Each letter in it may lie there, and with these passes of all seats
+-- it agrees: of each seat it has the letters that the seat put there, in order, each once, and its own seat took those that were taken
+-- out
+abbrev pub WasBox : (schema : Attributes) → (found : BoxId → Mailbox → Type 0) → List TableId → List Passes → (mailbox : ℕ) → LetterBox → Type 0
+WasBox schema found boxes passes mailbox box = (kept : IsKept schema (length boxes) found boxes passes mailbox) × (box ≡ box_in kept.state)

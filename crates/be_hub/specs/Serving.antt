@@ -129,10 +129,10 @@ module _ {L : Type 0} (told : L → LinkState) where
   AreKept true kept ls = map told_of kept ≡ map session_and_link ls
   AreKept false kept ls = kept ≡ []
 
-  -- so many links were to be given out, and what came of them has these numbers. Each that was given out was served as a session of
+  -- so many seats had a worker each, so many links were to be given out, and what came of them has these numbers. Each that was given out was served as a session of
   -- its own, over one well formed list that begins with the opening and has the changes of these sessions alone behind it. Each worker
-  -- has a box of letters, and the replies to its links say what was put and what was taken out
-  pub record LinksAreServed (s : Attributes) (opening h : List Entry) (shuts : Bool) (links : ℕ) (sums : Sums) (keeps : Bool) (kept : List (SessionNo × L)) : Type 0 where
+  -- has a box of letters. The replies to its links say how many letters were put, and to each link a piece of what was taken out
+  pub record LinksAreServed (s : Attributes) (opening h : List Entry) (shuts : Bool) (seats links : ℕ) (sums : Sums) (keeps : Bool) (kept : List (SessionNo × L)) : Type 0 where
     pub formed : IsWellFormed h
     pub begins : BeginsWith h opening
     pub back : sums.back ≡ sums.given
@@ -149,8 +149,9 @@ module _ {L : Type 0} (told : L → LinkState) where
     pub some_shut : shuts ≡ list_any (λ (l : ServedLink). l.told.shut) served
     pub sessions : (place : ℕ) (e : Entry) → length opening ≤ place → slice_get h place ≡ Some e → Any (λ (l : ServedLink). l.session ≡ session_of e) served
     pub kept_are : AreKept keeps kept served
-    -- one a worker, and the links are theirs, one worker's behind another's
+    -- one a seat, and the links are theirs, one worker's behind another's
     pub workers : List Worker
+    pub worker_count : length workers ≡ seats
     pub by_workers : served ≡ flat_map (λ (w : Worker). w.links) workers
     pub letters : (i : ℕ) (w : Worker) → slice_get workers i ≡ Some w → HasLetters h (boxes_of workers) (i + 1) w
 

@@ -1,7 +1,7 @@
 //! A seat with the shared desk and the mail, as the board of its session.
 
 ghost use Rattle.std.specs.Prelude.{◌≡◌, ◌≤◌, min, true, false};
-ghost use Rattle.be_base.specs.Counts.{RisesBy};
+ghost use Rattle.be_base.specs.Counts.{raised, RisesBy};
 ghost use Rattle.be_board.specs.Changes.{Asked};
 ghost use Rattle.be_desk.specs.Asks.{request_of, ask_lies};
 ghost use Rattle.be_desk.specs.Boards.{board_of};
@@ -25,12 +25,14 @@ pub struct DeskBoard<'a, T: Sheet<J>, J: Naming + BoxNames, S: Post, R: Wait, co
     rt: &'a R,
     hub: &'a Hub<T, J, S>,
     seat: Seat<T, J>,
-    // The tends that it was asked for, where it is to tend at all.
+    // The tends that it and those before it were asked for, where it is to tend at all.
     calls: u64,
-    // Those of them at which nobody else was at the desk. No contract tells how many.
+    // Those of them at which nobody else was at the desk.
     tended: TendCount,
-    // Where it isn't to tend both are 0.
-    ghost still: { TENDS ≡ 0 → (calls ≡ 0) × (tended ≡ 0) },
+    // It is asked for none where it isn't to tend.
+    ghost still: { TENDS ≡ 0 → calls ≡ 0 },
+    // No more tends reached the desk than were asked for.
+    ghost few: { tended ≤ calls },
 }
 
 impl<'a, T: Sheet<J>, J: Naming + BoxNames, S: Post, R: Wait, const TENDS: u8> DeskBoard<
@@ -45,33 +47,37 @@ impl<'a, T: Sheet<J>, J: Naming + BoxNames, S: Post, R: Wait, const TENDS: u8> D
         rt: &'a R,
         hub: &'a Hub<T, J, S>,
         seat: Seat<T, J>,
+        calls: u64,
         tended: TendCount,
     ) -> DeskBoard<'a, T, J, S, R, TENDS>
-        requires still { TENDS ≡ 0 → tended ≡ 0 }
+        requires still { TENDS ≡ 0 → calls ≡ 0 }
+        requires few { tended ≤ calls }
         ensures seat { result.seat ≡ seat }
-        ensures calls { result.calls ≡ 0 }
+        ensures calls { result.calls ≡ calls }
     {
         DeskBoard {
             rt,
             hub,
             seat,
-            calls: 0,
+            calls,
             tended,
         }
     }
 
-    pub(crate) fn take(self) -> (Seat<T, J>, TendCount)
+    pub(crate) fn take(self) -> (Seat<T, J>, u64, TendCount)
         ensures seat { result.0 ≡ self.entry.seat }
-        ensures still { TENDS ≡ 0 → self.entry.calls ≡ 0 }
+        ensures calls { result.1 ≡ self.entry.calls }
+        ensures still { TENDS ≡ 0 → result.1 ≡ 0 }
+        ensures few { result.2 ≤ result.1 }
     {
         let DeskBoard {
             rt: _,
             hub: _,
             seat,
-            calls: _,
+            calls,
             tended,
         } = self;
-        (seat, tended)
+        (seat, calls, tended)
     }
 
     // Takes a change under the lock.
@@ -164,7 +170,7 @@ impl<'a, T: Sheet<J>, J: Naming + BoxNames, S: Post, R: Wait, const TENDS: u8> B
 
 // The count, one higher. At its type's end it stays there.
 fn one_more(count: u64) -> u64
-    ensures { (count ≤ result) × RisesBy 1 count result }
+    ensures { (count ≤ result) × RisesBy 1 count result × (result ≡ raised 1 count) }
 {
     count.saturating_add(1)
 }

@@ -47,7 +47,7 @@ impl<T: Sheet<J> + Send + Sync, J: Naming + BoxNames + Send + Sync, S: Post + Se
         requires new { All (IsNew (D.state door.now)) counts.items }
         ensures count { IfOk result (λ ends. length ends.items ≡ length seats.items) }
         ensures ends { IfOk result (λ ends. (i : ℕ) (seat : _) (end : _) → slice_get seats.items i ≡ Some seat → slice_get ends.items i ≡ Some end
-            → WorkerServed (link_state L.Source L.Sink) J.schema J.boxes (D.state door.now) seat end.seat end.count end.ends.items end.tended) }
+            → WorkerServed (link_state L.Source L.Sink) J.schema J.boxes (D.state door.now) seat end.seat end.count end.ends.items end.tended end.asked end.between) }
     {
         let jobs = jobs_for::<T, J, L, D>(alloc, seats, door, counts)?;
         let ends = self.serve_doors(rt, alloc, door, jobs, gate)?;
@@ -72,14 +72,14 @@ impl<T: Sheet<J> + Send + Sync, J: Naming + BoxNames + Send + Sync, S: Post + Se
         requires jobs { All (λ job. MayBegin (D.state door.now) job.seat job.task) jobs.items }
         ensures count { IfOk result (λ ends. length ends.items ≡ length jobs.items) }
         ensures ends { IfOk result (λ ends. (i : ℕ) (job : _) (end : _) → slice_get jobs.items i ≡ Some job → slice_get ends.items i ≡ Some (Ok end)
-            → WorkerServed (link_state L.Source L.Sink) J.schema J.boxes (D.state door.now) job.seat end.seat end.count end.ends.items end.tended) }
+            → WorkerServed (link_state L.Source L.Sink) J.schema J.boxes (D.state door.now) job.seat end.seat end.count end.ends.items end.tended end.asked end.between) }
     {
         thread::map_vec(
             rt,
             jobs,
             &|job: Job<T, J, DoorCount<L>>| -> Result<WorkEnd<T, J, L>, NoMemory>
                 requires { (0 < length J.boxes) × (length J.boxes ≤ SEATS) × MayBegin (D.state door.now) job.seat job.task }
-                ensures { IfOk result (λ end. WorkerServed (link_state L.Source L.Sink) J.schema J.boxes (D.state door.entry.now) job.seat end.seat end.count end.ends.items end.tended) }
+                ensures { IfOk result (λ end. WorkerServed (link_state L.Source L.Sink) J.schema J.boxes (D.state door.entry.now) job.seat end.seat end.count end.ends.items end.tended end.asked end.between) }
             { serve_links(rt, alloc, self, door, gate, job) },
         )
     }

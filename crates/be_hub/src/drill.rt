@@ -1,10 +1,12 @@
 //! Files served and the hub closed, in one call.
 
-ghost use Rattle.std.specs.Prelude.{◌≡◌, ℕ, ◌≤◌, ◌↔◌, None, Some, slice_get, length, map, find, option_copied, All, IfOk};
+ghost use Rattle.std.specs.Prelude.{◌≡◌, ℕ, ◌≤◌, ◌↔◌, List, None, Some, slice_get, length, map, find, option_copied, All, IfOk};
 ghost use Rattle.std.specs.List.{list_any, range_with_len};
 ghost use Rattle.std.specs.Option.{is_some};
 ghost use Rattle.be_base.specs.declared.limits.TheConstants.{FILE_BYTES, SEATS, ROUNDS};
 ghost use Rattle.be_change.specs.Sound.{Sound};
+ghost use Rattle.be_mail.specs.Passes.{Passes};
+ghost use Rattle.be_mail.specs.Settled.{AreAll};
 ghost use Rattle.be_desk.specs.Seats.{first_seat, IsKeptSeat};
 ghost use Rattle.be_hub.specs.Files.{IsRead, lacks_memory, is_split_end, IsEndOf};
 ghost use Rattle.be_hub.specs.Posted.{WasBox};
@@ -66,9 +68,10 @@ impl<T: Sheet<J> + Send + Sync, J: Naming + BoxNames + Send + Sync, S: Post + Se
         requires rounds { rounds ≤ ROUNDS }
         ensures served { IfOk result (λ drilled. AreServed J.schema J.opening drilled.log.list (is_some drilled.shade)
             (map (λ file. file.items) files.items) (map (λ transcript. transcript.items) drilled.transcripts.items)) }
+        // Each box was a mailbox, as the close found it.
         ensures letters { IfOk result (λ drilled. (served : AreServed J.schema J.opening drilled.log.list (is_some drilled.shade)
             (map (λ file. file.items) files.items) (map (λ transcript. transcript.items) drilled.transcripts.items))
-            × ((i : ℕ) (box : _) → slice_get served.boxes i ≡ Some box → WasBox S.found J.boxes i box)) }
+            × (passes : List Passes) × AreAll J.boxes passes × ((i : ℕ) (box : _) → slice_get served.boxes i ≡ Some box → WasBox S.schema S.found J.boxes passes i box)) }
         ensures sound { IfOk result (λ drilled. Sound J.schema drilled.log.list) }
         ensures rounds { IfOk result (λ drilled. drilled.broom ≡ rounds) }
     {
@@ -121,6 +124,7 @@ fn left_by<T: Sheet<J>, J: Naming + BoxNames>(
             seat,
             transcript,
             end: _,
+            asked: _,
         } = end;
         // What its type keeps comes to light here.
         let _ = seat.session();

@@ -21,12 +21,14 @@ use std::sync::{MutexGuard, Wait};
 use std::thread;
 use std::thread::{Threads, join};
 
-/// What a worker leaves of a file: its seat, what it wrote, and how the session ended.
+/// What a worker leaves of a file: its seat, what it wrote, how the session ended, and how many tends its board was asked for: none.
 #[derive(Drop)]
 pub struct FileEnd<T: Sheet<J>, J: Naming + BoxNames> {
     pub seat: Seat<T, J>,
     pub transcript: Vec<u8>,
     pub end: SessionEnd,
+    pub asked: u64,
+    ghost still: { asked ≡ 0 },
 }
 
 /// What all workers leave, in the order of the files, and the maintainer's broom.
@@ -49,17 +51,18 @@ fn serve_file<T: Sheet<J>, J: Naming + BoxNames, S: Post, R: Wait, G: Gate>(
     ensures { FileServed J.schema job.task.items job.seat result.seat result.transcript.items result.end }
 {
     let Job { seat, task, worker } = job;
-    let mut board = DeskBoard::<T, J, S, R, 0>::make(rt, hub, seat, TendCount::make());
+    let mut board = DeskBoard::<T, J, S, R, 0>::make(rt, hub, seat, 0, TendCount::make());
     let mut link = Pair {
         source: FileSource::make(alloc, task),
         sink: Transcript::make(alloc),
     };
     let end = serve_link(alloc, &hub.schema, &mut board, &mut link, gate, worker);
-    let (seat, _) = board.take();
+    let (seat, asked, _) = board.take();
     FileEnd {
         seat,
         transcript: link.sink.take(),
         end,
+        asked,
     }
 }
 

@@ -32,14 +32,16 @@ pub const FIRST_END: u64 = 2305843009213693952;
 const TRIES: u64 = 8;
 
 /// What a worker leaves of the links that it served: its seat and its count, how each session ended, in the order in which the
-/// links were given back, how often it tended the desk behind a link, and how often between replies.
+/// links were given back, how often it tended the desk behind a link, how many tends its boards were asked for between replies, and
+/// how many of those reached the desk.
 #[derive(Drop)]
 pub struct WorkEnd<T: Sheet<J>, J: Naming + BoxNames, L> {
     pub seat: Seat<T, J>,
     pub count: DoorCount<L>,
     pub ends: Vec<SessionEnd>,
     pub tended: TendCount,
-    /// No contract speaks of it: a tend isn't made where another one is at the desk.
+    pub asked: u64,
+    /// A tend isn't made where another one is at the desk. So no contract tells it, but that it is no more than were asked for.
     pub between: TendCount,
 }
 
@@ -47,6 +49,7 @@ pub struct WorkEnd<T: Sheet<J>, J: Naming + BoxNames, L> {
 #[derive(Drop)]
 struct Visit<T: Sheet<J>, J: Naming + BoxNames, L> {
     seat: Seat<T, J>,
+    asked: u64,
     between: TendCount,
     link: L,
     end: SessionEnd,
@@ -71,7 +74,7 @@ pub(crate) fn serve_links<
 ) -> Result<WorkEnd<T, J, L>, NoMemory>
     requires few { (0 < length J.boxes) × (length J.boxes ≤ SEATS) }
     requires may { MayBegin (D.state door.now) job.seat job.task }
-    ensures { IfOk result (λ end. WorkerServed (link_state L.Source L.Sink) J.schema J.boxes (D.state door.now) job.seat end.seat end.count end.ends.items end.tended) }
+    ensures { IfOk result (λ end. WorkerServed (link_state L.Source L.Sink) J.schema J.boxes (D.state door.now) job.seat end.seat end.count end.ends.items end.tended end.asked end.between) }
 {
     let Job { seat, task, worker } = job;
     let mut work = WorkEnd {
@@ -79,6 +82,7 @@ pub(crate) fn serve_links<
         count: task,
         ends: Vec::new(alloc),
         tended: TendCount::make(),
+        asked: 0,
         between: TendCount::make(),
     };
     loop {
@@ -117,8 +121,10 @@ fn serve_next<
     requires fresh { work.ends.items ≡ [] → own_in (word_of work.seat) ≡ [] }
     requires number { work.seat.session < SESSIONS_END }
     requires unused { IsUnused (link_state L.Source L.Sink link) }
-    ensures served { (first : SeatState) → LinksServed (link_state L.Source L.Sink) J.schema J.boxes first work.seat work.count work.ends.items work.tended
-        → LinksServed (link_state L.Source L.Sink) J.schema J.boxes first result.seat result.count result.ends.items result.tended }
+    requires reached { work.between ≤ work.asked }
+    ensures served { (first : SeatState) → LinksServed (link_state L.Source L.Sink) J.schema J.boxes first work.seat work.count work.ends.items work.tended work.asked
+        → LinksServed (link_state L.Source L.Sink) J.schema J.boxes first result.seat result.count result.ends.items result.tended result.asked }
+    ensures reached { result.between ≤ result.asked }
     ensures ended { length result.ends.items ≡ length work.ends.items + 1 }
     ensures back { (result.count.given ≡ work.count.given) × (result.count.back ≡ work.count.given) × (result.count.failed ≡ work.count.failed) × (result.count.refused ≡ work.count.refused) }
     ensures same { IsOf (D.state door.now) result.count × (result.count.ended ≡ work.count.ended) × (result.count.links ≡ work.count.links) }
@@ -128,16 +134,18 @@ fn serve_next<
         mut count,
         mut ends,
         mut tended,
+        asked,
         between,
     } = work;
     let seat = next_seat(rt, hub, seat, ends.is_empty());
     let session = seat.session();
     let Visit {
         seat,
+        asked,
         between,
         link,
         end,
-    } = serve_session(rt, alloc, hub, gate, worker, seat, between, link);
+    } = serve_session(rt, alloc, hub, gate, worker, seat, asked, between, link);
     publish_held(rt, hub, &mut tended);
     door.give_back(&mut count, session, link);
     ends.push_reserved(end);
@@ -146,6 +154,7 @@ fn serve_next<
         count,
         ends,
         tended,
+        asked,
         between,
     }
 }
@@ -181,18 +190,22 @@ fn serve_session<T: Sheet<J>, J: Naming + BoxNames, S: Post, R: Wait, L: Link, G
     gate: &G,
     worker: u32,
     seat: Seat<T, J>,
+    asked: u64,
     between: TendCount,
     link: L,
 ) -> Visit<T, J, L>
     requires fresh { own_in (word_of seat) ≡ [] }
-    ensures { SessionServed J.schema seat result.seat (link_state L.Source L.Sink link) (link_state L.Source L.Sink result.link) result.end }
+    requires reached { between ≤ asked }
+    ensures served { SessionServed J.schema asked result.asked seat result.seat (link_state L.Source L.Sink link) (link_state L.Source L.Sink result.link) result.end }
+    ensures reached { result.between ≤ result.asked }
 {
     let mut link = link;
-    let mut board = DeskBoard::<T, J, S, R, 1>::make(rt, hub, seat, between);
+    let mut board = DeskBoard::<T, J, S, R, 1>::make(rt, hub, seat, asked, between);
     let end = serve_link(alloc, &hub.schema, &mut board, &mut link, gate, worker);
-    let (seat, between) = board.take();
+    let (seat, asked, between) = board.take();
     Visit {
         seat,
+        asked,
         between,
         link,
         end,

@@ -1,10 +1,12 @@
 //! The links of a door served and the hub closed, in one call.
 
-ghost use Rattle.std.specs.Prelude.{◌≡◌, ℕ, ◌≤◌, ◌<◌, Some, slice_get, length, map, IfOk, IfErr};
+ghost use Rattle.std.specs.Prelude.{◌≡◌, ℕ, ◌≤◌, ◌<◌, List, Some, slice_get, length, map, IfOk, IfErr};
 ghost use Rattle.std.specs.List.{range_with_len};
 ghost use Rattle.std.specs.Option.{is_some};
 ghost use Rattle.be_base.specs.declared.limits.TheConstants.{LINKS, SEATS};
 ghost use Rattle.be_change.specs.Sound.{Sound};
+ghost use Rattle.be_mail.specs.Passes.{Passes};
+ghost use Rattle.be_mail.specs.Settled.{AreAll};
 ghost use Rattle.be_desk.specs.Seats.{first_seat};
 ghost use Rattle.be_hub.specs.Posted.{WasBox};
 ghost use Rattle.be_hub.specs.Serving.{LinksAreServed, LeavesDoor, served_door, fault_of_listen, fault_of_close};
@@ -94,11 +96,11 @@ impl<T: Sheet<J> + Send + Sync, J: Naming + BoxNames + Send + Sync, S: Post + Se
         requires few { (0 < length J.boxes) × (length J.boxes ≤ SEATS) }
         requires links { links ≤ LINKS }
         ensures served { IfOk result (λ served. LinksAreServed (link_state L.Source L.Sink) J.schema J.opening served.log.list (is_some served.shade)
-            links served.sums (D.state door.new).keeps (D.state door.new).kept) }
-        // Each worker's box was a mailbox, and each mailbox is one of these.
+            (length J.boxes) links served.sums (D.state door.new).keeps (D.state door.new).kept) }
+        // Each worker's box was a mailbox, as the close found it, and each mailbox is one of these.
         ensures letters { IfOk result (λ served. (told : LinksAreServed (link_state L.Source L.Sink) J.schema J.opening served.log.list (is_some served.shade)
-            links served.sums (D.state door.new).keeps (D.state door.new).kept)
-            × (length told.workers ≡ length J.boxes) × ((i : ℕ) (worker : _) → slice_get told.workers i ≡ Some worker → WasBox S.found J.boxes i worker.box)) }
+            (length J.boxes) links served.sums (D.state door.new).keeps (D.state door.new).kept)
+            × (passes : List Passes) × AreAll J.boxes passes × ((i : ℕ) (worker : _) → slice_get told.workers i ≡ Some worker → WasBox S.schema S.found J.boxes passes i worker.box)) }
         ensures sound { IfOk result (λ served. Sound J.schema served.log.list) }
         ensures door { IfOk result (λ served. D.state door.new ≡ served_door (D.state door.old) port links (length J.boxes) served.sums (D.state door.new).kept) }
         ensures fault { IfErr result (λ fault. LeavesDoor (D.state door.old) (D.state door.new) port links (length J.boxes) fault) }

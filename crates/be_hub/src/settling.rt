@@ -99,6 +99,7 @@ fn part_links<T: Sheet<J>, J: Naming + BoxNames, L: Link + Drop>(
             count,
             ends: _,
             tended: _,
+            asked: _,
             between: _,
         } = end;
         // What its type keeps comes to light here.

@@ -6,7 +6,7 @@ use Rattle.be_model.specs.declared.changes.Row.{Row}
 use Rattle.be_model.specs.Matching.{Assignments}
 use Rattle.be_shape.specs.Search.{all_of}
 use Rattle.be_index.specs.Puts.{Held, Adds, hits_of}
-use Rattle.be_index.proofs.Adding.{adds_none, adds_both, hits_append}
+use Rattle.be_index.proofs.Adding.{adds_both, hits_append}
 use Rattle.be_match.proofs.Sizes.{all_of_append}
 
 -- what is put of two lists of leaves

@@ -2,6 +2,7 @@ pub mod Sizes
 pub mod Halves
 pub mod Counted
 pub mod Fronts
+pub mod Blocks
 pub mod Exact
 pub mod Shares
 pub mod VisitsBound

@@ -15,7 +15,7 @@ use crate::searches::search_node;
 use be_base::NoMemory;
 use be_index::Hits;
 use be_model::{Cost, Event, Schema};
-use be_shape::{NO_HULLS, Sight, Tree, fill_hulls};
+use be_shape::{NOTHING_SEEN, Sight, Tree, fill_seen};
 
 /// Puts the rows that the event satisfies, each once. It takes memory for what is put alone.
 pub fn find_in<C: Hits>(t: &Tree, e: &Event, found: &mut C) -> Result<Cost, NoMemory>
@@ -34,9 +34,9 @@ pub fn find_in<C: Hits>(t: &Tree, e: &Event, found: &mut C) -> Result<Cost, NoMe
     let _ = e.items();
     let before = found.count();
     let s: &Schema = &t.schema;
-    let mut hulls = NO_HULLS;
-    fill_hulls(&mut hulls, e);
-    let sight = Sight::of(e, &hulls);
+    let mut seen = NOTHING_SEEN;
+    fill_seen(&mut seen, e);
+    let sight = Sight::of(e, &seen);
     let mut cost = Cost::none();
     match search_node(&t.root, s, &sight, None, found, &mut cost) {
         Ok(()) => Ok(cost),

@@ -1,7 +1,8 @@
 //! The search for the rows that an event satisfies.
 
-ghost use Rattle.std.specs.Prelude.{◌≡◌, ◌<◌, ◌∷◌, [], true, length, slice_get, Some, OnOk, OnErr, if◌then◌else◌};
+ghost use Rattle.std.specs.Prelude.{◌≡◌, ◌<◌, ◌≤◌, ◌∷◌, [], true, length, take, drop, slice_get, Some, OnOk, OnErr, if◌then◌else◌};
 ghost use Rattle.std.specs.Arc.{arc_value};
+ghost use Rattle.be_model.specs.Matching.{satisfies};
 ghost use Rattle.be_shape.specs.Plain.{plain, parts_as, half_as, part_as, parts_of};
 ghost use Rattle.be_shape.specs.Shape.{lower, upper};
 ghost use Rattle.be_shape.specs.Ranges.{is_bounded, is_rising};
@@ -13,7 +14,10 @@ use crate::counts::leaf_cost;
 use be_base::NoMemory;
 use be_index::Hits;
 use be_model::{Cost, Row, Schema};
-use be_shape::{Leaf, Node, NodeRange, Part, Sight, lower_range, upper_range, whole_range};
+use be_shape::{
+    BLOCK, Chosen, Leaf, NONE_CHOSEN, Node, NodeRange, Part, Sight, lower_range, upper_range,
+    whole_range,
+};
 use std::sync::Arc;
 
 // Appends what the event satisfies in a node and in all below it.
@@ -158,27 +162,52 @@ fn search_leaf<C: Hits>(leaf: &Leaf, e: &Sight, found: &mut C) -> Result<(), NoM
     ensures refused { OnErr result ((C.held found.old).sure < length (hits_of C.item_of e.now leaf.now)) }
     ensures grown { Grows (C.held found.old) (C.held found.new) }
 {
-    for place in 0..leaf.len() {
-        test(leaf, place, leaf.row(place), e, found)?;
+    let count = leaf.len();
+    let mut from = 0;
+    while from < count {
+        search_block(leaf, from, e, found)?;
+        let many = (count - from).min(BLOCK);
+        from += many;
     }
     Ok(())
 }
 
-// Appends the row at a place where the event satisfies it.
+// Appends those of a block. First they are chosen, without a jump by a row, and then each that isn't sure is asked, which mostly
+// says yes.
+fn search_block<C: Hits>(leaf: &Leaf, from: usize, e: &Sight, found: &mut C) -> Result<(), NoMemory>
+    requires { from ≤ length leaf.now }
+    ensures put { OnOk result (Adds (C.held found.old) (C.held found.new) (hits_of C.item_of e.now (take 32 (drop from leaf.now)))) }
+    ensures refused { OnErr result ((C.held found.old).sure < length (hits_of C.item_of e.now (take 32 (drop from leaf.now)))) }
+    ensures grown { Grows (C.held found.old) (C.held found.new) }
+{
+    let mut chosen: Chosen = NONE_CHOSEN;
+    let count = leaf.choose(from, e, &mut chosen);
+    let _ = leaf.len();
+    for i in 0..count {
+        let choice = chosen[i];
+        let place = from + usize::from(choice.at);
+        test(leaf, place, choice.sure, leaf.row(place), e, found)?;
+    }
+    Ok(())
+}
+
+// Appends the row at a place where the event satisfies it, as it does for sure where that is said.
 #[tactic(auto, using(std::proofs::lemmas::Option::slice_get_within))]
 fn test<C: Hits>(
     leaf: &Leaf,
     place: usize,
+    sure: bool,
     row: &Arc<Row>,
     e: &Sight,
     found: &mut C,
 ) -> Result<(), NoMemory>
-    requires { slice_get leaf.now place ≡ Some (arc_value row.now) }
+    requires stands { slice_get leaf.now place ≡ Some (arc_value row.now) }
+    requires sure { sure ≡ true → satisfies e.now (arc_value row.now).conj ≡ true }
     ensures put { OnOk result (Adds (C.held found.old) (C.held found.new) (hits_of C.item_of e.now (arc_value row.now ∷ []))) }
     ensures refused { OnErr result ((C.held found.old).sure < length (hits_of C.item_of e.now (arc_value row.now ∷ []))) }
     ensures grown { Grows (C.held found.old) (C.held found.new) }
 {
-    if leaf.is_met(place, e) {
+    if sure || leaf.is_met(place, e) {
         found.put(row)?;
     }
     Ok(())

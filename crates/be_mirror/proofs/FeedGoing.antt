@@ -1,7 +1,7 @@
 -- A feed goes on by one more piece.
 use Rattle.std.proofs.Common.{◌≡◌, ℕ, ◌-◌, ◌<◌, ◌≤◌, List, [], ◌++◌, length, take, drop, length-append, length-take, length-drop, Result, Ok, Err, Option, Some, None, refl, sym, ◌∙◌, subst, arith}
 use Rattle.be_base.specs.Counts.{HasRisen, HasRisenBy, RisesBy}
-use Rattle.be_base.specs.declared.limits.TheConstants.{SOURCE_BYTES}
+use Rattle.be_base.specs.declared.limits.TheConstants.{READ_BYTES, SOURCE_BYTES}
 use Rattle.be_io.specs.Source.{SourceState}
 use Rattle.be_io.specs.Told.{WhereTold}
 use Rattle.be_model.specs.Schemas.{Attributes}
@@ -9,8 +9,8 @@ use Rattle.be_follow.specs.Feeds.{Fed, Means}
 use Rattle.be_follow.specs.Followers.{FollowerState, Follows}
 use Rattle.be_protocol.specs.Conversation.{TakesWithin}
 use Rattle.be_protocol.proofs.LinesGoing.{rises-along}
-use Rattle.be_mirror.specs.Feeding.{IsFed, TakesNext}
-use Rattle.be_mirror.specs.Serving.{Feeds, FeedEnds, IsFew, IsShort}
+use Rattle.be_mirror.specs.Feeding.{IsFed, IsFedOn, TakesNext}
+use Rattle.be_mirror.specs.Serving.{Feeds, FeedEnds, IsFew, IsShort, StopsAtFault}
 use Rattle.be_mirror.specs.declared.feeding.FeedEnd.{FeedEnd}
 use Rattle.be_mirror.specs.declared.feeding.FeedEnd.TheVariants as feed
 
@@ -55,14 +55,30 @@ ends_on before middle after bytes taken feed.Spent f given same rise e = (e.0, s
 ends_on before middle after bytes taken feed.NoMemory f given same rise e = absurd e
 
 -- what was taken, and why no more was
-pub feeds : (s : Attributes) (before after : SourceState) (end : FeedEnd) (f : FollowerState) → IsFed s before after f → FeedEnds before after end f.fed → IsShort before after end → Feeds s before after end f.fed
-feeds s before after end f fed ends short = record {
+pub feeds : (s : Attributes) (before after : SourceState) (end : FeedEnd) (f : FollowerState) → (fed : IsFed s before after f) → FeedEnds before after end f.fed → IsShort before after end → StopsAtFault s fed.bytes end → Feeds s before after end f.fed
+feeds s before after end f fed ends short stops = record {
   bytes = fed.bytes;
   given = fed.given;
   means = subst (λ (x : Attributes). Means x fed.bytes f.fed) fed.schema fed.follows.means;
   ends = ends;
   short = short;
+  stops = stops;
 }
+
+-- with one piece more
+abbrev pub fed_on : (most : ℕ) (s : Attributes) (bytes : List ℕ) (before after : SourceState) (f : FollowerState) → IsFedOn most s bytes before after f → IsFed s before after f
+fed_on most s bytes before after f o = record { bytes = bytes ++ o.piece; given = o.given; follows = o.follows; schema = o.schema }
+
+-- what was taken before the last piece had no fault
+pub stops : (most : ℕ) (s : Attributes) (first before after : SourceState) (f g : FollowerState) (was : IsFed s first before f) (on : IsFedOn most s was.bytes first after g) → f.fed.fault ≡ None → most ≤ READ_BYTES → (end : FeedEnd)
+    → StopsAtFault s (was.bytes ++ on.piece) end
+stops most s first before after f g was on fine few (feed.Bad line kind) =
+    (was.bytes, on.piece, refl, omega (arith, on.few, few), f.fed, subst (λ (x : Attributes). Means x was.bytes f.fed) was.schema was.follows.means, fine)
+stops most s first before after f g was on fine few feed.Ended = tt
+stops most s first before after f g was on fine few feed.Left = tt
+stops most s first before after f g was on fine few feed.ReadFault = tt
+stops most s first before after f g was on fine few feed.Spent = tt
+stops most s first before after f g was on fine few feed.NoMemory = tt
 
 -- less was taken than may be, where some was left of that
 pub few : (left : ℕ) (before after : SourceState) → 0 < left → left ≤ SOURCE_BYTES → RisesBy (SOURCE_BYTES - left) before.taken after.taken → IsFew before after

@@ -6,6 +6,7 @@ use Rattle.std.proofs.lemmas.Bool.{and_parts}
 use Rattle.std.specs.Arc.{arc_value}
 use Rattle.std.specs.declared.sync.Arc.{Arc}
 use Rattle.be_base.specs.Lists.{BeginsWith}
+use Rattle.be_base.proofs.Beginnings.{BeginsWith-same, BeginsWith-along}
 use Rattle.be_model.specs.Schemas.{Attributes}
 use Rattle.be_model.specs.declared.changes.Change.{Change}
 use Rattle.be_change.specs.Entries.{entry_of, entries_in}
@@ -47,3 +48,16 @@ handed_on h g next handed x has put =
     put
     ∙ (ap (λ (l : List Entry). l ++ entry_of (arc_value x) ∷ []) has
     ∙ (append_assoc h (entries_in handed) (entry_of (arc_value x) ∷ []) ∙ ap (λ (l : List Entry). h ++ l) (sym (entries-append handed (x ∷ [])))))
+
+-- what a press has, and what readers see of it, before and after
+module _ (list list' seen seen' : List Entry) (grows : BeginsWith list' list) (was : BeginsWith list seen) where
+  -- readers see what they saw
+  pub still_seen : seen' ≡ seen → BeginsWith list' seen'
+  still_seen is = subst (λ (x : List Entry). BeginsWith list' x) (sym is) (BeginsWith-along list' list seen grows was)
+
+  pub still_kept : seen' ≡ seen → BeginsWith seen' seen
+  still_kept is = subst (λ (x : List Entry). BeginsWith x seen) (sym is) (BeginsWith-same seen)
+
+  -- readers see all
+  pub all_kept : seen' ≡ list' → BeginsWith seen' seen
+  all_kept is = subst (λ (x : List Entry). BeginsWith x seen) (sym is) (BeginsWith-along list' list seen grows was)

@@ -1,7 +1,7 @@
 -- What became of a mirror's feed, and what the links of a door gave and hold, over the list that the feed means.
-use Rattle.std.specs.Prelude.{◌≡◌, ℕ, ◌+◌, ◌<◌, ◌++◌, Bool, true, false, List, [], ◌∷◌, length, map, All, Some, None}
+use Rattle.std.specs.Prelude.{◌≡◌, ℕ, ◌+◌, ◌<◌, ◌≤◌, ◌++◌, Bool, true, false, List, [], ◌∷◌, length, map, All, Some, None}
 use Rattle.be_base.specs.Counts.{HasRisen, HasRisenBy, RisesBy}
-use Rattle.be_base.specs.declared.limits.TheConstants.{SOURCE_BYTES}
+use Rattle.be_base.specs.declared.limits.TheConstants.{READ_BYTES, SOURCE_BYTES}
 use Rattle.be_base.specs.declared.names.SessionNo.{SessionNo}
 use Rattle.be_io.specs.Outside.{LinkState}
 use Rattle.be_io.specs.Source.{SourceState}
@@ -53,6 +53,12 @@ IsShort before after feed.Ended = IsFew before after
 IsShort before after feed.Left = IsFew before after
 IsShort before after end = Unit {0}
 
+-- a feed with a faulty line was read no further than the piece that ends this line: without the last piece nothing is at fault
+abbrev pub StopsAtFault : Attributes → List ℕ → FeedEnd → Type 0
+StopsAtFault s bytes (feed.Bad line kind) =
+    (front last : List ℕ) × (bytes ≡ front ++ last) × (length last ≤ READ_BYTES) × (f : Fed) × Means s front f × (f.fault ≡ None)
+StopsAtFault s bytes end = Unit {0}
+
 -- these bytes were taken from the input, this is what they mean, and so it ended
 pub record Feeds (s : Attributes) (before after : SourceState) (end : FeedEnd) (f : Fed) : Type 0 where
   pub bytes : List ℕ
@@ -61,6 +67,7 @@ pub record Feeds (s : Attributes) (before after : SourceState) (end : FeedEnd) (
   pub means : Means s bytes f
   pub ends : FeedEnds before after end f
   pub short : IsShort before after end
+  pub stops : StopsAtFault s bytes end
 
 -- a conversation of reads over the list. Where no reader was refused an entry no reply says so
 abbrev pub list_terms : Attributes → List Entry → (shuts : Bool) → Terms

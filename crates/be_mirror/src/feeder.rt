@@ -27,7 +27,7 @@ pub struct Feeder<P: Printer> {
     alloc: Global,
     // The whole list, with a plain index: no event is looked for in it. It says what may come next.
     ledger: Follower<ListIndex>,
-    // It has a beginning of the list.
+    // It has a beginning of the list, and readers see a beginning of that.
     press: P,
 }
 
@@ -40,7 +40,7 @@ impl<P: Printer> Model for Feeder<P> {
 
     ghost view = { λ f. record { took = f.ledger; published = P.published f.press } };
 
-    ghost invariant = { λ f. (f.ledger.schema ≡ P.schema) × BeginsWith f.ledger.fed.list (P.list f.press) };
+    ghost invariant = { λ f. (f.ledger.schema ≡ P.schema) × BeginsWith f.ledger.fed.list (P.list f.press) × BeginsWith (P.list f.press) (P.published f.press) };
 }
 
 impl<P: Printer + Send> Feeder<P> {
@@ -72,6 +72,7 @@ impl<P: Printer + Send> Feeder<P> {
         requires sound { self.old.took.fed.fault ≡ None }
         ensures takes { TakesNext (length buffer.old) (source_state S.Source source.old) (source_state S.Source source.new) self.old.took self.new.took result }
         ensures shown { result ≢ Err FeedEnd.NoMemory → self.new.published ≡ self.old.took.fed.list }
+        ensures kept { BeginsWith self.new.published self.old.published }
         ensures beside { S.kept_by_read source.new ≡ S.kept_by_read source.old }
     {
         let Ok(changes) = lacked(self.alloc, &self.ledger, &self.press) else {
@@ -90,6 +91,7 @@ impl<P: Printer + Send> Feeder<P> {
     /// Publishes all of the list. It may wait for readers.
     pub fn publish<R: Wait>(&mut self, rt: &R) -> Result<(), NoMemory>
         ensures took { self.new.took ≡ self.old.took }
+        ensures kept { BeginsWith self.new.published self.old.published }
         ensures shown { OnOk result (IsAllPublished self.new) }
     {
         let changes = lacked(self.alloc, &self.ledger, &self.press)?;

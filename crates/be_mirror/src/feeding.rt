@@ -24,7 +24,7 @@ use std::thread::Threads;
 pub enum FeedEnd {
     /// The input came to its end.
     Ended,
-    /// All links were served before.
+    /// It was left, with nothing wrong. The code does so once all links were served; no contract says when.
     Left,
     /// The first faulty line, from 1.
     Bad { line: u64, kind: FeedKind },

@@ -38,10 +38,15 @@ pub trait Printer {
     fn handed(&self) -> u64
         ensures { result ≡ length (list self.now) };
 
-    /// Puts the changes last, in order, and shows all. It may wait for readers.
+    /// Puts the changes last, in order, and shows all. Where memory is wanting it has some of them, and readers see no less than before. It
+    /// may wait for readers.
     fn print<R: Wait>(&mut self, rt: &R, changes: Vec<Arc<Change>>) -> Result<(), NoMemory>
         requires sound { Sound schema (list self.old ++ entries_in changes.items) }
+        requires seen { BeginsWith (list self.old) (published self.old) }
         ensures begins { BeginsWith (list self.old ++ entries_in changes.items) (list self.new) }
+        ensures grows { BeginsWith (list self.new) (list self.old) }
+        ensures seen { BeginsWith (list self.new) (published self.new) }
+        ensures kept { BeginsWith (published self.new) (published self.old) }
         ensures all { OnOk result (list self.new ≡ list self.old ++ entries_in changes.items) }
         ensures shown { OnOk result (published self.new ≡ list self.new) };
 
@@ -83,6 +88,7 @@ fn put_last<T: Sheet<J>, J: Naming>(
     requires { MayAppend J.schema press.old.list (entry_of (arc_value change)) }
     ensures put { OnOk result (press.new.list ≡ press.old.list ++ entry_of (arc_value change) ∷ []) }
     ensures refused { OnErr result (press.new.list ≡ press.old.list) }
+    ensures published { press.new.published ≡ press.old.published }
 {
     match press.append(Edit::Change(change)) {
         Ok(()) => Ok(()),
@@ -119,9 +125,12 @@ pub(crate) fn read_beside<R: Threads + Wait + Sync, S: Source, P: Printer + Send
     requires some { 0 < length buffer.old }
     requires fine { ledger.old.fed.fault ≡ None }
     requires sound { Sound P.schema (P.list press.old ++ entries_in changes.items) }
+    requires seen { BeginsWith (P.list press.old) (P.published press.old) }
     ensures takes { TakesNext (length buffer.old) (source_state S.Source source.old) (source_state S.Source source.new) ledger.old ledger.new result }
     ensures beside { S.kept_by_read source.new ≡ S.kept_by_read source.old }
     ensures begins { BeginsWith (P.list press.old ++ entries_in changes.items) (P.list press.new) }
+    ensures seen { BeginsWith (P.list press.new) (P.published press.new) }
+    ensures kept { BeginsWith (P.published press.new) (P.published press.old) }
     ensures shown { result ≢ Err FeedEnd.NoMemory → P.published press.new ≡ P.list press.old ++ entries_in changes.items }
 {
     if changes.is_empty() {
@@ -134,7 +143,9 @@ pub(crate) fn read_beside<R: Threads + Wait + Sync, S: Source, P: Printer + Send
     let (shown, taken) = join_mut(
         rt,
         &mut || -> Result<(), NoMemory>
-            requires { IfSome changes (λ changes. Sound P.schema (P.list press.now ++ entries_in changes.items)) }
+            requires { IfSome changes (λ changes. Sound P.schema (P.list press.now ++ entries_in changes.items)) × BeginsWith (P.list press.now) (P.published press.now) }
+            ensures seen { BeginsWith (P.list press.exit.now) (P.published press.exit.now) }
+            ensures kept { BeginsWith (P.published press.exit.now) (P.published press.entry.now) }
             ensures begins { IfSome changes.entry (λ changes. BeginsWith (P.list press.entry.now ++ entries_in changes.items) (P.list press.exit.now)) }
             ensures shown { IfSome changes.entry (λ changes. OnOk result (P.published press.exit.now ≡ P.list press.entry.now ++ entries_in changes.items)) }
         {

@@ -22,7 +22,7 @@ use Rattle.be_server.specs.Outside.{Passage}
 
 module _ {L : Type 0} (told : L → LinkState) (Kept : Type 0) (port seats links : ℕ) (door door' : DoorState L) (before after : SinkState) where
   -- the list was given, and printed so
-  pub serve_printed : (s : Attributes) (rows : List Row) (list : List Entry) (sums : Sums) (shuts : Bool) (status : Status) → LinksAreServed told s (opening_of rows) list shuts links sums door'.keeps door'.kept
+  pub serve_printed : (s : Attributes) (rows : List Row) (list : List Entry) (sums : Sums) (shuts : Bool) (status : Status) → LinksAreServed told s (opening_of rows) list shuts seats links sums door'.keeps door'.kept
       → door' ≡ served_door door port links seats sums door'.kept → (Kept × (status ≡ NoMemory)) ⊎ Logs s list sums shuts before after status
       → RunsServe told Kept s rows port seats links door door' before after status
   serve_printed s rows list sums shuts status served is (inl kept) =
@@ -33,7 +33,7 @@ module _ {L : Type 0} (told : L → LinkState) (Kept : Type 0) (port seats links
       made x l done = record { list = list; sums = sums; shuts = shuts; served = served; door_is = is; logs = l; done = done }
 
       go : (x : Status) → Logs s list sums shuts before after x → RunsServe told Kept s rows port seats links door door' before after x
-      go Done l = made Done l (λ _. were_read told s (opening_of rows) list shuts links sums door'.keeps door'.kept served l.1 l.0)
+      go Done l = made Done l (λ _. were_read told s (opening_of rows) list shuts seats links sums door'.keeps door'.kept served l.1 l.0)
       go (Shut shade) l = made (Shut shade) l (λ no. absurd cc)
       go Spent l = made Spent l (λ no. absurd cc)
       go WriteFault l = made WriteFault l (λ no. absurd cc)

@@ -56,7 +56,7 @@ module _ {L : Type 0} (told : L → LinkState) where
     pub list : List Entry
     pub sums : Sums
     pub shuts : Bool
-    pub served : LinksAreServed told s (opening_of rows) list shuts links sums door'.keeps door'.kept
+    pub served : LinksAreServed told s (opening_of rows) list shuts seats links sums door'.keeps door'.kept
     pub door_is : door' ≡ served_door door port links seats sums door'.kept
     pub logs : Logs s list sums shuts before after status
     -- where all is done, all links were given out and came back, and were read to their end or to a QUIT

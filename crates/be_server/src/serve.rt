@@ -132,7 +132,7 @@ fn mailed<
     requires few { seats ≤ SEATS }
     requires links { links ≤ LINKS }
     ensures served { IfOk result (λ served. LinksAreServed (link_state L.Source L.Sink) (arc_value schema.now) (opening_of rows.items) served.log.list (is_some served.shade)
-        links served.sums (D.state door.new).keeps (D.state door.new).kept) }
+        seats links served.sums (D.state door.new).keeps (D.state door.new).kept) }
     ensures sound { IfOk result (λ served. Sound (arc_value schema.now) served.log.list) }
     ensures door { IfOk result (λ served. D.state door.new ≡ served_door (D.state door.old) port links seats served.sums (D.state door.new).kept) }
     ensures fault { IfErr result (λ fault. FailsAt (D.state door.old) (D.state door.new) port links seats fault) }
@@ -177,7 +177,7 @@ fn seated<
     requires few { seats ≤ SEATS }
     requires links { links ≤ LINKS }
     ensures served { IfOk result (λ served. LinksAreServed (link_state L.Source L.Sink) J.schema J.opening served.log.list (is_some served.shade)
-        links served.sums (D.state door.new).keeps (D.state door.new).kept) }
+        seats links served.sums (D.state door.new).keeps (D.state door.new).kept) }
     ensures sound { IfOk result (λ served. Sound J.schema served.log.list) }
     ensures door { IfOk result (λ served. D.state door.new ≡ served_door (D.state door.old) port links seats served.sums (D.state door.new).kept) }
     ensures fault { IfErr result (λ fault. FailsAt (D.state door.old) (D.state door.new) port links seats fault) }

@@ -11,9 +11,8 @@ use Rattle.be_model.proofs.InSchema.{same_attribute}
 use Rattle.be_shape.specs.declared.glances.Bounds.{Bounds}
 use Rattle.be_shape.specs.declared.glances.Extent.{Extent}
 use Rattle.be_shape.specs.declared.glances.Extent.TheVariants.{Whole, Few, Part}
-use Rattle.be_shape.specs.declared.glances.Glance.{Glance}
 use Rattle.be_shape.specs.declared.listings.RowAttrs.TheVariants.{Many}
-use Rattle.be_shape.specs.Glances.{Test, test_on, is_part, bounds_of, glance, with_test, with_bounds, with_further, with_pred, with_preds, are_few, glance_of}
+use Rattle.be_shape.specs.Glances.{Glance, Test, test_on, is_part, bounds_of, glance, with_test, with_bounds, with_further, with_pred, with_preds, are_few, glance_of}
 use Rattle.be_shape.specs.Listed.{is_many, any_listed, listed, attrs_told, attrs_of}
 
 -- a test of attributes, of predicates and of tests of values

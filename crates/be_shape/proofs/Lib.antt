@@ -28,6 +28,10 @@ pub mod LeafLess
 pub mod Exchanges
 pub mod Replacements
 pub mod Reshaping
-pub mod SightHulls
+pub mod SightValues
 pub mod BoundedTests
+pub mod Slots
+pub mod ToldLanes
+pub mod Choices
+pub mod GapSets
 pub mod Depths

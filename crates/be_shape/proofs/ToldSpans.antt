@@ -1,6 +1,7 @@
 -- What a place tells of spans and attributes is true of its row.
 use Rattle.std.proofs.Common.{◌≡◌, ℤ, pos, ◌+ℤ◌, ◌-ℤ◌, ◌≤ℤ◌, ◌<ℤ◌, ◌<◌, ◌==◌, leb, Bool, true, false, ◌&&◌, ◌||◌, List, [], ◌∷◌, ◌++◌, length, find, is_some, Option, Some, None, option_map, option_and_then, cond, refl, sym, ap, ap₂, subst, ◌∙◌, arith}
 use Rattle.std.specs.Int.{int_max, int_min}
+use Rattle.std.specs.Int.Signed.{le_z}
 use Rattle.std.specs.Ordering.{int_eq}
 use Rattle.std.specs.List.{list_any}
 use Rattle.std.specs.Option.{option_or}
@@ -25,8 +26,7 @@ use Rattle.be_model.proofs.Spans.{pred_found}
 use Rattle.be_shape.specs.declared.glances.Bounds.{Bounds}
 use Rattle.be_shape.specs.declared.glances.Extent.{Extent}
 use Rattle.be_shape.specs.declared.glances.Extent.TheVariants.{Whole, Few, Part}
-use Rattle.be_shape.specs.declared.glances.Glance.{Glance}
-use Rattle.be_shape.specs.Glances.{least, greatest, small, bounds, bounds_of, Test, test_on, is_part, glance, with_bounds, with_further, with_pred, with_preds, are_few, glance_of, hull_low, hull_high, hull_in}
+use Rattle.be_shape.specs.Glances.{Glance, least, greatest, small, bounds, bounds_of, Test, test_on, is_part, glance, with_bounds, with_further, with_pred, with_preds, are_few, glance_of, hull_low, hull_high, hull_in}
 use Rattle.be_shape.proofs.FewAttrs.{Lists, lists_pred, on_is, has_is_told}
 use Rattle.be_shape.proofs.ToldTests.{by_small}
 
@@ -222,8 +222,8 @@ hull_told d (Gt x) f h =
     (λ l g. hull_from d (x +ℤ pos 1) greatest (int_min d.1 (x +ℤ pos 1)) d.1 d.1 (low_is d (x +ℤ pos 1) (one_more x l)) refl (max_is (int_min d.1 (x +ℤ pos 1)) d.1 (min_below d.1 (x +ℤ pos 1)))) tt
 hull_told d (Between x y) f h =
     let k = within_parts d x (and_parts (is_within d x) (lies_within d (y ∷ [])) h).0 in
-    by_small x (λ o. HullTold d (Between x y) (option_and_then (λ v. option_map (λ w. bounds v w true) (small y)) o))
-    (λ l g. by_small y (λ o. HullTold d (Between x y) (option_map (λ w. bounds x w true) o))
+    by_small x (λ o. HullTold d (Between x y) (option_and_then (λ v. option_map (λ w. bounds v w (le_z v w)) (small y)) o))
+    (λ l g. by_small y (λ o. HullTold d (Between x y) (option_map (λ w. bounds x w (le_z x w)) o))
     (λ m n. hull_from d x y x y (int_max x y) (low_at d x l k.1) (high_is d y n) refl) tt) tt
 hull_told d (OneOf []) f h = absurd (let k : 0 < 0 = f.some in omega arith)
 hull_told d (OneOf (z ∷ zs)) f h =

@@ -20,8 +20,7 @@ use Rattle.be_model.proofs.Ranges.{within_parts, within_from, hulls_hold}
 use Rattle.be_shape.specs.declared.glances.Bounds.{Bounds}
 use Rattle.be_shape.specs.declared.glances.Extent.{Extent}
 use Rattle.be_shape.specs.declared.glances.Extent.TheVariants.{Whole, Few, Part}
-use Rattle.be_shape.specs.declared.glances.Glance.{Glance}
-use Rattle.be_shape.specs.Glances.{least, greatest, is_in, has_in, small, bounds, bounds_of, Test, passes, may_meet, test_on, is_whole, is_part, glance, with_test, with_bounds, with_further, with_pred, with_preds, are_few, glance_of}
+use Rattle.be_shape.specs.Glances.{Glance, least, greatest, is_in, has_in, small, bounds, bounds_of, Test, passes, may_meet, test_on, is_whole, is_part, glance, with_test, with_bounds, with_further, with_pred, with_preds, are_few, glance_of}
 
 pub both : (a b : Bool) → a ≡ true → b ≡ true → (a && b) ≡ true
 both a b h k = ap (λ c. c && b) h ∙ k
@@ -136,8 +135,8 @@ bounds_hold (Gt x) f =
     by_small x (λ o. Told (Gt x) (option_map (λ v. bounds (v +ℤ pos 1) greatest true) o))
     (λ l h. record { inside = λ v k. at_least (x +ℤ pos 1) greatest v (above x v k) refl; all = λ e v k. lt_test x v (above_back x v (low_says (x +ℤ pos 1) v (one_more x l) (in_parts (x +ℤ pos 1) greatest v k).0)) }) tt
 bounds_hold (Between x y) f =
-    by_small x (λ o. Told (Between x y) (option_and_then (λ v. option_map (λ w. bounds v w true) (small y)) o))
-    (λ l h. by_small y (λ o. Told (Between x y) (option_map (λ w. bounds x w true) o))
+    by_small x (λ o. Told (Between x y) (option_and_then (λ v. option_map (λ w. bounds v w (le_z v w)) (small y)) o))
+    (λ l h. by_small y (λ o. Told (Between x y) (option_map (λ w. bounds x w (le_z x w)) o))
     (λ m n. record { inside = λ v k. (let z = within_parts (x, y) v k in in_from x y v z.0 z.1); all = λ e v k. within_from (x, y) v (low_says x v l (in_parts x y v k).0) (high_says y v n (in_parts x y v k).1) }) tt) tt
 bounds_hold (OneOf xs) f =
     let x = first_of_values xs in

@@ -14,14 +14,13 @@ use Rattle.be_model.specs.Matching.{Assignments, values_of}
 use Rattle.be_shape.specs.declared.glances.Bounds.{Bounds}
 use Rattle.be_shape.specs.declared.glances.Extent.{Extent}
 use Rattle.be_shape.specs.declared.glances.Extent.TheVariants.{Whole, Few, Part}
-use Rattle.be_shape.specs.declared.glances.Glance.{Glance}
 
--- the least and the greatest number of 32 bits, which stand for no bound
+-- the least number of 32 bits and the last but one, which stand for no bound. The last stands for no value
 abbrev pub least : ℤ
 least = negsuc 2147483647
 
 abbrev pub greatest : ℤ
-greatest = pos 2147483647
+greatest = pos 2147483646
 
 abbrev pub is_in : ℤ × ℤ → ℤ → Bool
 is_in ends v = (int_eq ends.0 least || int_le ends.0 v) && (int_eq ends.1 greatest || int_le v ends.1)
@@ -46,7 +45,7 @@ bounds_of (Eq x) = option_map (λ v. bounds v v true) (small x)
 bounds_of (Ne x) = Some (bounds least greatest false)
 bounds_of (Ge x) = option_map (λ v. bounds v greatest true) (small x)
 bounds_of (Gt x) = option_map (λ v. bounds (v +ℤ pos 1) greatest true) (small x)
-bounds_of (Between x y) = option_and_then (λ v. option_map (λ w. bounds v w true) (small y)) (small x)
+bounds_of (Between x y) = option_and_then (λ v. option_map (λ w. bounds v w (int_le v w)) (small y)) (small x)
 bounds_of (OneOf xs) = option_and_then (λ v. option_map (λ w. bounds v w false) (small (last_of_values xs))) (small (first_of_values xs))
 bounds_of (NoneOf xs) = Some (bounds least greatest false)
 
@@ -77,6 +76,11 @@ abbrev pub is_part : Extent → Bool
 is_part Whole = false
 is_part Few = false
 is_part Part = true
+
+-- tests, and how much of a condition they are
+pub record Glance : Type 0 where
+  pub tests : List Test
+  pub extent : Extent
 
 abbrev pub glance : List Test → Extent → Glance
 glance tests extent = record { tests = tests; extent = extent }

@@ -20,3 +20,6 @@ pub mod Less
 pub mod Depth
 pub mod Swaps
 pub mod Sights
+pub mod Lanes
+pub mod Gaps
+pub mod Chosen

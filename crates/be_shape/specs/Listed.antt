@@ -3,10 +3,9 @@ use Rattle.std.specs.Prelude.{ℕ, ◌||◌, ◌%◌, Bool, true, false, List, [
 use Rattle.be_base.specs.declared.names.AttrNo.{AttrNo}
 use Rattle.be_model.specs.declared.preds.Pred.{Pred}
 use Rattle.be_model.specs.Schemas.{numbered}
-use Rattle.be_shape.specs.declared.glances.Glance.{Glance}
 use Rattle.be_shape.specs.declared.listings.RowAttrs.{RowAttrs}
 use Rattle.be_shape.specs.declared.listings.RowAttrs.TheVariants.{Zero, One, Two, Three, Many}
-use Rattle.be_shape.specs.Glances.{Test, is_part, glance_of}
+use Rattle.be_shape.specs.Glances.{Test, Glance, is_part, glance_of}
 
 abbrev pub is_many : RowAttrs → Bool
 is_many Zero = false

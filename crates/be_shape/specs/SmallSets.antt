@@ -7,7 +7,7 @@ use Rattle.be_model.specs.Matching.{Assignments, values_of, satisfies}
 use Rattle.be_shape.specs.declared.glances.Extent.{Extent}
 use Rattle.be_shape.specs.declared.glances.Extent.TheVariants.{Whole, Few, Part}
 use Rattle.be_shape.specs.declared.small_sets.Told.{Told}
-use Rattle.be_shape.specs.declared.small_sets.Told.TheVariants.{AsWhole, AsFew, AsPart, FirstIsSet, SecondIsSet, ThirdIsSet}
+use Rattle.be_shape.specs.declared.small_sets.Told.TheVariants.{AsWhole, AsFew, AsPart, IsSet, FirstIsSet, SecondIsSet, ThirdIsSet}
 use Rattle.be_shape.specs.Glances.{Test}
 use Rattle.be_shape.specs.Listed.{low_part}
 
@@ -16,9 +16,20 @@ abbrev pub extent_of : Told → Extent
 extent_of AsWhole = Whole
 extent_of AsFew = Few
 extent_of AsPart = Part
+extent_of IsSet = Few
 extent_of FirstIsSet = Few
 extent_of SecondIsSet = Few
 extent_of ThirdIsSet = Few
+
+-- an event of single values that passes the lanes satisfies the row
+abbrev pub is_sure : Told → Bool
+is_sure AsWhole = true
+is_sure AsFew = false
+is_sure AsPart = false
+is_sure IsSet = true
+is_sure FirstIsSet = false
+is_sure SecondIsSet = false
+is_sure ThirdIsSet = false
 
 -- the number is one of the ends, or the lower bits of its size are those of the number between them
 abbrev pub may_be : ℤ × ℤ → ℕ → ℤ → Bool

@@ -1,23 +1,29 @@
 //! At most three tests of a row.
 
-ghost use Rattle.std.specs.Prelude.{◌≡◌, ◌<◌, ℕ, true, [], ◌∷◌, ◌++◌, length, nat_le, IfSome};
+ghost use Rattle.std.specs.Prelude.{◌≡◌, ◌<◌, ℕ, true, List, [], ◌∷◌, ◌++◌, length, nat_le, IfSome};
 ghost use Rattle.be_model.specs.Forms.{IsConj};
 ghost use Rattle.be_model.specs.Hulls.{span_in};
 ghost use Rattle.be_model.specs.Lies.{conj_lies};
 ghost use Rattle.be_model.specs.Matching.{Assignments, is_met, satisfies, values_of};
 ghost use Rattle.be_model.specs.Rows.{has};
 ghost use Rattle.be_model.specs.Schemas.{numbered};
+ghost use Rattle.be_shape.specs.declared.few_tests.Count.TheVariants.{One};
 ghost use Rattle.be_shape.specs.declared.glances.Extent.TheVariants.{Few};
+ghost use Rattle.be_shape.specs.declared.small_sets.Told.TheVariants.{IsSet};
 ghost use Rattle.be_shape.specs.FewTests.{has_first, has_second, has_third};
+ghost use Rattle.be_shape.specs.Gaps.{IsOnlySet};
 ghost use Rattle.be_shape.specs.Glances.{may_meet, test_on, is_whole, glance, glance_of};
 ghost use Rattle.be_shape.specs.Listed.{attrs_told};
-ghost use Rattle.be_shape.specs.Sights.{are_single, are_seen, are_bounded};
+ghost use Rattle.be_model.specs.declared.preds.Pred.{Pred};
+ghost use Rattle.be_shape.specs.Lanes.{passes_lanes, AreFree, HoldLanes};
 ghost use Rattle.be_shape.specs.SmallSets.{extent_of, passes_set, passes_told, LosesNone};
 
+use crate::gaps::gaps_of;
 use crate::glances::{Ends, Extent, hull_in};
+use crate::lanes::{FREE, Slot, ends_of, numbered, slot_fits, slot_of};
 use crate::listings::RowAttrs;
 use crate::looks::has_attr;
-use crate::sights::{Sight, is_seen};
+use crate::sights::Sight;
 use crate::small_sets::{Told, middle_of};
 use be_base::AttrNo;
 use be_model::{Conj, Op, Pred, Row, Schema};
@@ -32,28 +38,27 @@ pub(crate) enum Count {
     Three,
 }
 
-/// At most three tests, of attributes below 256. The fields stand in this order, as then they take 28 bytes.
+/// At most three tests, of attributes below 256, and three lanes, of which the first are of the tests. The fields stand in this
+/// order, as then they take 28 bytes.
 #[derive(Drop)]
 pub(crate) struct FewTests {
     count: Count,
     first_attr: u8,
     second_attr: u8,
     third_attr: u8,
-    first: Ends,
-    second: Ends,
-    third: Ends,
+    first: Slot,
+    second: Slot,
+    third: Slot,
 }
 
 impl Model for FewTests {
-    ghost use Rattle.std.specs.Prelude.{ℤ, List};
-    ghost use Rattle.be_base.specs.declared.names.AttrNo.{AttrNo};
-    ghost use Rattle.be_model.specs.Schemas.{numbered};
+    ghost use Rattle.be_shape.specs.Lanes.{Few};
 
-    ghost Value = { List (AttrNo × (ℤ × ℤ)) };
+    ghost Value = { Few };
 
-    ghost use Rattle.be_shape.specs.FewTests.{tests_of};
+    ghost use Rattle.be_shape.specs.FewTests.{few_of};
 
-    ghost view = { λ t. tests_of t.count (numbered t.first_attr, t.first) (numbered t.second_attr, t.second) (numbered t.third_attr, t.third) };
+    ghost view = { λ t. few_of t.count (t.first_attr, t.first) (t.second_attr, t.second) (t.third_attr, t.third) };
 }
 
 impl Count {
@@ -61,6 +66,12 @@ impl Count {
         ensures { result ≡ has_first self }
     {
         !matches!(self, Count::Zero)
+    }
+
+    fn is_one(self) -> bool
+        ensures { result ≡ true → self ≡ One }
+    {
+        matches!(self, Count::One)
     }
 
     fn has_second(self) -> bool
@@ -84,100 +95,160 @@ fn is_test(number: u8, test: Ends, a: AttrNo, ends: (i64, i64)) -> bool
     u16::from(number) == a.0 && test.0 as i64 == ends.0 && test.1 as i64 == ends.1
 }
 
-fn numbered(a: u8) -> AttrNo
-    ensures { result ≡ numbered a }
-{
-    AttrNo(u16::from(a))
-}
-
 impl FewTests {
     pub(crate) fn none() -> FewTests
-        ensures { result ≡ [] }
+        ensures tests { result.tests ≡ [] }
+        ensures free { AreFree result }
     {
         FewTests {
             count: Count::Zero,
             first_attr: 0,
             second_attr: 0,
             third_attr: 0,
-            first: (0, 0),
-            second: (0, 0),
-            third: (0, 0),
+            first: FREE,
+            second: FREE,
+            third: FREE,
         }
     }
 
     pub(crate) fn is_full(&self) -> bool
-        ensures { result ≡ nat_le 3 (length self.now) }
+        ensures { result ≡ nat_le 3 (length self.now.tests) }
     {
         self.count.has_third()
     }
 
     /// With a test more, behind the others.
     pub(crate) fn with(self, a: u8, ends: Ends) -> FewTests
-        requires { length self < 3 }
-        ensures { result ≡ self ++ (numbered a, ends) ∷ [] }
+        requires room { length self.tests < 3 }
+        requires free { AreFree self }
+        ensures tests { result.tests ≡ self.tests ++ (numbered a, ends) ∷ [] }
+        ensures free { AreFree result }
     {
+        let slot = slot_of(ends);
         match self.count {
             Count::Zero => FewTests {
                 count: Count::One,
                 first_attr: a,
-                first: ends,
+                first: slot,
                 ..self
             },
             Count::One => FewTests {
                 count: Count::Two,
                 second_attr: a,
-                second: ends,
+                second: slot,
                 ..self
             },
             Count::Two => FewTests {
                 count: Count::Three,
                 third_attr: a,
-                third: ends,
+                third: slot,
                 ..self
             },
             Count::Three => unreachable!(),
         }
     }
 
-    // Whether what is seen of the event lets it pass. Most often the first test says no.
-    fn is_worth(&self, e: &Sight) -> bool
-        ensures worth { may_meet e.now self.now ≡ true → result ≡ true }
-        ensures exact { are_single e.now ≡ true → are_seen self.now ≡ true → are_bounded self.now ≡ true → result ≡ true → may_meet e.now self.now ≡ true }
+    /// With what is told, as a place has it.
+    pub(crate) fn settled(self, told: Told, conj: &Conj) -> (Told, FewTests)
+        requires told { glance self.tests (extent_of told) ≡ glance_of conj.now }
+        requires form { IsConj conj.now }
+        requires free { AreFree self }
+        requires plain { told ≡ IsSet → ⊥ }
+        ensures tests { result.1.tests ≡ self.tests }
+        ensures extent { extent_of result.0 ≡ extent_of told }
+        ensures lanes { HoldLanes conj.now result.0 result.1 }
+        ensures set { (m : ℕ) → LosesNone conj.now told m self.tests → LosesNone conj.now result.0 m result.1.tests }
     {
-        (!self.count.has_first() || e.may_have(self.first, numbered(self.first_attr)))
-            && (!self.count.has_second() || e.may_have(self.second, numbered(self.second_attr)))
-            && (!self.count.has_third() || e.may_have(self.third, numbered(self.third_attr)))
+        slot_fits(self.first);
+        slot_fits(self.second);
+        slot_fits(self.third);
+        match self.gaps(told, conj) {
+            Some((second, third)) => (
+                Told::IsSet,
+                FewTests {
+                    second_attr: self.first_attr,
+                    third_attr: self.first_attr,
+                    second,
+                    third,
+                    ..self
+                },
+            ),
+            None => (told, self),
+        }
+    }
+
+    // The gaps of a small set, where that is all of the condition.
+    fn gaps(&self, told: Told, conj: &Conj) -> Option<(Slot, Slot)>
+        ensures { IfSome result (λ gaps. IsOnlySet conj.now told self.now gaps) }
+    {
+        if !told.is_first() {
+            return None;
+        }
+        if !self.count.is_one() {
+            return None;
+        }
+        slot_fits(self.first);
+        match conj.preds() {
+            [pred] => gaps_of(pred, self.first_attr, ends_of(self.first)),
+            _ => None,
+        }
+    }
+
+    // Whether an event of single values passes the lanes. None is left out, since which of them says no can't be foreseen.
+    fn passes(&self, e: &Sight) -> bool
+        ensures { result ≡ passes_lanes e.now self.now }
+    {
+        let first = e.lets(self.first_attr, self.first);
+        let second = e.lets(self.second_attr, self.second);
+        let third = e.lets(self.third_attr, self.third);
+        first & (second & third)
+    }
+
+    /// By the lanes, whether the event may satisfy the condition, and whether it then does for sure. Of an event that isn't of
+    /// single values they say nothing.
+    pub(crate) fn ask(&self, told: Told, e: &Sight) -> (bool, bool)
+        ensures may { (conj : List Pred) → HoldLanes conj told self.now → satisfies e.now conj ≡ true → result.0 ≡ true }
+        ensures sure { (conj : List Pred) → HoldLanes conj told self.now → result.0 ≡ true → result.1 ≡ true → satisfies e.now conj ≡ true }
+    {
+        let passes = self.passes(e);
+        let exact = e.is_exact();
+        (passes | !exact, told.is_sure() & exact)
     }
 
     // Whether the event may have a number of the set that is told.
     fn may_have_set(&self, told: Told, middle: u8, e: &Sight) -> bool
-        ensures { passes_told told middle self.now e.now ≡ true → result ≡ true }
+        ensures { passes_told told middle self.now.tests e.now ≡ true → result ≡ true }
     {
         match told {
             Told::FirstIsSet => {
-                !self.count.has_first() || e.may_be(self.first, middle, numbered(self.first_attr))
+                !self.count.has_first()
+                    || e.may_be(ends_of(self.first), middle, numbered(self.first_attr))
             }
             Told::SecondIsSet => {
                 !self.count.has_second()
-                    || e.may_be(self.second, middle, numbered(self.second_attr))
+                    || e.may_be(ends_of(self.second), middle, numbered(self.second_attr))
             }
             Told::ThirdIsSet => {
-                !self.count.has_third() || e.may_be(self.third, middle, numbered(self.third_attr))
+                !self.count.has_third()
+                    || e.may_be(ends_of(self.third), middle, numbered(self.third_attr))
             }
-            Told::AsWhole | Told::AsFew | Told::AsPart => true,
+            Told::AsWhole | Told::AsFew | Told::AsPart | Told::IsSet => true,
         }
     }
 
     /// What is told where the test on the attribute is of a set of these ends.
     pub(crate) fn set_at(&self, a: AttrNo, ends: (i64, i64)) -> Option<Told>
         ensures few { IfSome result (λ told. extent_of told ≡ Few) }
-        ensures passes { IfSome result (λ told. (e : Assignments) (m : ℕ) → passes_set e m (a, ends) ≡ true → passes_told told m self.now e ≡ true) }
+        ensures plain { IfSome result (λ told. told ≡ IsSet → ⊥) }
+        ensures passes { IfSome result (λ told. (e : Assignments) (m : ℕ) → passes_set e m (a, ends) ≡ true → passes_told told m self.now.tests e ≡ true) }
     {
-        if self.count.has_first() && is_test(self.first_attr, self.first, a, ends) {
+        if self.count.has_first() && is_test(self.first_attr, ends_of(self.first), a, ends) {
             Some(Told::FirstIsSet)
-        } else if self.count.has_second() && is_test(self.second_attr, self.second, a, ends) {
+        } else if self.count.has_second()
+            && is_test(self.second_attr, ends_of(self.second), a, ends)
+        {
             Some(Told::SecondIsSet)
-        } else if self.count.has_third() && is_test(self.third_attr, self.third, a, ends) {
+        } else if self.count.has_third() && is_test(self.third_attr, ends_of(self.third), a, ends) {
             Some(Told::ThirdIsSet)
         } else {
             None
@@ -187,7 +258,8 @@ impl FewTests {
     // What is told where the predicate is of a small set, on which there is a test.
     fn set_told(&self, pred: &Pred) -> Option<(Told, u8)>
         ensures few { IfSome result (λ set. extent_of set.0 ≡ Few) }
-        ensures passes { IfSome result (λ set. (e : Assignments) → is_met (values_of e pred.now.attr) pred.now.op ≡ true → passes_told set.0 set.1 self.now e ≡ true) }
+        ensures plain { IfSome result (λ set. set.0 ≡ IsSet → ⊥) }
+        ensures passes { IfSome result (λ set. (e : Assignments) → is_met (values_of e pred.now.attr) pred.now.op ≡ true → passes_told set.0 set.1 self.now.tests e ≡ true) }
     {
         let Op::OneOf(xs) = &pred.op else {
             return None;
@@ -200,7 +272,8 @@ impl FewTests {
     /// What is told of the first small set of the condition on which there is a test.
     pub(crate) fn set_among(&self, conj: &Conj) -> (Told, u8)
         ensures few { extent_of result.0 ≡ Few }
-        ensures set { LosesNone conj.now result.0 result.1 self.now }
+        ensures plain { result.0 ≡ IsSet → ⊥ }
+        ensures set { LosesNone conj.now result.0 result.1 self.now.tests }
     {
         for pred in conj.preds() {
             if let Some(set) = self.set_told(pred) {
@@ -212,18 +285,19 @@ impl FewTests {
 
     // Whether the event passes.
     fn may_meet(&self, e: &Sight) -> bool
-        ensures { result ≡ may_meet e.now self.now }
+        ensures { result ≡ may_meet e.now self.now.tests }
     {
-        (!self.count.has_first() || e.has_in(self.first, numbered(self.first_attr)))
-            && (!self.count.has_second() || e.has_in(self.second, numbered(self.second_attr)))
-            && (!self.count.has_third() || e.has_in(self.third, numbered(self.third_attr)))
+        (!self.count.has_first() || e.has_in(ends_of(self.first), numbered(self.first_attr)))
+            && (!self.count.has_second()
+                || e.has_in(ends_of(self.second), numbered(self.second_attr)))
+            && (!self.count.has_third() || e.has_in(ends_of(self.third), numbered(self.third_attr)))
     }
 
     // Whether the event satisfies the condition of which this is told, by its own values. It stands apart, so that the loop over
     // rows of which most are passed over stays short.
     #[inline(never)]
     fn is_met_by_values(&self, extent: Extent, conj: &Conj, e: &Sight) -> bool
-        requires told { glance self.now extent ≡ glance_of conj.now }
+        requires told { glance self.now.tests extent ≡ glance_of conj.now }
         requires form { IsConj conj.now }
         ensures { result ≡ satisfies e.now conj.now }
     {
@@ -234,54 +308,44 @@ impl FewTests {
         }
     }
 
-    // Whether a sight has hulls of the attributes. Of an unused test the attribute is 0, so the count isn't asked.
-    fn are_seen(&self) -> bool
-        ensures { result ≡ true → are_seen self.now ≡ true }
+    // Whether an event of single values that passes the lanes satisfies the condition, where that isn't sure.
+    #[inline(never)]
+    fn is_met_by_one(&self, told: Told, middle: u8, conj: &Conj, e: &Sight) -> bool
+        requires set { LosesNone conj.now told middle self.now.tests }
+        ensures { result ≡ satisfies e.now conj.now }
     {
-        is_seen(self.first_attr) && is_seen(self.second_attr) && is_seen(self.third_attr)
-    }
-
-    // Whether what is seen of the event decides: the tests are all of the condition, and each hull is a value or none.
-    fn is_decided(&self, told: Told, e: &Sight) -> bool
-        ensures whole { result ≡ true → is_whole (extent_of told) ≡ true }
-        ensures single { result ≡ true → are_single e.now ≡ true }
-        ensures seen { result ≡ true → are_seen self.now ≡ true }
-    {
-        told.extent().is_whole() && e.is_exact() && self.are_seen()
-    }
-
-    // Whether what is seen of the event lets it pass the tests, and the set that is told.
-    fn may_be_met(&self, told: Told, middle: u8, e: &Sight) -> bool
-        ensures exact { are_single e.now ≡ true → are_seen self.now ≡ true → are_bounded self.now ≡ true → result ≡ true → may_meet e.now self.now ≡ true }
-        ensures met { may_meet e.now self.now ≡ true → passes_told told middle self.now e.now ≡ true → result ≡ true }
-    {
-        self.is_worth(e) && self.may_have_set(told, middle, e)
+        self.may_have_set(told, middle, e) && conj.satisfied_by(e.event())
     }
 
     /// Whether the event satisfies the condition of which this is told.
     pub(crate) fn is_met(&self, told: Told, middle: u8, conj: &Conj, e: &Sight) -> bool
-        requires told { glance self.now (extent_of told) ≡ glance_of conj.now }
+        requires told { glance self.now.tests (extent_of told) ≡ glance_of conj.now }
         requires form { IsConj conj.now }
-        requires set { LosesNone conj.now told middle self.now }
+        requires set { LosesNone conj.now told middle self.now.tests }
+        requires lanes { HoldLanes conj.now told self.now }
         ensures { result ≡ satisfies e.now conj.now }
     {
-        if self.may_be_met(told, middle, e) {
-            self.is_decided(told, e) || self.is_met_by_values(told.extent(), conj, e)
+        if !e.is_exact() {
+            return self.is_met_by_values(told.extent(), conj, e);
+        }
+        let passes = self.passes(e);
+        if passes & !told.is_sure() {
+            self.is_met_by_one(told, middle, conj, e)
         } else {
-            false
+            passes
         }
     }
 
     /// The ends of the test on the attribute.
     pub(crate) fn on(&self, a: AttrNo) -> Option<Ends>
-        ensures { result ≡ test_on a self.now }
+        ensures { result ≡ test_on a self.now.tests }
     {
         if self.count.has_first() && u16::from(self.first_attr) == a.0 {
-            Some(self.first)
+            Some(ends_of(self.first))
         } else if self.count.has_second() && u16::from(self.second_attr) == a.0 {
-            Some(self.second)
+            Some(ends_of(self.second))
         } else if self.count.has_third() && u16::from(self.third_attr) == a.0 {
-            Some(self.third)
+            Some(ends_of(self.third))
         } else {
             None
         }
@@ -295,7 +359,7 @@ impl FewTests {
         s: &Schema,
         a: AttrNo,
     ) -> Option<(i64, i64)>
-        requires told { glance self.now extent ≡ glance_of conj.now }
+        requires told { glance self.now.tests extent ≡ glance_of conj.now }
         requires form { IsConj conj.now }
         requires lies { conj_lies s.now conj.now ≡ true }
         ensures { result ≡ span_in s.now a conj.now }
@@ -312,7 +376,7 @@ impl FewTests {
 
     /// Whether the row of which this is told has a predicate on the attribute.
     pub(crate) fn has_attr(&self, extent: Extent, row: &Row, a: AttrNo) -> bool
-        requires { glance self.now extent ≡ glance_of row.now.conj }
+        requires { glance self.now.tests extent ≡ glance_of row.now.conj }
         ensures { result ≡ has a row.now }
     {
         self.on(a).is_some() || (extent.is_part() && has_attr(row, a))
@@ -320,7 +384,7 @@ impl FewTests {
 
     /// The attributes that are told.
     pub(crate) fn attrs(&self, extent: Extent) -> RowAttrs
-        ensures { result ≡ attrs_told (glance self.now extent) }
+        ensures { result ≡ attrs_told (glance self.now.tests extent) }
     {
         if extent.is_part() {
             return RowAttrs::Many;

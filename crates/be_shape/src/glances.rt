@@ -1,20 +1,26 @@
 //! What is told of a row without a look at it: at most three tests, and how much of its meaning these are.
 
-ghost use Rattle.std.specs.Prelude.{◌≡◌, true};
+ghost use Rattle.std.specs.Prelude.{◌≡◌, ◌||◌, ◌<◌, ◌∷◌, ◌++◌, true, int_le, nat_le, length, if◌then◌else◌};
 ghost use Rattle.std.specs.List.{list_any};
+ghost use Rattle.std.specs.Ordering.{int_eq};
 ghost use Rattle.be_model.specs.declared.ops.Op.{Op};
 ghost use Rattle.be_model.specs.Forms.{IsConj};
 ghost use Rattle.be_model.specs.Matching.{values_of};
-ghost use Rattle.be_shape.specs.Glances.{is_in, has_in, small, bounds_of, is_whole, is_part, glance, with_test, with_bounds, with_further, with_pred, are_few, glance_of, hull_low, hull_high, hull_in};
+ghost use Rattle.be_shape.specs.Glances.{least, greatest, is_in, has_in, small, bounds_of, is_whole, is_part, glance, with_test, with_bounds, with_further, with_pred, are_few, glance_of, hull_low, hull_high, hull_in};
+ghost use Rattle.be_shape.specs.declared.small_sets.Told.TheVariants.{IsSet};
 ghost use Rattle.be_shape.specs.SmallSets.{extent_of, LosesNone};
 
 use crate::few_tests::FewTests;
 use crate::small_sets::Told;
 use be_base::AttrNo;
 use be_model::{Conj, Event, Op, Pred, Values};
+use std::marker::Model;
 
-/// The least and the greatest number that are allowed. The least and the greatest of 32 bits stand for no bound.
+/// The least and the greatest number that are allowed. The least number of 32 bits and `GREATEST` stand for no bound.
 pub(crate) type Ends = (i32, i32);
+
+/// The last number of 32 bits but one. In a sight the last stands for no value.
+pub(crate) const GREATEST: i32 = 2147483646;
 
 /// Beyond its ends a comparison holds of nothing.
 #[derive(Clone, Copy)]
@@ -42,11 +48,11 @@ pub(crate) struct Glance {
     pub(crate) extent: Extent,
 }
 
-// The number, where it isn't the least or the greatest of 32 bits, nor beyond.
+// The number, where it is strictly between the least and the greatest.
 fn small(v: i64) -> Option<i32>
     ensures { result ≡ small v }
 {
-    if (i32::MIN as i64) < v && v < (i32::MAX as i64) {
+    if (i32::MIN as i64) < v && v < GREATEST as i64 {
         Some(v as i32)
     } else {
         None
@@ -66,7 +72,7 @@ fn bounds_of(op: &Op) -> Option<Bounds>
         Op::Ne(_) => Some(Bounds::widest()),
         Op::Ge(x) => Some(Bounds::from(small(*x)?)),
         Op::Gt(x) => Some(Bounds::from(small(*x)? + 1)),
-        Op::Between(x, y) => Some(Bounds::exactly((small(*x)?, small(*y)?))),
+        Op::Between(x, y) => Some(Bounds::between(small(*x)?, small(*y)?)),
         Op::OneOf(xs) => bounds_of_set(xs),
         Op::NoneOf(_) => Some(Bounds::widest()),
     }
@@ -95,7 +101,7 @@ fn hull_low(d: (i64, i64), low: i32) -> i64
 fn hull_high(d: (i64, i64), high: i32) -> i64
     ensures { result ≡ hull_high d high }
 {
-    if high == i32::MAX { d.1 } else { high as i64 }
+    if high == GREATEST { d.1 } else { high as i64 }
 }
 
 /// The hull that a test stands for, over a domain.
@@ -108,12 +114,22 @@ pub(crate) fn hull_in(d: (i64, i64), ends: Ends) -> (i64, i64)
 
 impl Bounds {
     ghost use Rattle.std.specs.Prelude.{true, false};
-    ghost use Rattle.be_shape.specs.Glances.{bounds, least, greatest};
+    ghost use Rattle.be_shape.specs.Glances.{bounds};
 
     fn exactly(ends: Ends) -> Bounds
         ensures { result ≡ bounds ends.0 ends.1 true }
     {
         Bounds { ends, exact: true }
+    }
+
+    // Of turned ends nothing is between them, and a lane would take them for all beyond.
+    fn between(low: i32, high: i32) -> Bounds
+        ensures { result ≡ bounds low high (int_le low high) }
+    {
+        Bounds {
+            ends: (low, high),
+            exact: low <= high,
+        }
     }
 
     fn to(high: i32) -> Bounds
@@ -125,7 +141,7 @@ impl Bounds {
     fn from(low: i32) -> Bounds
         ensures { result ≡ bounds low greatest true }
     {
-        Bounds::exactly((low, i32::MAX))
+        Bounds::exactly((low, GREATEST))
     }
 
     // An event must have a value, and that may be any.
@@ -133,17 +149,29 @@ impl Bounds {
         ensures { result ≡ bounds least greatest false }
     {
         Bounds {
-            ends: (i32::MIN, i32::MAX),
+            ends: (i32::MIN, GREATEST),
             exact: false,
         }
     }
+}
+
+fn is_from(low: i32, v: i64) -> bool
+    ensures { result ≡ (int_eq low least || int_le low v) }
+{
+    low == i32::MIN || low as i64 <= v
+}
+
+fn is_to(high: i32, v: i64) -> bool
+    ensures { result ≡ (int_eq high greatest || int_le v high) }
+{
+    high == GREATEST || v <= high as i64
 }
 
 /// Whether the number is between the ends.
 pub(crate) fn is_in(ends: Ends, v: i64) -> bool
     ensures { result ≡ is_in ends v }
 {
-    (ends.0 == i32::MIN || ends.0 as i64 <= v) && (ends.1 == i32::MAX || v <= ends.1 as i64)
+    is_from(ends.0, v) && is_to(ends.1, v)
 }
 
 fn any_is_in(ends: Ends, values: &Values) -> bool
@@ -183,9 +211,21 @@ impl Extent {
     }
 }
 
+impl Model for Glance {
+    ghost use Rattle.be_shape.specs.Glances.{Glance};
+
+    ghost Value = { Glance };
+
+    ghost use Rattle.be_shape.specs.Lanes.{AreFree};
+
+    ghost view = { λ g. record { tests = g.tests.tests; extent = g.extent } };
+
+    ghost invariant = { λ g. AreFree g.tests };
+}
+
 impl Glance {
     ghost use Rattle.std.specs.Prelude.{[]};
-    ghost use Rattle.be_shape.specs.declared.glances.Extent.TheVariants.{Whole};
+    ghost use Rattle.be_shape.specs.declared.glances.Extent.TheVariants.{Whole, Few};
 
     // Of the condition of no predicate.
     fn of_none() -> Glance
@@ -206,16 +246,39 @@ impl Glance {
         }
     }
 
+    fn lacks_room(&self, a: AttrNo) -> bool
+        ensures { result ≡ (nat_le 256 a.0 || nat_le 3 (length self.now.tests)) }
+    {
+        256 <= a.0 || self.tests.is_full()
+    }
+
+    fn extent_with(&self, b: Bounds) -> Extent
+        ensures { result ≡ (if b.exact then self.now.extent else Few) }
+    {
+        if b.exact { self.extent } else { Extent::Few }
+    }
+
+    // With a test more, for which there is room.
+    fn with_one(self, a: AttrNo, b: Bounds) -> Glance
+        requires low { a.0 < 256 }
+        requires room { length self.tests < 3 }
+        ensures { result ≡ glance (self.tests ++ (a, b.ends) ∷ []) (if b.exact then self.extent else Few) }
+    {
+        let extent = self.extent_with(b);
+        Glance {
+            tests: self.tests.with(a.0 as u8, b.ends),
+            extent,
+        }
+    }
+
     // With a test more, or of this extent where there is no room.
     fn with_test(self, full: Extent, a: AttrNo, b: Bounds) -> Glance
         ensures { result ≡ with_test full a b self }
     {
-        if 256 <= a.0 || self.tests.is_full() {
-            return self.with_extent(full);
-        }
-        Glance {
-            tests: self.tests.with(a.0 as u8, b.ends),
-            extent: if b.exact { self.extent } else { Extent::Few },
+        if self.lacks_room(a) {
+            self.with_extent(full)
+        } else {
+            self.with_one(a, b)
         }
     }
 
@@ -270,6 +333,7 @@ impl Glance {
     /// Of which set something is told, and the lower bits of the number between its ends.
     pub(crate) fn set_of(&self, conj: &Conj) -> (Told, u8)
         ensures extent { extent_of result.0 ≡ self.now.extent }
+        ensures plain { result.0 ≡ IsSet → ⊥ }
         ensures set { LosesNone conj.now result.0 result.1 self.now.tests }
     {
         match self.extent {

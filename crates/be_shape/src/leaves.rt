@@ -1,10 +1,11 @@
 //! Rows that stand together.
 
-ghost use Rattle.std.specs.Prelude.{◌≡◌, ◌↔◌, ◌<◌, true, IsTrue, [], ◌∷◌, ◌++◌, length, slice_get, Some, option_map, IsSome, IsPermutation, IfSome, IfNone, IsOk, OnOk, OnErr, IfErr};
+ghost use Rattle.std.specs.Prelude.{◌≡◌, ◌↔◌, ◌<◌, ◌≤◌, true, IsTrue, [], ◌∷◌, ◌++◌, length, take, slice_get, Some, option_map, IsSome, IsPermutation, IfSome, IfNone, IsOk, OnOk, OnErr, IfErr};
 ghost use Rattle.std.specs.List.{Contains, remove};
 ghost use Rattle.be_model.specs.Hulls.{span_in};
 ghost use Rattle.be_model.specs.Lies.{row_lies};
 ghost use Rattle.be_model.specs.Rows.{has};
+ghost use Rattle.be_shape.specs.Chosen.{Covers};
 ghost use Rattle.be_shape.specs.Common.{AreCommon};
 ghost use Rattle.be_shape.specs.Listed.{attrs_of};
 ghost use Rattle.std.specs.Arc.{arc_value};
@@ -22,6 +23,24 @@ use smallvec::SmallVec;
 use std::alloc::Global;
 use std::marker::Model;
 use std::sync::Arc;
+
+/// So many places are looked at together.
+pub const BLOCK: usize = 32;
+
+/// A place that a search chose.
+#[derive(Clone, Copy)]
+pub struct Choice {
+    /// Counted from the first place of its block.
+    pub at: u8,
+    /// The event satisfies the row, which needn't be asked.
+    pub sure: bool,
+}
+
+/// The places of a block that were chosen.
+pub type Chosen = [Choice; BLOCK];
+
+/// No place yet. A search fills its own in place.
+pub const NONE_CHOSEN: Chosen = [Choice { at: 0, sure: false }; BLOCK];
 
 /// Rows in some order. Up to 17 stand in place. What is asked of a leaf before its rows stands before them.
 #[derive(Drop)]
@@ -91,6 +110,24 @@ impl Leaf {
         ensures { option_map (λ row. satisfies e.now row.conj) (slice_get self.now place) ≡ Some result }
     {
         self.kept(place).is_met(e)
+    }
+
+    /// Notes in `chosen` at which of the `BLOCK` places from this one on the event may satisfy the row, and where it does for sure,
+    /// and says how many these are. It passes over no row that the event satisfies. Which these are can't be foreseen, so there is
+    /// no jump by a single one.
+    pub fn choose(&self, from: usize, e: &Sight, chosen: &mut Chosen) -> usize
+        requires { from ≤ length self.now }
+        ensures few { result ≤ 32 }
+        ensures places { Covers e.now self.now from 32 (take result chosen.new) }
+    {
+        let many = (self.len() - from).min(BLOCK);
+        let mut kept = 0;
+        for at in 0..many {
+            let (may, sure) = self.kept(from + at).ask(e);
+            chosen[kept] = Choice { at: at as u8, sure };
+            kept += usize::from(may);
+        }
+        kept
     }
 
     /// The span on the attribute of the row at a place. A row whose attributes are told isn't looked at.

@@ -7,8 +7,10 @@
 
 mod counts;
 mod few_tests;
+mod gaps;
 mod glances;
 mod hints;
+mod lanes;
 mod laws;
 mod leaves;
 mod listings;
@@ -28,7 +30,7 @@ pub use laws::{
     MAX_TREE_DEPTH, depth_is_bounded, ids_rise, new_ids_are_nowhere, nodes_are_everywhere,
     nodes_are_listed, paths_lead, rows_are_found, rows_are_of_leaves,
 };
-pub use leaves::Leaf;
+pub use leaves::{BLOCK, Choice, Chosen, Leaf, NONE_CHOSEN};
 pub use listings::RowAttrs;
 pub use looks::{
     can_split, count_passing, fits_a_half, has_attr, is_inside, is_stuck, is_used, is_used_on,
@@ -36,7 +38,7 @@ pub use looks::{
 };
 pub use nodes::{Node, Part};
 pub use ranges::{NodeRange, holds_value, lower_range, upper_range, whole_range};
-pub use sights::{Hulls, NO_HULLS, Sight, fill_hulls};
+pub use sights::{NOTHING_SEEN, Seen, Sight, fill_seen};
 pub use spots::Spot;
 pub use swaps::{place_on, swap_at};
 pub use trees::Tree;

@@ -67,13 +67,14 @@ impl Kept {
         ensures { result ≡ Some (arc_value row) }
     {
         let glance = Glance::of(&row.conj);
-        let (told, middle) = glance.set_of(&row.conj);
+        let (set, middle) = glance.set_of(&row.conj);
+        let (told, tests) = glance.tests.settled(set, &row.conj);
         Kept {
             held: Held::Full {
                 told,
                 low_part: low_part(row.id.0),
                 middle,
-                tests: glance.tests,
+                tests,
                 row,
             },
         }
@@ -141,6 +142,18 @@ impl Kept {
                 row,
                 ..
             } => tests.has_attr(told.extent(), row, a),
+            Held::Blank => unreachable!(),
+        }
+    }
+
+    /// By what is told without a look at the row, whether the event may satisfy it, and whether it then does for sure.
+    pub(crate) fn ask(&self, e: &Sight) -> (bool, bool)
+        requires { IsSome self.now }
+        ensures may { option_map (λ row. satisfies e.now row.conj) self.now ≡ Some true → result.0 ≡ true }
+        ensures sure { result.0 ≡ true → result.1 ≡ true → option_map (λ row. satisfies e.now row.conj) self.now ≡ Some true }
+    {
+        match &self.held {
+            Held::Full { told, tests, .. } => tests.ask(*told, e),
             Held::Blank => unreachable!(),
         }
     }

@@ -1,41 +1,45 @@
 //! An event as a search looks at it.
 
-ghost use Rattle.std.specs.Prelude.{◌≡◌, ◌<◌, ◌∷◌, [], true, Option, Some, List, ℤ, IfSome, option_map};
+ghost use Rattle.std.specs.Prelude.{◌≡◌, ◌∷◌, [], true, Option, Some, List, ℤ, IfSome, option_map};
 ghost use Rattle.be_model.specs.Forms.{attrs_rise};
 ghost use Rattle.be_model.specs.Matching.{attrs_of, values_of, is_assigned};
-ghost use Rattle.be_model.specs.Schemas.{numbered};
 ghost use Rattle.be_shape.specs.Glances.{has_in};
+ghost use Rattle.be_shape.specs.Lanes.{seen, is_single, are_single, lets_event};
 ghost use Rattle.be_shape.specs.Ranges.{is_rising};
 ghost use Rattle.be_shape.specs.Search.{holds_value};
 ghost use Rattle.be_shape.specs.SmallSets.{may_be_any};
-ghost use Rattle.be_shape.specs.Sights.{AreSmall, clamped, overlaps, hull_of, IsExact, IsSight, is_single, are_single, is_bounded, is_seen};
+ghost use Rattle.be_shape.specs.Sights.{IsSight};
 
-use crate::glances::{Ends, has_in, is_in};
+use crate::glances::{Ends, GREATEST, has_in, is_in};
+use crate::lanes::{Slot, lets};
 use crate::ranges::{NodeRange, holds_value};
 use crate::small_sets::may_be;
 use be_base::AttrNo;
 use be_model::{Event, Values};
 use std::marker::Model;
 
-/// Of each attribute below this number a sight has a hull.
-const SEEN: usize = 64;
+/// Of each attribute below this number a sight tells the value.
+const SEEN: usize = 256;
 
-/// By attribute, ends of an event's values.
-pub type Hulls = [(i32, i32); SEEN];
+/// By attribute, an event's only value, counted from the least number of 32 bits.
+pub type Seen = [u32; SEEN];
 
-/// The least and the greatest number.
-const WIDE: Ends = (i32::MIN, i32::MAX);
+/// Stands for no value.
+const UNSET: u32 = u32::MAX;
 
-/// The hulls of no values. A search fills its own in place, so that they aren't copied.
-pub const NO_HULLS: Hulls = [(i32::MAX, i32::MIN); SEEN];
+/// Stands for several values, or for one beyond all that are counted.
+const OTHER: u32 = 0;
 
-/// An event, and by attribute ends of its values, so that most rows are passed over, and most halves entered or not,
-/// by a comparison with one entry of a table.
+/// Of no values. A search fills its own in place, so that they aren't copied.
+pub const NOTHING_SEEN: Seen = [UNSET; SEEN];
+
+/// An event, and by attribute its only value, so that most rows are passed over, and most halves entered or not, by a comparison
+/// with one entry of a table.
 #[derive(Drop)]
 pub struct Sight<'a> {
     event: &'a Event,
-    hulls: &'a Hulls,
-    // Whether the event has single values alone. Then what a hull says of a test is so, and no value is looked at.
+    seen: &'a Seen,
+    // Whether the event has single values alone, which the table tells.
     exact: bool,
 }
 
@@ -46,83 +50,67 @@ impl<'a> Model for Sight<'a> {
     ghost Value = { List (AttrNo × List ℤ) };
 
     ghost use Rattle.std.specs.Prelude.{◌≡◌};
-    ghost use Rattle.be_shape.specs.Sights.{IsSight, are_single};
+    ghost use Rattle.be_shape.specs.Lanes.{are_single};
+    ghost use Rattle.be_shape.specs.Sights.{IsSight};
 
     ghost view = { λ s. s.event.now };
 
-    ghost invariant = { λ s. IsSight s.hulls.now s.event.now × (s.exact ≡ are_single s.event.now) };
+    ghost invariant = { λ s. IsSight s.seen.now s.event.now × (s.exact ≡ are_single s.event.now) };
 }
 
-// The number, or the nearest one of 32 bits.
-fn clamped(v: i64) -> i32
-    ensures { result ≡ clamped v }
+// What is seen of a value.
+fn seen_of_one(v: i64) -> u32
+    ensures { result ≡ seen (Some (v ∷ [])) }
 {
-    if v < i32::MIN as i64 {
-        i32::MIN
-    } else if (i32::MAX as i64) < v {
-        i32::MAX
+    if (i32::MIN as i64) < v && v < GREATEST as i64 {
+        (v + 2147483648) as u32
     } else {
-        v as i32
+        OTHER
     }
 }
 
-// The lesser of two distances tells of both, so that one jump decides; which of the two would say no can't be foreseen.
-fn overlaps(x: Ends, y: Ends) -> bool
-    ensures tested { result ≡ overlaps x y }
-    ensures small { AreSmall x }
-{
-    let distance = (y.1 as i64 - x.0 as i64).min(x.1 as i64 - y.0 as i64);
-    0 <= distance
-}
-
-// Ends that overlap all that hold some of the values. Several values aren't looked at.
-#[tactic(auto, using(crate::proofs::SightHulls::several_wide))]
-fn hull_of(values: &Values) -> Ends
-    ensures { result ≡ hull_of (Some values.now) }
+// What is seen of an attribute's values. Several aren't looked at.
+#[tactic(auto, using(crate::proofs::SightValues::several_seen))]
+fn seen_of(values: &Values) -> u32
+    ensures { result ≡ seen (Some values.now) }
 {
     match values.as_slice() {
-        [v] => (clamped(*v), clamped(*v)),
-        _ => WIDE,
+        [v] => seen_of_one(*v),
+        _ => OTHER,
     }
 }
 
-// Writes the hulls of the items.
-fn fill(hulls: &mut Hulls, items: &[(AttrNo, Values)])
-    requires none { hulls.old ≡ NO_HULLS }
+// Writes what is seen of the items.
+fn fill(seen: &mut Seen, items: &[(AttrNo, Values)])
+    requires none { seen.old ≡ NOTHING_SEEN }
     requires rise { attrs_rise (attrs_of items.now) ≡ true }
-    ensures { IsSight hulls.new items.now }
+    ensures { IsSight seen.new items.now }
 {
     for item in items {
         let a = usize::from(item.0.0);
         if a < SEEN {
-            hulls[a] = hull_of(&item.1);
+            seen[a] = seen_of(&item.1);
         }
     }
 }
 
-// Of exact ends the value, or that there is none.
-fn only_of(ends: Ends) -> Option<Option<i64>>
-    ensures { (vs : Option (List ℤ)) → IsExact ends vs → IfSome result (λ only. vs ≡ option_map (λ v. v ∷ []) only) }
+// The value that is seen, or that there is none.
+fn only_of(x: u32) -> Option<Option<i64>>
+    ensures { (vs : Option (List ℤ)) → x ≡ seen vs → IfSome result (λ only. vs ≡ option_map (λ v. v ∷ []) only) }
 {
-    if ends.0 == ends.1 {
-        if i32::MIN < ends.0 && ends.0 < i32::MAX {
-            Some(Some(ends.0 as i64))
-        } else {
-            None
-        }
-    } else if ends.1 < ends.0 {
-        Some(None)
-    } else {
-        None
+    match x {
+        UNSET => Some(None),
+        OTHER => None,
+        _ => Some(Some(x as i64 - 2147483648)),
     }
 }
 
-// Whether it is one number, strictly between the least and the greatest of 32 bits.
+// Whether it is one number, strictly between the least and the greatest.
 fn is_single(values: &Values) -> bool
     ensures { result ≡ is_single values.now }
 {
     match values.as_slice() {
-        [v] => (i32::MIN as i64) < *v && *v < i32::MAX as i64,
+        [v] => (i32::MIN as i64) < *v && *v < GREATEST as i64,
         _ => false,
     }
 }
@@ -134,29 +122,22 @@ fn are_single(items: &[(AttrNo, Values)]) -> bool
     items.iter().all(|item| is_single(&item.1))
 }
 
-/// Whether the table has a hull of the attribute of this number.
-pub(crate) fn is_seen(a: u8) -> bool
-    ensures { result ≡ is_seen (numbered a) }
+/// Writes what is seen of the event's values.
+pub fn fill_seen(seen: &mut Seen, e: &Event)
+    requires { seen.old ≡ NOTHING_SEEN }
+    ensures { IsSight seen.new e.now }
 {
-    usize::from(a) < SEEN
-}
-
-/// Writes the hulls of the event's values.
-pub fn fill_hulls(hulls: &mut Hulls, e: &Event)
-    requires { hulls.old ≡ NO_HULLS }
-    ensures { IsSight hulls.new e.now }
-{
-    fill(hulls, e.items());
+    fill(seen, e.items());
 }
 
 impl<'a> Sight<'a> {
-    pub fn of(event: &'a Event, hulls: &'a Hulls) -> Sight<'a>
-        requires { IsSight hulls.now event.now }
+    pub fn of(event: &'a Event, seen: &'a Seen) -> Sight<'a>
+        requires { IsSight seen.now event.now }
         ensures { result ≡ event.now }
     {
         Sight {
             event,
-            hulls,
+            seen,
             exact: are_single(event.items()),
         }
     }
@@ -168,16 +149,11 @@ impl<'a> Sight<'a> {
         self.exact
     }
 
-    /// Whether a value of the attribute may be between the ends.
-    pub(crate) fn may_have(&self, ends: Ends, a: AttrNo) -> bool
-        ensures seen { has_in ends (values_of self.now a) ≡ true → result ≡ true }
-        ensures exact { are_single self.now ≡ true → is_seen a ≡ true → is_bounded ends ≡ true → result ≡ true → has_in ends (values_of self.now a) ≡ true }
+    /// Whether what is seen of the attribute's values is in the slot.
+    pub(crate) fn lets(&self, a: u8, slot: Slot) -> bool
+        ensures { result ≡ lets_event self.now (a, slot) }
     {
-        if usize::from(a.0) < SEEN {
-            overlaps(ends, self.hulls[usize::from(a.0)])
-        } else {
-            true
-        }
+        lets(self.seen[usize::from(a)], slot)
     }
 
     /// Whether a value of the attribute may be in the set of these ends, whose number between them has these lower bits.
@@ -202,7 +178,7 @@ impl<'a> Sight<'a> {
         ensures { IfSome result (λ only. values_of self.now a ≡ option_map (λ v. v ∷ []) only) }
     {
         if usize::from(a.0) < SEEN {
-            only_of(self.hulls[usize::from(a.0)])
+            only_of(self.seen[usize::from(a.0)])
         } else {
             None
         }
@@ -231,7 +207,7 @@ impl<'a> Sight<'a> {
 
     /// Whether the range holds at least one of the event's values of its attribute.
     #[inline(always)]
-    #[tactic(auto, using(crate::proofs::SightHulls::one_inside))]
+    #[tactic(auto, using(crate::proofs::SightValues::one_inside))]
     pub fn holds_value(&self, range: NodeRange) -> bool
         ensures value { result ≡ holds_value self.now range }
         // An empty range holds none.

@@ -5,7 +5,8 @@ ghost use Rattle.std.specs.Prelude.{◌≡◌, ℤ, true, IfSome, unsigned_abs};
 ghost use Rattle.be_model.specs.Hulls.{first_of_values, last_of_values};
 ghost use Rattle.be_model.specs.Matching.{is_among};
 ghost use Rattle.be_shape.specs.Listed.{low_part};
-ghost use Rattle.be_shape.specs.SmallSets.{extent_of, may_be};
+ghost use Rattle.be_shape.specs.declared.small_sets.Told.TheVariants.{FirstIsSet};
+ghost use Rattle.be_shape.specs.SmallSets.{extent_of, is_sure, may_be};
 
 use crate::glances::{Ends, Extent};
 use be_model::Values;
@@ -16,6 +17,8 @@ pub(crate) enum Told {
     AsWhole,
     AsFew,
     AsPart,
+    /// All of it is such a set, and its lanes pass the numbers of the set alone.
+    IsSet,
     FirstIsSet,
     SecondIsSet,
     ThirdIsSet,
@@ -28,8 +31,22 @@ impl Told {
         match self {
             Told::AsWhole => Extent::Whole,
             Told::AsPart => Extent::Part,
-            Told::AsFew | Told::FirstIsSet | Told::SecondIsSet | Told::ThirdIsSet => Extent::Few,
+            Told::AsFew | Told::IsSet | Told::FirstIsSet | Told::SecondIsSet | Told::ThirdIsSet =>
+                Extent::Few,
         }
+    }
+
+    pub(crate) fn is_first(self) -> bool
+        ensures { result ≡ true → self ≡ FirstIsSet }
+    {
+        matches!(self, Told::FirstIsSet)
+    }
+
+    /// Whether an event of single values that passes the lanes satisfies the row.
+    pub(crate) fn is_sure(self) -> bool
+        ensures { result ≡ is_sure self }
+    {
+        matches!(self, Told::AsWhole | Told::IsSet)
     }
 }
 

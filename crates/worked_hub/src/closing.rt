@@ -45,6 +45,7 @@ fn seats_of<T: Sheet<J>, J: Naming + BoxNames>(
             seat,
             transcript: _,
             end: _,
+            asked: _,
         } = end;
         // What its type keeps comes to light here.
         let _ = seat.session();

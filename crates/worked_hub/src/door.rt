@@ -1,7 +1,7 @@
 //! A link of a door in memory, and how often its worker tends the desk.
 //!
-//! A worker tends the desk after every sixteenth reply of a session, and, once the session is over, again and again until there was
-//! memory for it, which is once here: no row runs out of it. So a session of 15 lines is tended 0 + 1 times, one of 16 lines
+//! A worker tends the desk after every sixteenth reply of a session that goes on, and, once the session is over, again and again until
+//! there was memory for it, which is once here: no row runs out of it. So a session of 15 lines is tended 0 + 1 times, one of 16 lines
 //! 1 + 1 times, and one of 33 lines 2 + 1 times, after its replies 16 and 32 and at its end.
 
 ghost use Rattle.std.specs.Prelude.{◌<◌, ◌≤◌, length, All};

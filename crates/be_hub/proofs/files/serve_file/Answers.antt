@@ -12,7 +12,7 @@ returns g c =
     file_served _ g.J.Naming.schema c.deref.result.now c.args.job.task.items c.args.job.seat c.take-seat.result.0 c.take.result.items c.serve_link-end.result
     (told c.make-2.result c.make-3.result) (told c.serve_link-end.new.link.source c.serve_link-end.new.link.sink) board (board_of 0 g.J.Naming.schema c.serve_link-end.new.board.calls c.serve_link-end.new.board.seat)
     (c.deref.ensures ∙ c.hub.invariant.2) (link_is c.make-2.result c.make-3.result c.args.job.task.items c.make-2.ensures c.make-3.ensures.0 c.make-3.ensures.1) was
-    (sym (board_same 0 g.J.Naming.schema 0 c.serve_link-end.new.board.calls c.take-seat.result.0 c.serve_link-end.new.board.seat (sym (c.take-seat.ensures.still refl)) c.take-seat.ensures.seat))
+    (sym (board_same 0 g.J.Naming.schema 0 c.serve_link-end.new.board.calls c.take-seat.result.0 c.serve_link-end.new.board.seat (sym (c.take-seat.ensures.still refl) ∙ c.take-seat.ensures.calls) c.take-seat.ensures.seat))
     (λ u. (c.take-seat.ensures.seat ∙ (ap (λ b. b.seat) u.1 ∙ c.make-board.ensures.seat), c.take.ensures ∙ (ap (λ l. l.sink.held) u.0 ∙ c.make-3.ensures.0)))
     (ap (λ l. Some l) (sym c.take.ensures))
     (record { reads = refl; writes = refl; taken = few_taken c.drop.inside.inner c.serve_link-end.new.link.source c.drop.invariant c.drop.view_is })

@@ -16,6 +16,7 @@ loop-work-init g c =
       ap (λ (x : CountState g.row.L.Denot). x.ended) new.1,
       ap (λ (x : CountState g.row.L.Denot). x.given) new.1 ∙ sym (ap (λ (x : CountState g.row.L.Denot). x.back) new.1),
       λ _. c.requires.may.0.0,
+      search (rules, arith),
     )
 
 pub accept-requires-clause-of_last : goal.accept-requires-clause-of_last
@@ -38,6 +39,9 @@ serve_next-work-requires-clause-out g c =
 
 pub serve_next-work-requires-clause-fresh : goal.serve_next-work-requires-clause-fresh
 serve_next-work-requires-clause-fresh g c = λ none. c.loop-work.invariant.4 (sym c.reserve.ensures.items ∙ none)
+
+pub serve_next-work-requires-clause-reached : goal.serve_next-work-requires-clause-reached
+serve_next-work-requires-clause-reached g c = c.loop-work.invariant.5
 
 pub serve_next-work-requires-clause-number : goal.serve_next-work-requires-clause-number
 serve_next-work-requires-clause-number g c =
@@ -63,12 +67,13 @@ loop-work-preserved-in-Ok-Some g c =
     let told = link_state g.L.Source g.L.Sink in
     let first = c.args.job.seat in
     let work = c.loop-work.work in
-    let given = was_given told g.J.Naming.schema g.J.BoxNames.boxes first work.seat work.count c.accept.new.count work.ends.items work.tended i.0 is in (
-      e.served first (subst (λ es. LinksServed told g.J.Naming.schema g.J.BoxNames.boxes first work.seat c.accept.new.count es work.tended) (sym c.reserve.ensures.items) given),
+    let given = was_given told g.J.Naming.schema g.J.BoxNames.boxes first work.seat work.count c.accept.new.count work.ends.items work.tended work.asked i.0 is in (
+      e.served first (subst (λ es. LinksServed told g.J.Naming.schema g.J.BoxNames.boxes first work.seat c.accept.new.count es work.tended work.asked) (sym c.reserve.ensures.items) given),
       e.same.0,
       e.same.1 ∙ (ap (λ (x : CountState g.row.L.Denot). x.ended) is ∙ i.2),
       e.back.0 ∙ sym e.back.1,
       λ none. absurd (omega (arith, e.ended, ap length none)),
+      e.reached,
     )
 
 pub returns-in-Ok-None : goal.returns-in-Ok-None
@@ -78,9 +83,9 @@ returns-in-Ok-None g c =
     let told = link_state g.L.Source g.L.Sink in
     let first = c.args.job.seat in
     let work = c.loop-work.work in
-    let links = subst (λ es. LinksServed told g.J.Naming.schema g.J.BoxNames.boxes first work.seat c.accept.new.count es work.tended) (sym c.reserve.ensures.items)
-    (has_ended told g.J.Naming.schema g.J.BoxNames.boxes first work.seat work.count c.accept.new.count work.ends.items work.tended i.0 is) in
-    worker_served told g.J.Naming.schema g.J.BoxNames.boxes first work.seat c.accept.new.count c.reserve.new.self.items work.tended links (g.D.Door.state c.args.door.now)
+    let links = subst (λ es. LinksServed told g.J.Naming.schema g.J.BoxNames.boxes first work.seat c.accept.new.count es work.tended work.asked) (sym c.reserve.ensures.items)
+    (has_ended told g.J.Naming.schema g.J.BoxNames.boxes first work.seat work.count c.accept.new.count work.ends.items work.tended work.asked i.0 is) in
+    worker_served told g.J.Naming.schema g.J.BoxNames.boxes first work.seat c.accept.new.count c.reserve.new.self.items work.tended work.asked links work.between i.5 (g.D.Door.state c.args.door.now)
     (ap (λ (x : CountState g.row.L.Denot). x.given) is ∙ (i.3 ∙ sym (ap (λ (x : CountState g.row.L.Denot). x.back) is)))
     (ap (λ (x : CountState g.row.L.Denot). x.ended) is)
     (i.1.0 ∙ ap (λ (x : CountState g.row.L.Denot). Some x.of) (sym is), ap (λ (x : CountState g.row.L.Denot). x.keeps) is ∙ i.1.1)
@@ -99,10 +104,11 @@ loop-work-preserved g c =
     let first = c.args.job.seat in
     let work = c.loop-work.work in
     let less = one_less work.count c.accept.new.count c.accept.result c.in-Err.field-0 c.in-Err.is c.accept.ensures.failed c.accept.ensures.no_memory in (
-      subst (λ es. LinksServed told g.J.Naming.schema g.J.BoxNames.boxes first work.seat c.accept.new.count es work.tended) (sym c.reserve.ensures.items)
-          (none_given told g.J.Naming.schema g.J.BoxNames.boxes first work.seat work.count c.accept.new.count work.ends.items work.tended i.0 c.accept.result c.in-Err.field-0 c.in-Err.is c.accept.ensures.failed c.accept.ensures.no_memory),
+      subst (λ es. LinksServed told g.J.Naming.schema g.J.BoxNames.boxes first work.seat c.accept.new.count es work.tended work.asked) (sym c.reserve.ensures.items)
+          (none_given told g.J.Naming.schema g.J.BoxNames.boxes first work.seat work.count c.accept.new.count work.ends.items work.tended work.asked i.0 c.accept.result c.in-Err.field-0 c.in-Err.is c.accept.ensures.failed c.accept.ensures.no_memory),
       (i.1.0 ∙ ap (λ o. Some o) (sym less.0), less.1 ∙ i.1.1),
       less.2 ∙ i.2,
       less.3 ∙ (i.3 ∙ sym less.4),
       λ none. i.4 (sym c.reserve.ensures.items ∙ none),
+      i.5,
     )

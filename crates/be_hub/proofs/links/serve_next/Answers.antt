@@ -19,7 +19,7 @@ returns-clause-served g c = λ first l.
     let some : c.is_empty.result ≡ false → 0 < length ends = λ no. let k = some_from _ (sym c.is_empty.ensures ∙ no) in omega (arith, k, c.args.work.ends.ok.0) in
     let ent = enters s (length boxes) (length ends) first c.args.work.seat c.next_seat-seat.result c.is_empty.result empty some c.requires.some l.session c.next_seat-seat.ensures.entered in
     let swept : length ends + 1 ≤ c.publish_held.new.tended = omega (arith, c.publish_held.ensures, l.swept, l.back, c.requires.out.0, sound.within, sound.few) in
-    let served = one_served told s boxes first c.args.work.seat c.next_seat-seat.result visit.seat c.args.work.count ends c.session-session.result visit.link (told c.args.link) visit.end c.args.work.tended
-    l sound ent c.session-session.ensures.session c.session-session.ensures.kept c.requires.unused c.serve_session-seat.ensures c.publish_held.new.tended swept in
-    subst (λ (x : CountState g.row.L.Denot). LinksServed told s boxes first visit.seat x c.push_reserved.new.self.items c.publish_held.new.tended) (sym c.give_back.ensures.back)
-    (subst (λ es. LinksServed told s boxes first visit.seat (after_back c.args.work.count c.session-session.result visit.link (told visit.link)) es c.publish_held.new.tended) (sym c.push_reserved.ensures.items) served)
+    let served = one_served told s boxes first c.args.work.seat c.next_seat-seat.result visit.seat c.args.work.count ends c.session-session.result visit.link (told c.args.link) visit.end c.args.work.tended c.args.work.asked visit.asked
+    l sound ent c.session-session.ensures.session c.session-session.ensures.kept c.requires.unused c.serve_session-seat.ensures.served c.publish_held.new.tended swept in
+    subst (λ (x : CountState g.row.L.Denot). LinksServed told s boxes first visit.seat x c.push_reserved.new.self.items c.publish_held.new.tended visit.asked) (sym c.give_back.ensures.back)
+    (subst (λ es. LinksServed told s boxes first visit.seat (after_back c.args.work.count c.session-session.result visit.link (told visit.link)) es c.publish_held.new.tended visit.asked) (sym c.push_reserved.ensures.items) served)

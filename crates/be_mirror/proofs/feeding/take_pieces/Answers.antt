@@ -1,9 +1,9 @@
-use Rattle.std.proofs.Common.{◌+◌, ◌-◌, ◌≤◌, length, Err, refl, sym, ap, subst, ◌∙◌, arith}
+use Rattle.std.proofs.Common.{◌+◌, ◌-◌, ◌≤◌, length, take, Err, refl, sym, ap, subst, ◌∙◌, arith}
 use Rattle.be_base.specs.declared.limits.TheConstants.{SOURCE_BYTES}
 use Rattle.be_io.specs.Outside.{source_state}
 use Rattle.be_protocol.proofs.LinesGoing.{rises-along, spent}
 use Rattle.be_mirror.specs.Feeders.{FeederState}
-use Rattle.be_mirror.proofs.FeedGoing.{takes_as, fed_none, rises_none, ends_on, feeds, few, short_on, within_all, err_one, ok_no_err, front_length, front_short, still_long}
+use Rattle.be_mirror.proofs.FeedGoing.{takes_as, fed_none, fed_on, rises_none, ends_on, feeds, stops, few, short_on, within_all, err_one, ok_no_err, front_length, front_short, still_long}
 use Rattle.be_mirror.specs.declared.feeding.FeedEnd.{FeedEnd}
 use Rattle.be_mirror.specs.declared.feeding.FeedEnd.TheVariants as feed
 use Rattle.be_mirror.proofs.feeding.take_pieces.Goals as goal
@@ -25,7 +25,7 @@ pub returns-then-load-clause-feeds : goal.returns-then-load-clause-feeds
 returns-then-load-clause-feeds g c =
     let i = c.loop-left.invariant in
     λ _. feeds g.P.Printer.schema (source_state g.S.Source c.args.source.now) (source_state g.S.Source c.loop-left.source) _ c.loop-left.feeder.took i.fed (i.sound, i.faults)
-    (few c.loop-left.left (source_state g.S.Source c.args.source.now) (source_state g.S.Source c.loop-left.source) (omega (arith, c.loop-left-test.true)) i.bound i.taken)
+    (few c.loop-left.left (source_state g.S.Source c.args.source.now) (source_state g.S.Source c.loop-left.source) (omega (arith, c.loop-left-test.true)) i.bound i.taken) tt
 
 pub returns-then-load-clause-within : goal.returns-then-load-clause-within
 returns-then-load-clause-within g c = let i = c.loop-left.invariant in within_all c.loop-left.left (g.S.Source.taken c.args.source.now) (g.S.Source.taken c.loop-left.source) i.taken
@@ -36,7 +36,7 @@ returns-then-load-clause-beside g c = c.loop-left.invariant.beside
 pub returns-clause-feeds : goal.returns-clause-feeds
 returns-clause-feeds g c =
     let i = c.loop-left.invariant in
-    λ _. feeds g.P.Printer.schema (source_state g.S.Source c.args.source.now) (source_state g.S.Source c.loop-left.source) _ c.loop-left.feeder.took i.fed (i.sound, spent (g.S.Source.taken c.args.source.now) (g.S.Source.taken c.loop-left.source) (SOURCE_BYTES - c.loop-left.left) i.taken (omega (arith, c.loop-left-test.false)), i.faults) tt
+    λ _. feeds g.P.Printer.schema (source_state g.S.Source c.args.source.now) (source_state g.S.Source c.loop-left.source) _ c.loop-left.feeder.took i.fed (i.sound, spent (g.S.Source.taken c.args.source.now) (g.S.Source.taken c.loop-left.source) (SOURCE_BYTES - c.loop-left.left) i.taken (omega (arith, c.loop-left-test.false)), i.faults) tt tt
 
 pub returns-clause-within : goal.returns-clause-within
 returns-clause-within g c = let i = c.loop-left.invariant in within_all c.loop-left.left (g.S.Source.taken c.args.source.now) (g.S.Source.taken c.loop-left.source) i.taken
@@ -60,7 +60,8 @@ loop-left-preserved g c =
     let short = front_short c.min-most.result c.deref_mut.result.now in
     let few : count ≤ c.loop-left.left = omega (arith, e.taken.1, short, c.min-most.ensures) in
     record {
-      fed = e.fed (λ wanting. ok_no_err wanting) g.P.Printer.schema (source_state g.S.Source c.args.source.now) i.fed;
+      fed = fed_on (length (take c.min-most.result c.deref_mut.result.now)) g.P.Printer.schema i.fed.bytes (source_state g.S.Source c.args.source.now) (source_state g.S.Source c.read.new.source) c.read.new.self.took
+          (e.fed (λ wanting. ok_no_err wanting) g.P.Printer.schema (source_state g.S.Source c.args.source.now) i.fed);
       sound = e.sound.1;
       bound = omega (arith, i.bound);
       faults = e.sound.0 ∙ i.faults;
@@ -76,11 +77,13 @@ returns-in-Err-clause-feeds g c = λ not_wanting.
     let middle = source_state g.S.Source c.loop-left.source in
     let after = source_state g.S.Source c.read.new.source in
     let e = takes_as c.in-Err.is c.read.ensures.takes in
-    let fed = e.fed (λ wanting. not_wanting (err_one (Err c.in-Err.end) c.in-Err.end feed.NoMemory refl wanting)) g.P.Printer.schema before i.fed in
-    feeds g.P.Printer.schema before after c.in-Err.end c.read.new.self.took fed
+    let most = length (take c.min-most.result c.deref_mut.result.now) in
+    let on = e.fed (λ wanting. not_wanting (err_one (Err c.in-Err.end) c.in-Err.end feed.NoMemory refl wanting)) g.P.Printer.schema before i.fed in
+    feeds g.P.Printer.schema before after c.in-Err.end c.read.new.self.took (fed_on most g.P.Printer.schema i.fed.bytes before after c.read.new.self.took on)
     (ends_on before middle after i.fed.bytes (SOURCE_BYTES - c.loop-left.left) c.in-Err.end c.read.new.self.took.fed i.fed.given i.faults i.taken (e.ends not_wanting))
     (short_on c.loop-left.left before middle after c.in-Err.end (omega (arith, c.loop-left-test.true)) i.bound i.taken
     (λ is. e.still (ap (λ (x : FeedEnd). Err x) is)) (λ is. e.stays (ap (λ (x : FeedEnd). Err x) is)))
+    (stops most g.P.Printer.schema before middle after c.loop-left.feeder.took c.read.new.self.took i.fed on i.sound (omega (arith, front_short c.min-most.result c.deref_mut.result.now, c.min-most.ensures)) c.in-Err.end)
 
 pub returns-in-Err-clause-within : goal.returns-in-Err-clause-within
 returns-in-Err-clause-within g c =

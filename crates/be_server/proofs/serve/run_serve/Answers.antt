@@ -21,5 +21,5 @@ returns-in-Ok-mailed g c =
     let same : c.deref.result.now ≡ c.args.loaded.schema = search rules in
     subst (λ s. RunsServe told kept s rows c.args.port c.args.seats c.args.links door door' before after c.write_served.result) same
     (serve_printed told kept c.args.port c.args.seats c.args.links door door' before after c.deref.result.now rows served.log.list served.sums (is_some served.shade) c.write_served.result
-    (subst (λ s. LinksAreServed told s (opening_of rows) served.log.list (is_some served.shade) c.args.links served.sums door'.keeps door'.kept) (sym c.deref.ensures) c.in-Ok-mailed.ensures.served)
+    (subst (λ s. LinksAreServed told s (opening_of rows) served.log.list (is_some served.shade) c.args.seats c.args.links served.sums door'.keeps door'.kept) (sym c.deref.ensures) c.in-Ok-mailed.ensures.served)
     c.in-Ok-mailed.ensures.door c.write_served.ensures)

@@ -40,6 +40,9 @@ returns-clause-letters g c =
     (λ is. c.in-Ok-left_by.ensures.shade.0 (none_is c.in-Ok-left_by.left.shade is)) (λ all. ap is_some (c.in-Ok-left_by.ensures.shade.1 all))
     c.in_ok-log.ensures.sound.formed c.in_ok-log.ensures.keeps c.in_ok-log.ensures.recorded c.in_ok-log.ensures.opened
     c.in_ok-log.ensures.letters c.requires.count
+    (all_back (λ end. end.seat) g.J.BoxNames.boxes c.in-Ok.run'.ends.items c.in-Ok-left_by.left.seats.items c.in-Ok-left_by.ensures.seats (c.in-Ok.ensures.count ∙ c.requires.count) c.in-Ok-left_by.ensures.kept
+    (places (λ end. end.seat) (λ end. end.transcript.items) (λ end. end.end) (λ file. file.items) g.J.Naming.schema g.J.BoxNames.boxes g.J.Naming.opening c.args.files.items c.in-Ok.run'.ends.items c.args.seats.items
+    c.requires.seats c.in-Ok.ensures.count c.in-Ok.ensures.ends))
 
 pub returns-clause-served : goal.returns-clause-served
 returns-clause-served g c = (returns-clause-letters g c).0

@@ -17,5 +17,5 @@ returns-clause-ends g c =
     (λ v is i seat end a e.
     let s = get_map (λ job. job.seat) c.in_ok-jobs.jobs.items i seat (subst (λ l. slice_get l i ≡ Some seat) (sym c.in_ok-jobs.ensures.seats) a) in
     let at : slice_get c.in_ok-ends.ends.items i ≡ Some (Ok end) = subst (λ l. slice_get l i ≡ Some (Ok end)) is (map_at (λ e. Ok e) v.items i end e) in
-    subst (λ x. WorkerServed (link_state g.L.Source g.L.Sink) g.J.Naming.schema g.J.BoxNames.boxes (g.D.Door.state c.args.door.now) x end.seat end.count end.ends.items end.tended) s.2 (c.in_ok-ends.ensures.ends i s.0 end s.1 at))
+    subst (λ x. WorkerServed (link_state g.L.Source g.L.Sink) g.J.Naming.schema g.J.BoxNames.boxes (g.D.Door.state c.args.door.now) x end.seat end.count end.ends.items end.tended end.asked end.between) s.2 (c.in_ok-ends.ensures.ends i s.0 end s.1 at))
     c.all_done.ensures

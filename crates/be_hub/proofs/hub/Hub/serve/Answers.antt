@@ -55,7 +55,7 @@ settle_links-requires-clause-all g c =
     let ends = c.in-Ok-run_door.ends.items in
     let count : length ends ≡ length boxes = c.in-Ok-run_door.ensures.count ∙ many in
     let listened : d₁ ≡ after_listen d d₁.«open» c.args.port c.args.links c.len.result = c.in-Ok.ensures.listens in
-    counts_are told (λ end. end.seat) (λ end. end.count) (λ end. end.ends.items) (λ end. end.tended) g.J.Naming.schema boxes g.J.Naming.opening d₁ ends c.args.seats.items c.requires.seats count c.in-Ok-run_door.ensures.ends (ap (λ x. x.workers) listened ∙ workers) c.requires.few.0
+    counts_are told (λ end. end.seat) (λ end. end.count) (λ end. end.ends.items) (λ end. end.tended) (λ end. end.asked) (λ end. end.between) g.J.Naming.schema boxes g.J.Naming.opening d₁ ends c.args.seats.items c.requires.seats count c.in-Ok-run_door.ensures.ends (ap (λ x. x.workers) listened ∙ workers) c.requires.few.0
 
 pub settle_links-requires-clause-splits : goal.settle_links-requires-clause-splits
 settle_links-requires-clause-splits g c =
@@ -66,7 +66,7 @@ settle_links-requires-clause-splits g c =
     let d₁ = g.D.Door.state c.listen.new.self in
     let ends = c.in-Ok-run_door.ends.items in
     let count : length ends ≡ length boxes = c.in-Ok-run_door.ensures.count ∙ many in
-    splits_are told (λ end. end.seat) (λ end. end.count) (λ end. end.ends.items) (λ end. end.tended) g.J.Naming.schema boxes g.J.Naming.opening d₁ ends c.args.seats.items c.requires.seats count c.in-Ok-run_door.ensures.ends
+    splits_are told (λ end. end.seat) (λ end. end.count) (λ end. end.ends.items) (λ end. end.tended) (λ end. end.asked) (λ end. end.between) g.J.Naming.schema boxes g.J.Naming.opening d₁ ends c.args.seats.items c.requires.seats count c.in-Ok-run_door.ensures.ends
 
 pub returns-in-Err-settle_links-clause-fault : goal.returns-in-Err-settle_links-clause-fault
 returns-in-Err-settle_links-clause-fault g c =
@@ -94,7 +94,7 @@ close-requires g c =
     let ends = c.in-Ok-run_door.ends.items in
     let count : length ends ≡ length boxes = c.in-Ok-run_door.ensures.count ∙ many in
     let e = c.in-Ok-settle_links.ensures in
-    record { all = all_back (λ end. end.seat) boxes ends c.in-Ok-settle_links.left.seats.items e.seats count e.kept (seats_at told (λ end. end.seat) (λ end. end.count) (λ end. end.ends.items) (λ end. end.tended) g.J.Naming.schema boxes g.J.Naming.opening d₁ ends c.args.seats.items c.requires.seats count c.in-Ok-run_door.ensures.ends) }
+    record { all = all_back (λ end. end.seat) boxes ends c.in-Ok-settle_links.left.seats.items e.seats count e.kept (seats_at told (λ end. end.seat) (λ end. end.count) (λ end. end.ends.items) (λ end. end.tended) (λ end. end.asked) (λ end. end.between) g.J.Naming.schema boxes g.J.Naming.opening d₁ ends c.args.seats.items c.requires.seats count c.in-Ok-run_door.ensures.ends) }
 
 pub returns-in-Ok-close-clause-letters : goal.returns-in-Ok-close-clause-letters
 returns-in-Ok-close-clause-letters g c =
@@ -114,10 +114,12 @@ returns-in-Ok-close-clause-letters g c =
     let list = c.in-Ok-close.field-0.log.list in
     let none : (with_counts no_sums counts).refused ≡ 0 = ap (λ x. x.refused) (sym e.sums) ∙ e.none_refused in
     let closed = c.in-Ok-close.ensures in
-    let served = links_are_served told (λ end. end.seat) (λ end. end.count) (λ end. end.ends.items) (λ end. end.tended) g.J.Naming.schema boxes g.J.Naming.opening d₁ ends c.args.seats.items c.requires.seats count c.in-Ok-run_door.ensures.ends list left.seats.items (is_some left.shade) c.args.links d₂.keeps c.requires.few.0 e.kept e.seats
+    let all = all_back (λ end. end.seat) boxes ends left.seats.items e.seats count e.kept
+    (seats_at told (λ end. end.seat) (λ end. end.count) (λ end. end.ends.items) (λ end. end.tended) (λ end. end.asked) (λ end. end.between) g.J.Naming.schema boxes g.J.Naming.opening d₁ ends c.args.seats.items c.requires.seats count c.in-Ok-run_door.ensures.ends) in
+    let served = links_are_served told (λ end. end.seat) (λ end. end.count) (λ end. end.ends.items) (λ end. end.tended) (λ end. end.asked) (λ end. end.between) g.J.Naming.schema boxes g.J.Naming.opening d₁ ends c.args.seats.items c.requires.seats count c.in-Ok-run_door.ensures.ends list left.seats.items (is_some left.shade) c.args.links d₂.keeps c.requires.few.0 e.kept e.seats
     (λ is. e.shade.0 (none_is left.shade is)) (λ all. ap is_some (e.shade.1 all)) e.unbroken closed.sound.formed closed.keeps closed.recorded closed.opened (keeps_is d d₁ d₂ c.args.port c.args.links (length boxes) listened counts e.settled)
-    none (all_links d d₁ d₂ c.args.port c.args.links (length boxes) listened counts e.settled e.links none) g.S.Post.schema g.S.Post.found closed.letters in
-    let Is = ServedWithBoxes told g.S.Post.found g.J.Naming.schema boxes g.J.Naming.opening list (is_some left.shade) c.args.links d₂.keeps in
+    none (all_links d d₁ d₂ c.args.port c.args.links (length boxes) listened counts e.settled e.links none) g.S.Post.schema g.S.Post.found closed.letters all in
+    let Is = ServedWithBoxes told g.S.Post.schema g.S.Post.found g.J.Naming.schema boxes g.J.Naming.opening list (is_some left.shade) c.args.links d₂.keeps in
     subst (λ x. Is x d₂.kept) (sym e.sums) (subst (λ x. Is (with_counts no_sums counts) x) (sym (kept_is d d₁ d₂ c.args.port c.args.links (length boxes) listened counts e.settled)) served)
 
 pub returns-in-Ok-close-clause-served : goal.returns-in-Ok-close-clause-served

@@ -13,7 +13,7 @@ returns-clause-ends g c =
     let here = at_place c.args.jobs.items i job job at in
     let there = at_place v.items i (Ok end) (Ok end) at' in
     let one = (each i (Ok end) here.0).1 in
-    let met = subst (λ r. IfOk r (λ e. WorkerServed told g.J.Naming.schema g.J.BoxNames.boxes door (slice_index_or c.args.jobs.items i job).seat e.seat e.count e.ends.items e.tended)) there.1
-    (subst (λ x. IfOk (slice_index_or v.items i (Ok end)) (λ e. WorkerServed told g.J.Naming.schema g.J.BoxNames.boxes door x.seat e.seat e.count e.ends.items e.tended)) (sym (one.job_is job)) one.call.met) in
-    subst (λ x. WorkerServed told g.J.Naming.schema g.J.BoxNames.boxes door x.seat end.seat end.count end.ends.items end.tended) here.1 met)
+    let met = subst (λ r. IfOk r (λ e. WorkerServed told g.J.Naming.schema g.J.BoxNames.boxes door (slice_index_or c.args.jobs.items i job).seat e.seat e.count e.ends.items e.tended e.asked e.between)) there.1
+    (subst (λ x. IfOk (slice_index_or v.items i (Ok end)) (λ e. WorkerServed told g.J.Naming.schema g.J.BoxNames.boxes door x.seat e.seat e.count e.ends.items e.tended e.asked e.between)) (sym (one.job_is job)) one.call.met) in
+    subst (λ x. WorkerServed told g.J.Naming.schema g.J.BoxNames.boxes door x.seat end.seat end.count end.ends.items end.tended end.asked end.between) here.1 met)
     c.map_vec.ensures.each

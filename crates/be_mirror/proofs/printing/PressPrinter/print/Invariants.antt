@@ -1,4 +1,4 @@
--- The press has the changes so far.
+-- The press has the changes so far, and readers see what they saw.
 use Rattle.std.proofs.Common.{◌≡◌, ◌++◌}
 use Rattle.be_change.specs.Entries.{entries_in}
 use Rattle.be_mirror.proofs.printing.PressPrinter.print.Given as goal
@@ -9,3 +9,4 @@ invariant-loop-change g l =
     × (goal.iterator-loop-change g).is_finite l.change-iterator
     × (l.fn.changes.items ≡ l.yielded ++ l.change-iterator.rest.items)
     × (l.self.list ≡ l.fn.self.list ++ entries_in l.yielded)
+    × (l.self.published ≡ l.fn.self.published)

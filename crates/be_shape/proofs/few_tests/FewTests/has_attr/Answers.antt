@@ -14,12 +14,12 @@ pub returns-then-is_some : goal.returns-then-is_some
 returns-then-is_some c =
     let row = c.args.row.now in
     let a = c.args.a in
-    let tests = c.args.self.now in
+    let tests = c.args.self.now.tests in
     on_one c.is_some.result (is_some (test_on a tests)) (is_part c.args.extent) (has a row) c.if-is_some.true (c.is_some.ensures ∙ ap is_some c.on.ensures) (has_told row.conj tests c.args.extent a c.requires)
 
 pub returns-else-is_part : goal.returns-else-is_part
 returns-else-is_part c =
     let row = c.args.row.now in
     let a = c.args.a in
-    let tests = c.args.self.now in
+    let tests = c.args.self.now.tests in
     on_none c.is_part.result (is_some (test_on a tests)) (is_part c.args.extent) (has a row) (sym (c.is_some.ensures ∙ ap is_some c.on.ensures) ∙ c.if-is_some.false) c.if-is_part.false c.is_part.ensures (has_told row.conj tests c.args.extent a c.requires)

@@ -12,5 +12,5 @@ pub returns-then-is_whole : goal.returns-then-is_whole
 returns-then-is_whole c =
     let e = c.args.e.now in
     let conj = c.args.conj.now in
-    let tests = c.args.self.now in
+    let tests = c.args.self.now.tests in
     c.may_meet.ensures ∙ wholly (may_meet e tests) (is_whole c.args.extent) (satisfies e conj) (sym c.is_whole.ensures ∙ c.if-is_whole.true) (told e conj tests c.args.extent c.requires.told c.requires.form)
