@@ -1,7 +1,5 @@
 -- Items that are put level by level, and leaf by leaf.
-use Rattle.std.proofs.Common.{◌≡◌, ℕ, ◌+◌, ◌<◌, List, [], ◌∷◌, ◌++◌, length, drop, get_or, slice_get, Some, zero, suc, sym, ap, ◌∙◌, subst, arith, length-append}
-use Rattle.std.proofs.lemmas.List.{drop_more}
-use Rattle.std.proofs.lemmas.Option.{slice_get_within}
+use Rattle.std.proofs.Common.{◌≡◌, ◌+◌, ◌<◌, List, ◌∷◌, ◌++◌, length, sym, ap, ◌∙◌, subst, arith, length-append}
 use Rattle.be_model.specs.declared.changes.Row.{Row}
 use Rattle.be_model.specs.Matching.{Assignments}
 use Rattle.be_shape.specs.Search.{all_of}
@@ -52,13 +50,3 @@ no_room_in_node of e a b c leaf p h =
       in_parts = λ k l. omega (arith, l, all, k.kept);
       in_halves = λ k m l. omega (arith, l, all, k.kept, m.kept);
     }
-
-got : {X : Type 0} (xs : List X) (i : ℕ) (x : X) → slice_get xs i ≡ Some x → x ≡ get_or xs i x
-got [] i x h = absurd (cc)
-got (y ∷ ys) zero x h = cc
-got (y ∷ ys) (suc i) x h = got ys i x h
-
--- what is put of the rows from a place on
-pub hits_at : {X : Type 0} (of : Row → X) (e : Assignments) (xs : List Row) (i : ℕ) (x : Row) → slice_get xs i ≡ Some x → hits_of of e (drop i xs) ≡ hits_of of e (x ∷ []) ++ hits_of of e (drop (i + 1) xs)
-hits_at of e xs i x h =
-    ap (hits_of of e) (drop_more xs i x (slice_get_within xs i x h) ∙ ap (λ q. q ∷ drop (i + 1) xs) (sym (got xs i x h))) ∙ hits_append of e (x ∷ []) (drop (i + 1) xs)

@@ -1,7 +1,5 @@
 -- What a sight tells of values.
-use Rattle.std.proofs.Common.{◌≡◌, ◌⊎◌, ⊎_elim, inl, inr, ℕ, ℤ, pos, ◌-ℤ◌, ◌+◌, ◌<◌, ◌≤◌, ◌<ℤ◌, eqb, Bool, true, false, ◌&&◌, ◌||◌, List, [], ◌∷◌, length, get_or, set, replicate, Option, Some, None, cond, refl, sym, ap, ◌∙◌, subst, arith, get_or-set_other, get_or-set_same}
-use Rattle.std.specs.Int.Signed.{lt_z}
-use Rattle.std.proofs.lemmas.Int.{ints}
+use Rattle.std.proofs.Common.{◌≡◌, ◌⊎◌, ⊎_elim, inl, inr, ℕ, ℤ, ◌+◌, ◌<◌, ◌≤◌, eqb, Bool, true, false, ◌||◌, List, [], ◌∷◌, length, get_or, set, replicate, Option, Some, None, cond, refl, sym, ap, ◌∙◌, subst, arith, get_or-set_other, get_or-set_same}
 use Rattle.std.proofs.lemmas.List.{get_or-replicate, get_or_default}
 use Rattle.std.proofs.lemmas.Bool.{and_parts, cases_eq}
 use Rattle.be_base.specs.declared.names.AttrNo.{AttrNo}
@@ -9,10 +7,8 @@ use Rattle.be_model.specs.Domains.{Range, is_within, is_some_within}
 use Rattle.be_model.specs.Forms.{attrs_rise}
 use Rattle.be_model.specs.Matching.{Assignments, attrs_of, values_of}
 use Rattle.be_model.proofs.EventItems.{values_of-at, values_of-none}
-use Rattle.be_shape.specs.Glances.{least, greatest}
-use Rattle.be_shape.specs.Lanes.{raised, seen, is_single, are_single}
+use Rattle.be_shape.specs.Lanes.{seen, is_single, are_single}
 use Rattle.be_shape.specs.Sights.{TellValues}
-use Rattle.be_shape.proofs.Slots.{raised_is}
 
 abbrev unset : ℕ
 unset = 4294967295
@@ -22,33 +18,6 @@ pub several_seen : (vs : List ℤ) → (length vs ≡ 1 → ⊥) → 0 ≡ seen 
 several_seen [] n = refl
 several_seen (v ∷ []) n = absurd (n refl)
 several_seen (v ∷ w ∷ vs) n = refl
-
-one_seen : (v : ℤ) (x : ℕ) → x ≡ raised v → least <ℤ v → v <ℤ greatest → v ≡ (pos x -ℤ pos 2147483648)
-one_seen v x i l h = omega (arith, ints, i, raised_is v (record { from = omega (arith, ints, l); to = omega (arith, ints, h) }))
-
--- a value that is seen, and is neither of the two that stand for others, is the only one
-pub seen_says : (x : ℕ) (vs : Option (List ℤ)) → x ≡ seen vs → (x ≡ unset → ⊥) → (x ≡ 0 → ⊥) → vs ≡ Some ((pos x -ℤ pos 2147483648) ∷ [])
-seen_says x None e n z = absurd (n e)
-seen_says x (Some []) e n z = absurd (z e)
-seen_says x (Some (v ∷ [])) e n z = by_test (lt_z least v) (lt_z v greatest) refl refl e
-  where
-    by_test : (a b : Bool) → lt_z least v ≡ a → lt_z v greatest ≡ b → x ≡ cond (a && b) (raised v) 0 → Some (v ∷ []) ≡ Some ((pos x -ℤ pos 2147483648) ∷ [])
-    by_test true true h k is = ap (λ w. Some (w ∷ [])) (one_seen v x is (omega (arith, ints, h)) (omega (arith, ints, k)))
-    by_test true false h k is = absurd (z is)
-    by_test false b h k is = absurd (z is)
-seen_says x (Some (v ∷ w ∷ vs)) e n z = absurd (z e)
-
--- nothing but no value is seen as none
-pub unset_says : (vs : Option (List ℤ)) → unset ≡ seen vs → vs ≡ None
-unset_says None e = refl
-unset_says (Some []) e = absurd (omega (arith, e))
-unset_says (Some (v ∷ [])) e = by_test (lt_z least v) (lt_z v greatest) refl refl e
-  where
-    by_test : (a b : Bool) → lt_z least v ≡ a → lt_z v greatest ≡ b → unset ≡ cond (a && b) (raised v) 0 → Some (v ∷ []) ≡ None
-    by_test true true h k is = absurd (let r = raised_is v (record { from = omega (arith, ints, h); to = omega (arith, ints, k) }) in omega (arith, ints, is, r, k))
-    by_test true false h k is = absurd (omega (arith, is))
-    by_test false b h k is = absurd (omega (arith, is))
-unset_says (Some (v ∷ w ∷ vs)) e = absurd (omega (arith, e))
 
 abbrev IsTold : ℕ → Option (List ℤ) → Type 0
 IsTold x vs = x ≡ seen vs

@@ -65,28 +65,6 @@ in_if_lets ends n a b s r h = by_side (leb (raised ends.0) n) refl
 pub lets_free : (x : ℕ) → x < 4294967296 → lets x free ≡ true
 lets_free x h = le-leb (less x 0) 4294967295 (omega (arith, h))
 
--- ends of 32 bits that have a slot are those of the slot
-low_again : (n : ℕ) (v : ℤ) → pos n ≡ (v +ℤ pos 2147483648) → lowered n ≡ v
-low_again n v h = omega (arith, ints, h)
-
-pub ends_again : (ends : ℤ × ℤ) → IsSmall ends.0 → IsSmall ends.1 → ends_of (slot_of ends) ≡ ends
-ends_again ends a b = by_parts (low_again (raised ends.0) ends.0 l) (low_again ((raised ends.0 + less (raised ends.1) (raised ends.0)) % 4294967296) ends.1 (ap pos sum ∙ t))
-  where
-    l : pos (raised ends.0) ≡ (ends.0 +ℤ pos 2147483648)
-    l = raised_is ends.0 a
-
-    t : pos (raised ends.1) ≡ (ends.1 +ℤ pos 2147483648)
-    t = raised_is ends.1 b
-
-    sum : (raised ends.0 + less (raised ends.1) (raised ends.0)) % 4294967296 ≡ raised ends.1
-    sum = again (raised ends.0) (raised ends.1) (omega (arith, ints, l, a.to)) (omega (arith, ints, t, b.to))
-      where
-        again : (x y : ℕ) → x < 4294967296 → y < 4294967296 → (x + less y x) % 4294967296 ≡ y
-        again x y h k = omega arith
-
-    by_parts : lowered (raised ends.0) ≡ ends.0 → lowered ((raised ends.0 + less (raised ends.1) (raised ends.0)) % 4294967296) ≡ ends.1 → ends_of (slot_of ends) ≡ ends
-    by_parts u w = grind arith
-
 -- numbers of 32 bits
 pub record IsSlot (slot : ℕ × ℕ) : Type 0 where
   pub low : slot.0 < 4294967296
