@@ -10,7 +10,8 @@ use be_published::{Naming, Sheet};
 use std::marker::Model;
 use std::sync::{Arc, Mutex, Wait};
 
-/// The desk behind its lock, and the mail, which workers share. Contracts see the names of the mailboxes. It is not `Drop`: end it by `end`, or close it.
+/// The desk behind its lock, and the mail, which workers share. Contracts see the names of the mailboxes. It is not `Drop`: end it by
+/// `end`, or close it.
 pub struct Hub<T: Sheet<J>, J: Naming + BoxNames, S: Post> {
     pub(crate) desk: Mutex<Desk<T, J>>,
     pub(crate) mail: Mail<S>,

@@ -2,7 +2,7 @@
 use Rattle.std.proofs.Common.{◌≡◌, ◌≢◌, inl, inr, ℕ, ◌-◌, Bool, true, false, List, [], ◌∷◌, ◌++◌, length, map, Option, Some, None, IfSome, refl, sym, ap, ◌∙◌, subst, arith}
 use Rattle.std.proofs.lemmas.List.{append-nil, length-map}
 use Rattle.be_base.specs.Lists.{BeginsWith}
-use Rattle.be_base.proofs.Beginnings.{BeginsWith-same}
+use Rattle.be_base.proofs.Beginnings.{BeginsWith-same, BeginsWith-length}
 use Rattle.be_io.specs.Lines.{TextLine}
 use Rattle.be_model.specs.Letters.{PlainLetter}
 use Rattle.be_model.specs.Schemas.{Attributes}
@@ -22,7 +22,7 @@ use Rattle.be_board.specs.State.{BoardState}
 use Rattle.be_board.specs.Word.{own_in, Keeps}
 use Rattle.be_session.specs.Bearing.{Bears, Stands, AddsOwn}
 use Rattle.be_session.specs.Given.{GivesLetters, GivesInPart}
-use Rattle.be_session.specs.Served.{AreBorneOut, BeginsAlone, Leaves, RanOver}
+use Rattle.be_session.specs.Served.{AreBorneOut, SeesWhatIsKnown, BeginsAlone, Leaves, RanOver}
 use Rattle.be_session.specs.Steps.{places_in}
 use Rattle.be_session.specs.SoFar.{IsLegalSoFar, RunsOver, BoardServes}
 use Rattle.be_session.proofs.Accepting.{adds_accepted, places_accepted, stands_accepted}
@@ -34,11 +34,22 @@ each_is true asked answered same = ([], sym same ∙ sym (append-nil answered))
 each_is false asked answered same = same
 
 -- the board is left as it stood after the last reply
+pub seen_out : (s : Attributes) (on : Bool) (ps : List Exchange) (lines : List TextLine) (b d : BoardState) → b.word.session ≢ 0 → BoardServes s on ps b d → requests ps ≡ map (reading s) lines → SeesWhatIsKnown s lines ps b d
+seen_out s on ps lines b d somebody g asked = λ h keeps.
+    let l : IsLegalSoFar s h on ps b d = g.borne h (bears_kept h d.word keeps) in
+    let places : places_of b.word.session h ≡ accepted ps = ap (λ (k : ℕ). places_of k h) (sym g.goes.session) ∙ (places_kept_by h d.word keeps ∙ g.places) in (
+      record {
+        somebody = somebody;
+        session = record { end = l.walk; legal = l.legal; only = inl places };
+        each = each_is l.walk.ended (map (reading s) lines) (requests ps) asked;
+      },
+      l.stands.seen,
+    )
+
 pub borne_out : (s : Attributes) (on : Bool) (ps : List Exchange) (lines : List TextLine) (b d : BoardState) → b.word.session ≢ 0 → BoardServes s on ps b d → requests ps ≡ map (reading s) lines → AreBorneOut s lines ps b d
 borne_out s on ps lines b d somebody g asked = λ h z keeps within.
     let l : IsLegalSoFar s h on ps b d = g.borne h (bears_kept h d.word keeps) in
-    let places : places_of b.word.session h ≡ accepted ps = ap (λ (k : ℕ). places_of k h) (sym g.goes.session) ∙ (places_kept_by h d.word keeps ∙ g.places) in
-    let session = session_below s b.word.session z (length b.word.known) h ps within (record { end = l.walk; legal = l.legal; only = inl places }) in
+    let session = session_below s b.word.session z (length b.word.known) h ps within (seen_out s on ps lines b d somebody g asked h keeps).0.session in
     (record { somebody = somebody; session = session; each = each_is session.end.ended (map (reading s) lines) (requests ps) asked }, l.full)
 
 bye_is : (k n m : ℕ) (e : Entry) → IsChangeOf k n m quit e → e ≡ left k n
@@ -97,11 +108,23 @@ has_only h w b c d ps (Split i j) same q keeps st on places = left_none h w b c 
 has_only h w b c d ps NoMemory same q keeps st on places = left_none h w b c d ps same q.goes.session q.answers keeps places
 
 -- the session left silently, or memory was wanting to it
+pub seen_left : (s : Attributes) (ps : List Exchange) (lines : List TextLine) (b c d : BoardState) (answer : Answer) → b.word.session ≢ 0 → BoardServes s true ps b c → Asked c d quit answer → requests ps ≡ map (reading s) lines
+    → SeesWhatIsKnown s lines ps b d
+seen_left s ps lines b c d answer somebody g q asked = λ h keeps.
+    let l : IsLegalSoFar s h true ps b c = g.borne h (bears_left h c d answer q (bears_kept h d.word keeps)) in
+    let only : HasOnly b.word.session h ps l.walk = has_only h l.walk b c d ps answer g.goes.session q keeps l.stands l.ended g.places in (
+      record {
+        somebody = somebody;
+        session = record { end = l.walk; legal = l.legal; only = only };
+        each = each_is l.walk.ended (map (reading s) lines) (requests ps) asked;
+      },
+      omega (arith, l.stands.seen, BeginsWith-length d.word.known c.word.known q.goes.known),
+    )
+
 pub borne_left : (s : Attributes) (ps : List Exchange) (lines : List TextLine) (b c d : BoardState) (answer : Answer) → b.word.session ≢ 0 → BoardServes s true ps b c → Asked c d quit answer → requests ps ≡ map (reading s) lines → AreBorneOut s lines ps b d
 borne_left s ps lines b c d answer somebody g q asked = λ h z keeps within.
     let l : IsLegalSoFar s h true ps b c = g.borne h (bears_left h c d answer q (bears_kept h d.word keeps)) in
-    let only : HasOnly b.word.session h ps l.walk = has_only h l.walk b c d ps answer g.goes.session q keeps l.stands l.ended g.places in
-    let session = session_below s b.word.session z (length b.word.known) h ps within (record { end = l.walk; legal = l.legal; only = only }) in
+    let session = session_below s b.word.session z (length b.word.known) h ps within (seen_left s ps lines b c d answer somebody g q asked h keeps).0.session in
     (record { somebody = somebody; session = session; each = each_is session.end.ended (map (reading s) lines) (requests ps) asked }, full_then h ps b.counts c.counts d.counts l.full q.goes.counts)
 
 -- the box of a board that tells it

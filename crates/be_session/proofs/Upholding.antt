@@ -30,7 +30,7 @@ use Rattle.be_session.specs.Steps.{Replies, RepliesInPart, session_conduct}
 use Rattle.be_session.specs.Tied.{letters_put, Tied, TiedPuts, TiedTends}
 use Rattle.be_session.proofs.BearsOut.{adds_none, adds_along}
 use Rattle.be_session.proofs.BoardWalks.{serves_first, serves_step, bears_step}
-use Rattle.be_session.proofs.BorneOut.{adds_left, borne_out, borne_left, bears_left, left_still, left_so, ran_over, box_whole, box_cut}
+use Rattle.be_session.proofs.BorneOut.{adds_left, seen_out, borne_out, seen_left, borne_left, bears_left, left_still, left_so, ran_over, box_whole, box_cut}
 use Rattle.be_session.proofs.GivingOn.{letters_none, letters_on, letters_then, letters_cut, letters_cut_then}
 use Rattle.be_session.proofs.InPart.{in_part}
 use Rattle.be_session.proofs.Tending.{serves_tended, tends_going, tends_ended, tends_then}
@@ -75,6 +75,7 @@ serves_by s (Some end) ps b c first (front, last, is, on, by) t =
 uphold : (s : Attributes) (on : Bool) (lines : List TextLine) (ps : List Exchange) (b c d : BoardState) → b.word.session ≢ 0 → requests ps ≡ map (reading s) lines → Serves s on ps b c → TiedTends ps b c → LeavesIf (session_conduct s) on c d → Upheld s on lines ps b d
 uphold s true lines ps b c d somebody asked g tends (answer, q) = record {
   borne = borne_left s ps lines b c d answer somebody g.board q asked;
+  seen = seen_left s ps lines b c d answer somebody g.board q asked;
   tied = tied_left ps ps answer b.counts c.counts d.counts g.tied q.goes.counts q.reads.shuts q.split;
   puts = puts_then b.box (sum_by letters_put ps) b.counts c.counts d.counts g.puts q.letters.puts;
   tends = tends_then ps b c d tends q.goes;
@@ -83,6 +84,7 @@ uphold s true lines ps b c d somebody asked g tends (answer, q) = record {
 }
 uphold s false lines ps b c d somebody asked g tends still = subst (λ (x : BoardState). Upheld s false lines ps b x) (sym still) (record {
   borne = borne_out s false ps lines b c somebody g.board asked;
+  seen = seen_out s false ps lines b c somebody g.board asked;
   tied = g.tied;
   puts = g.puts;
   tends = tends;
@@ -101,6 +103,7 @@ cut_upheld : (s : Attributes) (o : Bool) (lines : List TextLine) (ps : List Exch
     → BoardServes s o (ps ++ p ∷ []) b c → Tied false (ps ++ p ∷ []) ps b.counts c.counts → TiedPuts (ps ++ p ∷ []) b c → TiedTends ps b c → GivesInPart b.box s ps p out b c → LeavesIf (session_conduct s) o c d → UpheldInPart s lines ps p out b d
 cut_upheld s true lines ps p out b c d somebody asked is board tied puts tends cut (answer, q) = record {
   borne = borne_left s (ps ++ p ∷ []) lines b c d answer somebody board q asked;
+  seen = seen_left s (ps ++ p ∷ []) lines b c d answer somebody board q asked;
   tied = subst (λ (x : Bool). Tied x (ps ++ p ∷ []) ps b.counts d.counts) (sym is) (tied_left (ps ++ p ∷ []) ps answer b.counts c.counts d.counts tied q.goes.counts q.reads.shuts q.split);
   puts = puts_then b.box (sum_by letters_put (ps ++ p ∷ [])) b.counts c.counts d.counts puts q.letters.puts;
   tends = tends_then ps b c d tends q.goes;
@@ -110,6 +113,7 @@ cut_upheld s true lines ps p out b c d somebody asked is board tied puts tends c
 }
 cut_upheld s false lines ps p out b c d somebody asked is board tied puts tends cut still = subst (λ (x : BoardState). UpheldInPart s lines ps p out b x) (sym still) (record {
   borne = borne_out s false (ps ++ p ∷ []) lines b c somebody board asked;
+  seen = seen_out s false (ps ++ p ∷ []) lines b c somebody board asked;
   tied = subst (λ (x : Bool). Tied x (ps ++ p ∷ []) ps b.counts c.counts) (sym is) tied;
   puts = puts;
   tends = tends;

@@ -29,6 +29,11 @@ AreBorneOut s lines ps b b' =
     (h : List Entry) (z : ℕ) → Keeps h b'.word → z ≤ length b.word.known
     → AreExchanges s b.word.session z h lines ps × TiedFull h ps b.counts b'.counts
 
+-- told of all that was known at entry, the session has seen in the end no more than what is known at return
+abbrev pub SeesWhatIsKnown : Attributes → List TextLine → List Exchange → BoardState → BoardState → Type 0
+SeesWhatIsKnown s lines ps b b' =
+    (h : List Entry) → Keeps h b'.word → (e : AreExchanges s b.word.session (length b.word.known) h lines ps) × (e.session.end.seen ≤ length b'.word.known)
+
 -- nobody else changes the board's list, which is an opening so far, and its box is told
 pub record BeginsAlone (b : BoardState) : Type 0 where
   pub alone : b.alone ≡ true
@@ -53,6 +58,7 @@ pub record RanOver (s : Attributes) (on : Bool) (lines : List TextLine) (ps : Li
 -- what the board's word and counts say of exchanges that were written whole, the last of which ended the session or none did
 pub record Upheld (s : Attributes) (on : Bool) (lines : List TextLine) (ps : List Exchange) (b b' : BoardState) : Type 0 where
   pub borne : AreBorneOut s lines ps b b'
+  pub seen : SeesWhatIsKnown s lines ps b b'
   pub tied : Tied on ps ps b.counts b'.counts
   pub puts : TiedPuts ps b b'
   pub tends : TiedTends ps b b'
@@ -62,6 +68,7 @@ pub record Upheld (s : Attributes) (on : Bool) (lines : List TextLine) (ps : Lis
 -- the same where the output broke off at the last reply
 pub record UpheldInPart (s : Attributes) (lines : List TextLine) (ps : List Exchange) (last : Exchange) (out : List ℕ) (b b' : BoardState) : Type 0 where
   pub borne : AreBorneOut s lines (ps ++ last ∷ []) b b'
+  pub seen : SeesWhatIsKnown s lines (ps ++ last ∷ []) b b'
   pub tied : Tied (has_not_ended (end_after last.0 last.1)) (ps ++ last ∷ []) ps b.counts b'.counts
   pub puts : TiedPuts (ps ++ last ∷ []) b b'
   pub tends : TiedTends ps b b'

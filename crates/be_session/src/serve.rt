@@ -26,9 +26,10 @@ use be_model::Schema;
 use be_protocol::{Refusal, Replier, Request, SessionEnd, Short, Turn, converse, read_line, say};
 use std::alloc::Global;
 
-/// Serves the board's session over a link, until a QUIT, the end of the input, a SPLIT or a fault. Unless a reply
-/// ended it, or memory was wanting before the first line, the session leaves at its end. Replies are handed on before a read that may wait, and at the end. The gate is called by the
-/// worker's number before and after each line, and the board is tended after every sixteenth reply that goes on.
+/// Serves the board's session over a link, until a QUIT, the end of the input, a SPLIT or a fault. Unless a reply ended it, or memory
+/// was wanting before the first line, the session leaves at its end. Replies are handed on before a read that may wait, and at the end.
+/// The gate is called by the worker's number before and after each line, and the board is asked to tend after every sixteenth reply that
+/// goes on.
 pub fn serve_link<B: Board, L: Link, G: Gate>(
     alloc: Global,
     schema: &Schema,
