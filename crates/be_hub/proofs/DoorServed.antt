@@ -35,7 +35,7 @@ use Rattle.be_hub.specs.Closing.{KeepsAll, AreInOrder}
 use Rattle.be_hub.specs.Files.{is_split_end}
 use Rattle.be_hub.specs.Links.{MayStart, session_at, IsCounted, IsOfLink, SeatVisit, WorkerServed}
 use Rattle.be_hub.specs.Posted.{LetterBox, taken_for, StandAmong, WasBox}
-use Rattle.be_hub.specs.Serving.{Told, ServedLink, IsServedLink, AreApart, Worker, IsOfWorker, HasLetters, session_and_link, told_of, AreKept, LinksAreServed}
+use Rattle.be_hub.specs.Serving.{Told, ServedLink, IsServedLink, AreApart, Worker, TakeTurns, HasLetters, session_and_link, told_of, AreKept, LinksAreServed}
 use Rattle.be_hub.specs.Settling.{IsUnbroken, CountsSplits}
 use Rattle.be_hub.proofs.Ends.{there, at_its_place}
 use Rattle.be_hub.proofs.Pairs.{get_map, one_at, map_at}
@@ -46,6 +46,7 @@ use Rattle.be_hub.proofs.LinksPosted.{notes_for, taken_is, given_among, put_by, 
 use Rattle.be_hub.proofs.Places.{all_from_places, any_at, at_of_all, flat_differs, flat_has, in_flat, EachDiffers}
 use Rattle.be_hub.proofs.Posted.{IsOfFound, all_boxes, seat_box}
 use Rattle.be_hub.proofs.FilesClosed.{seat_at, there_mapped}
+use Rattle.be_hub.proofs.Turns.{IsOfTurn, take_turns}
 use Rattle.be_hub.proofs.Shuts.{Stays, same_test, none_at, stays_on}
 
 abbrev pair : ℕ → LinkState → ℕ × LinkState
@@ -53,7 +54,22 @@ pair a x = (a, x)
 
 -- a visit as what was served, whose replies tell this
 abbrev pub served_link : Told → SeatVisit → ServedLink
-served_link told v = record { session = v.entered.session; link = v.link; end = v.end; told = told }
+served_link told v = record {
+  session = v.entered.session;
+  known = length v.entered.glass.known;
+  seen = length v.left.glass.known;
+  link = v.link;
+  end = v.end;
+  told = told;
+}
+
+of_visit : (v : SeatVisit) (x : ServedLink) (told : Told) → v.left.session ≡ v.entered.session → served_link told v ≡ x → IsOfTurn v x
+of_visit v x told stays is = record {
+  stays = stays;
+  session = ap (λ (l : ServedLink). l.session) (sym is);
+  known = ap (λ (l : ServedLink). l.known) (sym is);
+  seen = ap (λ (l : ServedLink). l.seen) (sym is);
+}
 
 module _ {L : Type 0} (told : L → LinkState) (schema : Attributes) (found : BoxId → Mailbox → Type 0) (s : Attributes) (boxes : List TableId) (opening h : List Entry) (shuts : Bool) (links : ℕ) (keeps : Bool) where
   -- the links were served, and the workers' boxes are the mailboxes
@@ -93,6 +109,11 @@ module _ {L : Type 0} (told : L → LinkState) {E : Type 0} (seat_in : E → Sea
       each_is_of = All-map (IsOf door) count_in ends (all_from_places (λ e. IsOf door (count_in e)) ends (λ i e at. (served_at i e at).is_of));
       ended = All-map (λ (c : CountState L). c.ended ≡ true) count_in ends (all_from_places (λ e. (count_in e).ended ≡ true) ends (λ i e at. (served_at i e at).ended));
     }
+
+    -- each link that was given out came back
+    pub all_came_back : (with_counts no_sums counts).back ≡ (with_counts no_sums counts).given
+    all_came_back = ap (λ n. 0 + n) (sums_same (λ (c : CountState L). c.back) (λ (c : CountState L). c.given) counts
+        (All-map (λ (c : CountState L). c.back ≡ c.given) count_in ends (all_from_places (λ e. (count_in e).back ≡ (count_in e).given) ends (λ i e at. sym (served_at i e at).all_back))))
 
     -- the links that were served at a place
     abbrev visits_at : (j : ℕ) (e : E) → slice_get ends j ≡ Some e → List SeatVisit
@@ -206,7 +227,7 @@ module _ {L : Type 0} (told : L → LinkState) {E : Type 0} (seat_in : E → Sea
         unbroken_at : (j : ℕ) (e : E) (at : slice_get ends j ≡ Some e) (k : ℕ) (v : SeatVisit) → slice_get (visits_at j e at) k ≡ Some v → IsUnbroken v.end
         unbroken_at j e at k v there = at_of_all IsUnbroken (ends_in e) k v.end (at_of_all (λ e. All IsUnbroken (ends_in e)) ends j e unbroken at) (ended_at j e at k v there)
 
-        is_served_link : (i : ℕ) (x : ServedLink) → slice_get all_served i ≡ Some x → IsServedLink s (length opening) h (with_counts no_sums counts) x
+        is_served_link : (i : ℕ) (x : ServedLink) → slice_get all_served i ≡ Some x → IsServedLink s h (with_counts no_sums counts) x
         is_served_link i x at =
             let f = in_flat (λ (ls : List ServedLink). ls) lists.0 i x at in
             let of = lists.2 f.0 f.1 f.3 in
@@ -216,10 +237,10 @@ module _ {L : Type 0} (told : L → LinkState) {E : Type 0} (seat_in : E → Sea
             let l = w.links.served f.2 v.0 v.1 in
             let end_at = ended_at f.0 of.0 of.2.0 f.2 v.0 v.1 in
             let seat_back : slice_get back f.0 ≡ Some (seat_in of.0) = there_mapped seat_in ends back is f.0 of.0 of.1 in
-            let how = legal_link s boxes (length opening) h k (first_seat opening boxes f.0) (seat_in of.0) v.0 l (at_of_all (KeepsAll boxes h) back f.0 (seat_in of.0) keeps_all seat_back)
-            (omega arith) (unbroken_at f.0 of.0 of.2.0 f.2 v.0 v.1) in
+            let how = legal_link s boxes h k (first_seat opening boxes f.0) (seat_in of.0) v.0 l (at_of_all (KeepsAll boxes h) back f.0 (seat_in of.0) keeps_all seat_back)
+            (unbroken_at f.0 of.0 of.2.0 f.2 v.0 v.1) in
             let count_at = map_at count_in ends f.0 of.0 of.1 in
-            subst (IsServedLink s (length opening) h (with_counts no_sums counts)) v.2 (record {
+            subst (IsServedLink s h (with_counts no_sums counts)) v.2 (record {
               somebody = subst (λ n. 0 < n) (sym l.session_is) l.somebody;
               legal = record {
                 unused = l.unused;
@@ -345,11 +366,24 @@ module _ {L : Type 0} (told : L → LinkState) {E : Type 0} (seat_in : E → Sea
               given = all_from_places (λ (l : ServedLink). StandAmong l.told.given (taken_for l.session w.box)) w.links
                   (λ k x at_x. subst (StandAmong x.told.given) (sym (taken_is x.session (seat_in of.0).passes.taken w.box b.taken)) (given_at i of.0 w.links k x of.2 at_x));
               sent = puts_at i of.0 w.links of.2 ∙ b.sent;
-              sessions = all_from_places (λ (l : ServedLink). IsOfWorker (length posted.0) (i + 1) l.session) w.links
-                  (λ k x at_x. ap (λ (n : ℕ). n + 1) (ap (λ (n : ℕ). seat_of n x.session) posted.1 ∙ seat_in_list i of.0 w.links k x of.2 at_x));
               readers = b.readers;
               box_is = b.box_is;
             }
+
+        many_workers : length workers ≡ length boxes
+        many_workers = sym (length-map workers (λ (w : Worker). w.box)) ∙ (ap (λ (bs : List LetterBox). length bs) (boxes_are lists.0 posted.0 many_lists) ∙ posted.1)
+
+        -- the links of a worker took turns at its seat
+        turns_at : (i : ℕ) (w : Worker) → slice_get lists.0 i ≡ Some w.links → TakeTurns (length workers) (i + 1) (length opening) w.links
+        turns_at i w at =
+            let of = lists.2 i w.links at in
+            let visits = (served_at i of.0 of.2.0).links in
+            subst (λ (n : ℕ). TakeTurns n (i + 1) (length opening) w.links) (sym many_workers) (take_turns s (length boxes) (first_seat opening boxes i) (seat_in of.0) visits.visits w.links visits.chain of.2.1 (i + 1) (length opening)
+            (λ k v x at_v at_x.
+            let u = visit_in i of.0 w.links k x of.2 at_x in
+            let same = one_at visits.visits k u.0 v u.1 at_v in
+            let stays = (visits.served k v at_v).served.board.goes.session in
+            of_visit v x (tells_at_place i of.0 of.2.0 k u.0 u.1) stays (ap (served_link (tells_at_place i of.0 of.2.0 k u.0 u.1)) (sym same) ∙ u.2)) (omega arith) (omega arith))
 
         was_box : (i : ℕ) (w : Worker) → slice_get workers i ≡ Some w → WasBox schema found boxes (map (λ (x : SeatState). x.passes) back) i w.box
         was_box i w at = (posted.2 i w.box (worker_at lists.0 posted.0 i w at).1).2
@@ -359,9 +393,7 @@ module _ {L : Type 0} (told : L → LinkState) {E : Type 0} (seat_in : E → Sea
           record {
             formed = formed;
             begins = opened.begins;
-            back = ap (λ n. 0 + n) (sums_same (λ (c : CountState L). c.back) (λ (c : CountState L). c.given) counts
-                (All-map (λ (c : CountState L). c.back ≡ c.given) count_in ends (all_from_places (λ e. (count_in e).back ≡ (count_in e).given) ends (λ i e at. sym (served_at i e at).all_back))));
-            all = all_links;
+            came_back = (all_came_back, all_links);
             none_refused = none_refused;
             failed = λ some_failed. some_raised _
                 (some_of (λ (c : CountState L). c.failed) (λ (c : CountState L). c.read_faults) counts
@@ -370,15 +402,16 @@ module _ {L : Type 0} (told : L → LinkState) {E : Type 0} (seat_in : E → Sea
             served = all_served;
             count = many_served;
             apart = are_apart some;
-            each = all_from_places (IsServedLink s (length opening) h (with_counts no_sums counts)) all_served is_served_link;
+            each = all_from_places (IsServedLink s h (with_counts no_sums counts)) all_served is_served_link;
             some_shut = same_test shuts (list_any (λ (l : ServedLink). l.told.shut) all_served)
                 (λ off. list_any_none (λ (l : ServedLink). l.told.shut) all_served (all_from_places (λ (l : ServedLink). l.told.shut ≡ false) all_served (quiet_link off)))
                 (λ off. loud (all_from_places (λ e. (seat_in e).glass.shuts ≡ 0) ends (quiet_seat off)));
             sessions = in_sessions;
             kept_are = are_kept keeps refl;
             workers = workers;
-            worker_count = sym (length-map workers (λ (w : Worker). w.box)) ∙ (ap (λ (bs : List LetterBox). length bs) (boxes_are lists.0 posted.0 many_lists) ∙ posted.1);
+            worker_count = many_workers;
             by_workers = links_are lists.0 posted.0 many_lists;
+            turns = λ i w at. turns_at i w (worker_at lists.0 posted.0 i w at).0;
             letters = λ i w at. subst (λ (bs : List LetterBox). HasLetters h bs (i + 1) w) (sym (boxes_are lists.0 posted.0 many_lists)) (has_letters i w at);
           },
           map (λ (x : SeatState). x.passes) back,

@@ -61,14 +61,15 @@ module _ {L : Type 0} (d d₁ d₂ : DoorState L) (port links workers : ℕ) whe
       all_links all none =
           omega (arith, all, none, ap (λ (x : DoorState L). x.given) door_served, ap (λ (x : DoorState L). x.failed) door_served, ap (λ (x : DoorState L). x.refused) door_served, ap (λ (x : DoorState L). x.links) door_served)
 
-      pub leaves_closing : (f : CloseFault) → LeavesDoor d d₂ port links workers (fault_of_close f)
-      leaves_closing (close.Split rift) = (sums, door_served)
-      leaves_closing (close.Stray stray) = (sums, door_served)
-      leaves_closing close.NoMemory = served_tried d d₂ port links workers sums d₂.kept door_served
+      module _ (all : d₂.given + d₂.failed + d₂.refused ≡ d₂.links) (none : sums.refused ≡ 0) (back : sums.back ≡ sums.given) where
+        pub leaves_closing : (f : CloseFault) → LeavesDoor d d₂ port links workers (fault_of_close f)
+        leaves_closing (close.Split rift) = (sums, (back, all_links all none), door_served)
+        leaves_closing (close.Stray stray) = (sums, (back, all_links all none), door_served)
+        leaves_closing close.NoMemory = served_tried d d₂ port links workers sums d₂.kept door_served
 
-module _ {L : Type 0} (d d₁ d₂ : DoorState L) (port links workers : ℕ) (is : d₁ ≡ after_listen d d₁.«open» port links workers) (counts : List (CountState L)) where
+module _ {L : Type 0} (d d₁ d₂ : DoorState L) (port links workers : ℕ) (is : d₁ ≡ after_listen d d₁.«open» port links workers) (counts : List (CountState L)) (back : (with_counts no_sums counts).back ≡ (with_counts no_sums counts).given) where
   pub leaves_settling : (f : CloseFault) → MaySettle d₁ d₂ counts f → LeavesDoor d d₂ port links workers (fault_of_close f)
-  leaves_settling (close.Split rift) m = leaves_closing d d₁ d₂ port links workers is counts m (close.Split rift)
-  leaves_settling (close.Stray stray) m = leaves_closing d d₁ d₂ port links workers is counts m (close.Stray stray)
+  leaves_settling (close.Split rift) m = leaves_closing d d₁ d₂ port links workers is counts m.settled m.links m.none_refused back (close.Split rift)
+  leaves_settling (close.Stray stray) m = leaves_closing d d₁ d₂ port links workers is counts m.settled m.links m.none_refused back (close.Stray stray)
   leaves_settling close.NoMemory (inl m) = subst (λ x. IsTried d x port) (sym m) (listened d d₁ d₂ port links workers is)
-  leaves_settling close.NoMemory (inr m) = leaves_closing d d₁ d₂ port links workers is counts m close.NoMemory
+  leaves_settling close.NoMemory (inr m) = served_tried d d₂ port links workers (with_counts no_sums counts) d₂.kept (door_served d d₁ d₂ port links workers is counts m)

@@ -12,6 +12,7 @@ mod Posted
 mod FilesClosed
 pub mod Places
 mod Entered
+mod Turns
 mod Visits
 mod LinksServed
 mod LinksBegun

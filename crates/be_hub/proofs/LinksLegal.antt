@@ -3,7 +3,7 @@ use Rattle.std.proofs.Common.{◌≡◌, ℕ, ◌+◌, ◌==◌, ◌≤◌, filt
 use Rattle.std.specs.List.{All}
 use Rattle.atomic_table.specs.Seated.{TableId}
 use Rattle.be_base.specs.Lists.{BeginsWith}
-use Rattle.be_base.proofs.Beginnings.{BeginsWith-along, BeginsWith-length}
+use Rattle.be_base.proofs.Beginnings.{BeginsWith-along}
 use Rattle.be_io.specs.Lines.{TextLine}
 use Rattle.be_io.specs.Outside.{LinkState}
 use Rattle.be_model.specs.Letters.{PlainLetter}
@@ -21,10 +21,10 @@ use Rattle.be_protocol.specs.declared.ends.SessionEnd.TheVariants.{Eof, Quit, Re
 use Rattle.be_protocol.specs.Conversation.{Replied}
 use Rattle.be_session.specs.Given.{GivesNoted}
 use Rattle.be_session.specs.Tied.{letters_put}
-use Rattle.be_session.specs.Served.{SessionEnds, session_terms}
+use Rattle.be_session.specs.Served.{SeesWhatIsKnown, SessionEnds, session_terms}
 use Rattle.be_hub.specs.Closing.{KeepsAll}
 use Rattle.be_hub.specs.Links.{WentOn, SeatVisit, LinkServed}
-use Rattle.be_hub.specs.Serving.{Told, told_in, legal_terms, LinkEnds}
+use Rattle.be_hub.specs.Serving.{Told, told_in, AreTold, legal_terms, LinkEnds}
 use Rattle.be_hub.specs.Settling.{IsUnbroken}
 use Rattle.be_hub.proofs.Places.{in_front, all_from_places, at_of_all}
 use Rattle.be_hub.proofs.Shuts.{Agrees, agrees}
@@ -85,18 +85,23 @@ module _ (P : Type 0) (s : Attributes) (before after : LinkState) (asked asked' 
   tells_letters NoMemory e u = absurd u
 
 -- a session whose word the list keeps ended so over it
-module _ (P : Type 0) (s : Attributes) (z : ℕ) (h : List Entry) (before after : LinkState) (b b' : BoardState) (keeps : Keeps h b'.word) (within : z ≤ length b.word.known) where
+module _ (P : Type 0) (s : Attributes) (h : List Entry) (before after : LinkState) (b b' : BoardState) (keeps : Keeps h b'.word) where
+  -- what such exchanges mean over it, told of all that the board knew
+  are_told : (lines : List TextLine) (ps : List Exchange) → SeesWhatIsKnown s lines ps b b' → AreTold s b.word.session (length b.word.known) (length b'.word.known) h (told_in ps) lines ps
+  are_told lines ps seen = let e = seen h keeps in (e.0, e.1, refl)
+
   replied : (lines : List TextLine) (end : Option SessionEnd) → (r : Replied (session_terms s b b') lines end before.sink after.sink)
-      → Replied (legal_terms s b.word.session z h (told_in r.exchanges)) lines end before.sink after.sink
+      → Replied (legal_terms s b.word.session (length b.word.known) (length b'.word.known) h (told_in r.exchanges)) lines end before.sink after.sink
   replied lines end r = record {
     exchanges = r.exchanges;
     asked = r.asked;
     written = r.written;
     ends = r.ends;
-    legal = ((r.legal.borne h z keeps within).0, refl);
+    legal = are_told lines r.exchanges r.legal.seen;
   }
 
-  legal_by : (end : SessionEnd) (e : SessionEnds P s before after b b' end) → IsUnbroken end → LinkEnds (legal_terms s b.word.session z h (telling P s before after b b' end e)) before after end
+  legal_by : (end : SessionEnd) (e : SessionEnds P s before after b b' end) → IsUnbroken end
+      → LinkEnds (legal_terms s b.word.session (length b.word.known) (length b'.word.known) h (telling P s before after b b' end e)) before after end
   legal_by Eof e u = record { lines = e.lines; read = e.read; reads = e.reads; writes = e.writes; replied = replied e.lines None e.replied }
   legal_by Quit e u = record { lines = e.lines; read = e.read; reads = e.reads; writes = e.writes; replied = replied e.lines (Some Quit) e.replied }
   legal_by ReadFault e u = (e.0, record { lines = e.1.lines; read = e.1.read; writes = e.1.writes; replied = replied e.1.lines None e.1.replied })
@@ -109,7 +114,7 @@ module _ (P : Type 0) (s : Attributes) (z : ℕ) (h : List Entry) (before after 
           read = e.1.read;
           reads = e.1.reads;
           once = e.1.once;
-          replied = record { exchanges = r.exchanges; last = r.last; asked = r.asked; out = r.out; written = r.written; broke = r.broke; ends = r.ends; legal = ((r.legal.borne h z keeps within).0, refl) };
+          replied = record { exchanges = r.exchanges; last = r.last; asked = r.asked; out = r.out; written = r.written; broke = r.broke; ends = r.ends; legal = are_told e.1.lines (r.exchanges ++ r.last ∷ []) r.legal.seen };
         },
       )
   legal_by (Split i j) e u = absurd u
@@ -133,18 +138,13 @@ module _ (s : Attributes) (boxes : List TableId) (k : ℕ) (first last : SeatSta
   pub none_shut : IsUnbroken visit.end → last.glass.shuts ≡ 0 → told_at.shut ≡ false
   none_shut unbroken is = (shut_agrees unbroken).quiet (omega (arith, is, o.went_on.shuts))
 
-module _ (s : Attributes) (boxes : List TableId) (z : ℕ) (h : List Entry) (k : ℕ) (first last : SeatState) (visit : SeatVisit) (o : LinkServed s boxes k first last visit) (keeps : KeepsAll boxes h last)
-    (within : z ≤ length first.glass.known)
-  where
-    left_is : visit.left.session ≡ k
-    left_is = o.served.board.goes.session ∙ o.session_is
+module _ (s : Attributes) (boxes : List TableId) (h : List Entry) (k : ℕ) (first last : SeatState) (visit : SeatVisit) (o : LinkServed s boxes k first last visit) (keeps : KeepsAll boxes h last) where
+  left_is : visit.left.session ≡ k
+  left_is = o.served.board.goes.session ∙ o.session_is
 
-    kept : Keeps h (word_of visit.left)
-    kept = keeps_left h k visit.left last left_is o.went_on (keeps k o.somebody o.seat_is)
+  kept : Keeps h (word_of visit.left)
+  kept = keeps_left h k visit.left last left_is o.went_on (keeps k o.somebody o.seat_is)
 
-    told : z ≤ length visit.entered.glass.known
-    told = omega (arith, within, BeginsWith-length visit.entered.glass.known first.glass.known o.known)
-
-    pub legal_link : IsUnbroken visit.end → LinkEnds (legal_terms s visit.entered.session z h (told_at s boxes k first last visit o)) o.unused visit.link visit.end
-    legal_link unbroken =
-        legal_by ((visit.link ≡ o.unused) × (visit.left ≡ visit.entered) × (visit.asked_after ≡ visit.asked_before)) s z h o.unused visit.link (board_of 1 s visit.asked_before visit.entered) (board_of 1 s visit.asked_after visit.left) kept told visit.end o.served.session unbroken
+  pub legal_link : IsUnbroken visit.end → LinkEnds (legal_terms s visit.entered.session (length visit.entered.glass.known) (length visit.left.glass.known) h (told_at s boxes k first last visit o)) o.unused visit.link visit.end
+  legal_link unbroken =
+      legal_by ((visit.link ≡ o.unused) × (visit.left ≡ visit.entered) × (visit.asked_after ≡ visit.asked_before)) s h o.unused visit.link (board_of 1 s visit.asked_before visit.entered) (board_of 1 s visit.asked_after visit.left) kept visit.end o.served.session unbroken

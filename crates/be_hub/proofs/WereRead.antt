@@ -33,13 +33,13 @@ all_given given (suc n) links is never = absurd (never (omega arith))
 module _ {L : Type 0} (told : L → LinkState) (s : Attributes) (opening h : List Entry) (shuts : Bool) (seats links : ℕ) (sums : Sums) (keeps : Bool) (kept : List (SessionNo × L)) where
   pub were_read : (l : LinksAreServed told s opening h shuts seats links sums keeps kept) → shuts ≡ false → AreFaultless sums → WereRead links sums l.served
   were_read l is none =
-      let all : sums.given ≡ links = all_given sums.given sums.failed links l.all (λ some. absurd (omega (arith, l.failed some, none.0))) in
+      let all : sums.given ≡ links = all_given sums.given sums.failed links l.came_back.1 (λ some. absurd (omega (arith, l.failed some, none.0))) in
       record {
         given = all;
-        back = l.back ∙ all;
+        back = l.came_back.0 ∙ all;
         each = all_from_places (λ (x : ServedLink). IsRead x.end × (x.told.shut ≡ false)) l.served
             (λ i x at. (
-              read_by (legal_terms s x.session (length opening) h x.told) sums x.link x.end (at_of_all (IsServedLink s (length opening) h sums) l.served i x l.each at).legal none,
+              read_by (legal_terms s x.session x.known x.seen h x.told) sums x.link x.end (at_of_all (IsServedLink s h sums) l.served i x l.each at).legal none,
               none_at (λ (y : ServedLink). y.told.shut) l.served i x (sym l.some_shut ∙ is) at,
             ));
       }

@@ -23,7 +23,7 @@ IsFileEnd (Split seen written) = Unit {0}
 IsFileEnd NoMemory = Unit {0}
 IsFileEnd end = ⊥
 
--- the session of the seat was served over the file, and wrote the transcript. The desk was never tended through its board
+-- the session of the seat was served over the file, and wrote the transcript. No tend is counted at its board
 pub record FileServed (s : Attributes) (file : List ℕ) (seat seat' : SeatState) (transcript : List ℕ) (end : SessionEnd) : Type 0 where
   pub after : LinkState
   pub session : SessionEnds ((seat' ≡ seat) × (transcript ≡ [])) s (file_link file) after (board_of 0 s 0 seat) (board_of 0 s 0 seat') end

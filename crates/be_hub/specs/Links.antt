@@ -168,7 +168,7 @@ module _ {L : Type 0} (told : L → LinkState) where
   -- a worker has met the end of the links, and all that it was given are back
   pub record WorkerServed (s : Attributes) (boxes : List TableId) (door : DoorState L) (first last : SeatState) (count : CountState L) (ends : List SessionEnd) (calls asked between : ℕ) : Type 0 where
     pub links : LinksServed s boxes first last count ends calls asked
-    -- no more tends than that reached the desk
+    -- no more of their tends than that reached the desk
     pub reached : between ≤ asked
     pub counts : CountsAddUp links.visits first last
     pub all_back : count.given ≡ count.back

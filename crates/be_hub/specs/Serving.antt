@@ -5,6 +5,7 @@ use Rattle.be_base.specs.Counts.{raised, HasRisen, HasRisenBy}
 use Rattle.be_base.specs.Lists.{BeginsWith}
 use Rattle.be_base.specs.declared.limits.TheConstants.{SOURCE_BYTES}
 use Rattle.be_base.specs.declared.names.SessionNo.{SessionNo}
+use Rattle.be_io.specs.Lines.{TextLine}
 use Rattle.be_io.specs.Outside.{LinkState}
 use Rattle.be_model.specs.Schemas.{Attributes}
 use Rattle.be_change.specs.History.{Entry, session_of, IsWellFormed}
@@ -41,14 +42,18 @@ pub record Told : Type 0 where
 abbrev pub told_in : List Exchange → Told
 told_in ps = record { shut = says_shut ps; given = letters_given ps; put = sum_by letters_put ps }
 
--- session k's conversation over the list, of which it was told z entries before. Its replies tell this. A last reply of which a part may
--- be missing tells it too
-abbrev pub legal_terms : Attributes → (k z : ℕ) → List Entry → Told → Terms
-legal_terms s k z h told = record {
+-- these exchanges are session k's over the list, of which it was told z entries before, and of which it had seen n at most in the end.
+-- Its replies tell this
+abbrev pub AreTold : Attributes → (k z n : ℕ) → List Entry → Told → List TextLine → List Exchange → Type 0
+AreTold s k z n h told lines ps = (e : AreExchanges s k z h lines ps) × (e.session.end.seen ≤ n) × (told_in ps ≡ told)
+
+-- a conversation of such exchanges. A last reply of which a part may be missing counts as the others
+abbrev pub legal_terms : Attributes → (k z n : ℕ) → List Entry → Told → Terms
+legal_terms s k z n h told = record {
   schema = s;
   asks = reading s;
-  Whole = λ end lines ps. AreExchanges s k z h lines ps × (told_in ps ≡ told);
-  InPart = λ lines ps p out. AreExchanges s k z h lines (ps ++ p ∷ []) × (told_in (ps ++ p ∷ []) ≡ told);
+  Whole = λ end lines ps. AreTold s k z n h told lines ps;
+  InPart = λ lines ps p out. AreTold s k z n h told lines (ps ++ p ∷ []);
 }
 
 -- how the conversation with a link that is told of may have ended: memory wasn't wanting to it, and it didn't end by two numbers that
@@ -68,22 +73,28 @@ pub record IsServedUnder (t : Terms) (sums : Sums) (link : LinkState) (end : Ses
   pub ends : LinkEnds t unused link end
   pub counted : IsCounted sums end
 
+-- so many links were to be given out. Each that was given out came back, and for each other one an accept failed
+abbrev pub AllCameBack : (links : ℕ) → Sums → Type 0
+AllCameBack links sums = (sums.back ≡ sums.given) × (sums.given + sums.failed ≡ links)
+
 -- no fault of any link was counted, and none gave 2^40 bytes
 abbrev pub AreFaultless : Sums → Type 0
 AreFaultless sums = (sums.read_faults ≡ 0) × (sums.write_faults ≡ 0) × (sums.most < SOURCE_BYTES)
 
--- a link that was given out and served: its session, the link as it stood when it came back, how the session ended, and what its
--- replies tell
+-- a link that was given out and served: its session, how many entries this was told of before, how many it had seen at most in the end,
+-- the link as it stood when it came back, how the session ended, and what its replies tell
 pub record ServedLink : Type 0 where
   pub session : ℕ
+  pub known : ℕ
+  pub seen : ℕ
   pub link : LinkState
   pub end : SessionEnd
   pub told : Told
 
 -- the link was served over the list as the session that it names. Session 0 is nobody
-pub record IsServedLink (s : Attributes) (z : ℕ) (h : List Entry) (sums : Sums) (l : ServedLink) : Type 0 where
+pub record IsServedLink (s : Attributes) (h : List Entry) (sums : Sums) (l : ServedLink) : Type 0 where
   pub somebody : 0 < l.session
-  pub legal : IsServedUnder (legal_terms s l.session z h l.told) sums l.link l.end
+  pub legal : IsServedUnder (legal_terms s l.session l.known l.seen h l.told) sums l.link l.end
 
 -- no two of these links have the same session
 abbrev pub AreApart : List ServedLink → Type 0
@@ -101,6 +112,12 @@ pub record Worker : Type 0 where
 abbrev pub boxes_of : List Worker → List LetterBox
 boxes_of workers = map (λ (w : Worker). w.box) workers
 
+-- of so many workers, one served these links in turn, the first as session k, and each other one as the session that is so many above
+-- the last. The first was told of z entries before, at least, and each other one of all that the one before it had seen
+abbrev pub TakeTurns : (workers k z : ℕ) → List ServedLink → Type 0
+TakeTurns workers k z [] = Unit {0}
+TakeTurns workers k z (l ∷ ls) = (l.session ≡ k) × (z ≤ l.known) × TakeTurns workers (k + workers) l.seen ls
+
 -- of so many workers, worker k, from 1, has the session
 abbrev pub IsOfWorker : (workers k session : ℕ) → Type 0
 IsOfWorker workers k session = seat_of workers session + 1 ≡ k
@@ -112,8 +129,7 @@ pub record HasLetters (h : List Entry) (boxes : List LetterBox) (k : ℕ) (w : W
   pub given : All (λ (l : ServedLink). StandAmong l.told.given (taken_for l.session w.box)) w.links
   -- as many letters as SEND said to all of its links lie in all boxes from the worker
   pub sent : sum_by (λ (l : ServedLink). l.told.put) w.links ≡ sum_by (count_from k) boxes
-  -- each of its links, and each letter in its box, is of a session that it has
-  pub sessions : All (λ (l : ServedLink). IsOfWorker (length boxes) k l.session) w.links
+  -- each letter in its box is for a session that it has
   pub readers : All (λ (x : Mailed). IsOfWorker (length boxes) k x.reader) (all_in w.box)
   pub box_is : IsLetterBox h boxes w.box
 
@@ -129,14 +145,14 @@ module _ {L : Type 0} (told : L → LinkState) where
   AreKept true kept ls = map told_of kept ≡ map session_and_link ls
   AreKept false kept ls = kept ≡ []
 
-  -- so many seats had a worker each, so many links were to be given out, and what came of them has these numbers. Each that was given out was served as a session of
-  -- its own, over one well formed list that begins with the opening and has the changes of these sessions alone behind it. Each worker
-  -- has a box of letters. The replies to its links say how many letters were put, and to each link a piece of what was taken out
+  -- so many seats had a worker each, so many links were to be given out, and what came of them has these numbers. Each that was given
+  -- out was served as a session of its own, over one well formed list that begins with the opening and has the changes of these sessions
+  -- alone behind it. Each worker served its links in turn, and has a box of letters. The replies to its links say how many letters were
+  -- put, and to each link a piece of what was taken out
   pub record LinksAreServed (s : Attributes) (opening h : List Entry) (shuts : Bool) (seats links : ℕ) (sums : Sums) (keeps : Bool) (kept : List (SessionNo × L)) : Type 0 where
     pub formed : IsWellFormed h
     pub begins : BeginsWith h opening
-    pub back : sums.back ≡ sums.given
-    pub all : sums.given + sums.failed ≡ links
+    pub came_back : AllCameBack links sums
     pub none_refused : sums.refused ≡ 0
     -- an accept failed only where the count of faults says it
     pub failed : 0 < sums.failed → 0 < sums.read_faults
@@ -144,7 +160,7 @@ module _ {L : Type 0} (told : L → LinkState) where
     pub served : List ServedLink
     pub count : length served ≡ sums.given
     pub apart : AreApart served
-    pub each : All (IsServedLink s (length opening) h sums) served
+    pub each : All (IsServedLink s h sums) served
     -- a session's read was refused its entry exactly where a reply to some link says so
     pub some_shut : shuts ≡ list_any (λ (l : ServedLink). l.told.shut) served
     pub sessions : (place : ℕ) (e : Entry) → length opening ≤ place → slice_get h place ≡ Some e → Any (λ (l : ServedLink). l.session ≡ session_of e) served
@@ -153,6 +169,8 @@ module _ {L : Type 0} (told : L → LinkState) where
     pub workers : List Worker
     pub worker_count : length workers ≡ seats
     pub by_workers : served ≡ flat_map (λ (w : Worker). w.links) workers
+    -- worker 1 begins with session 1, and each other one with the session of its number
+    pub turns : (i : ℕ) (w : Worker) → slice_get workers i ≡ Some w → TakeTurns (length workers) (i + 1) (length opening) w.links
     pub letters : (i : ℕ) (w : Worker) → slice_get workers i ≡ Some w → HasLetters h (boxes_of workers) (i + 1) w
 
 -- all links were given out and came back, each was read to its end or to a QUIT, and none says that a reader was refused
@@ -194,9 +212,9 @@ module _ {L : Type 0} where
   LeavesDoor before after port links workers fault.Failed =
       HasRisen before.read_faults after.read_faults × (after ≡ record (after_try before port) { read_faults = after.read_faults })
   LeavesDoor before after port links workers fault.NoMemory = IsTried before after port
-  -- all links were served
+  -- all links that were given out were served
   LeavesDoor before after port links workers fault =
-      (sums : Sums) × (after ≡ served_door before port links workers sums after.kept)
+      (sums : Sums) × AllCameBack links sums × (after ≡ served_door before port links workers sums after.kept)
 
 -- the fault where the door didn't listen, and where the hub gave no list
 abbrev pub fault_of_listen : ListenFault → ServeFault

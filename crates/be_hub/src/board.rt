@@ -25,13 +25,13 @@ pub struct DeskBoard<'a, T: Sheet<J>, J: Naming + BoxNames, S: Post, R: Wait, co
     rt: &'a R,
     hub: &'a Hub<T, J, S>,
     seat: Seat<T, J>,
-    // The tends that it and those before it were asked for, where it is to tend at all.
+    // The tends that it and those before it were asked for, where it is to tend at all: else it counts none.
     calls: u64,
     // Those of them at which nobody else was at the desk.
     tended: TendCount,
-    // It is asked for none where it isn't to tend.
+    // It counts none where it isn't to tend.
     ghost still: { TENDS ≡ 0 → calls ≡ 0 },
-    // No more tends reached the desk than were asked for.
+    // No more of them reached the desk than it counts.
     ghost few: { tended ≤ calls },
 }
 

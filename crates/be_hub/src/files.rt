@@ -21,7 +21,7 @@ use std::sync::{MutexGuard, Wait};
 use std::thread;
 use std::thread::{Threads, join};
 
-/// What a worker leaves of a file: its seat, what it wrote, how the session ended, and how many tends its board was asked for: none.
+/// What a worker leaves of a file: its seat, what it wrote, how the session ended, and how many tends its board counted: none.
 #[derive(Drop)]
 pub struct FileEnd<T: Sheet<J>, J: Naming + BoxNames> {
     pub seat: Seat<T, J>,

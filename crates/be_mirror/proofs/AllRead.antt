@@ -207,8 +207,7 @@ module _ {L : Type 0} (told : L → LinkState) {E : Type 0} (glass_in : E → Gl
   links_are_read h shuts links ends w seen none_refused all_links =
       let counts = map count_in ends in
       record {
-        back = all_back ends w;
-        all = all_links;
+        came_back = (all_back ends w, all_links);
         none_refused = none_refused;
         failed = λ some_failed. some_raised _
             (some_of (λ (c : CountState L). c.failed) (λ (c : CountState L). c.read_faults) counts

@@ -47,7 +47,6 @@ module _ {L : Type 0} (d d₁ d₂ : DoorState L) (port links workers : ℕ) (is
         let counts = map count_in ends in
         let refused : (with_counts no_sums counts).refused ≡ 0 = sym (ap (λ (x : Sums). x.refused) sums_are) ∙ none_refused in (
           with_counts no_sums counts,
+          (all_back told glass_in count_in ends_in s d₁ ends w, all_links d d₁ d₂ port links workers is counts settled all refused),
           door_served d d₁ d₂ port links workers is counts settled,
-          all_back told glass_in count_in ends_in s d₁ ends w,
-          all_links d d₁ d₂ port links workers is counts settled all refused,
         )

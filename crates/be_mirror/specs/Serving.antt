@@ -1,5 +1,5 @@
 -- What became of a mirror's feed, and what the links of a door gave and hold, over the list that the feed means.
-use Rattle.std.specs.Prelude.{◌≡◌, ℕ, ◌+◌, ◌<◌, ◌≤◌, ◌++◌, Bool, true, false, List, [], ◌∷◌, length, map, All, Some, None}
+use Rattle.std.specs.Prelude.{◌≡◌, ℕ, ◌<◌, ◌≤◌, ◌++◌, Bool, true, false, List, [], ◌∷◌, length, map, All, Some, None}
 use Rattle.be_base.specs.Counts.{HasRisen, HasRisenBy, RisesBy}
 use Rattle.be_base.specs.declared.limits.TheConstants.{READ_BYTES, SOURCE_BYTES}
 use Rattle.be_base.specs.declared.names.SessionNo.{SessionNo}
@@ -13,7 +13,7 @@ use Rattle.be_door.specs.declared.sums.Sums.{Sums}
 use Rattle.be_follow.specs.Feeds.{Fed, Means}
 use Rattle.be_protocol.specs.Conversation.{Terms}
 use Rattle.be_protocol.specs.declared.ends.SessionEnd.{SessionEnd}
-use Rattle.be_hub.specs.Serving.{IsServedUnder, IsTried, served_door, told_of}
+use Rattle.be_hub.specs.Serving.{AllCameBack, IsServedUnder, IsTried, served_door, told_of}
 use Rattle.be_hub.specs.Transcripts.{ShutsOnly}
 use Rattle.be_published.specs.Reads.{IsBeyond}
 use Rattle.be_published.specs.declared.beyond.Beyond.{Beyond}
@@ -53,7 +53,7 @@ IsShort before after feed.Ended = IsFew before after
 IsShort before after feed.Left = IsFew before after
 IsShort before after end = Unit {0}
 
--- a feed with a faulty line was read no further than the piece that ends this line: without the last piece nothing is at fault
+-- of a feed with a faulty line nothing was read beyond one read's length behind a beginning that has no fault
 abbrev pub StopsAtFault : Attributes → List ℕ → FeedEnd → Type 0
 StopsAtFault s bytes (feed.Bad line kind) =
     (front last : List ℕ) × (bytes ≡ front ++ last) × (length last ≤ READ_BYTES) × (f : Fed) × Means s front f × (f.fault ≡ None)
@@ -99,8 +99,7 @@ module _ {L : Type 0} (told : L → LinkState) where
 
   -- so many links were to be given out, and what came of them has these numbers. Each that was given out was served over the list
   pub record LinksAreRead (s : Attributes) (h : List Entry) (shuts : Bool) (links : ℕ) (sums : Sums) (keeps : Bool) (kept : List (SessionNo × L)) : Type 0 where
-    pub back : sums.back ≡ sums.given
-    pub all : sums.given + sums.failed ≡ links
+    pub came_back : AllCameBack links sums
     pub none_refused : sums.refused ≡ 0
     -- an accept failed only where the count of faults says it
     pub failed : 0 < sums.failed → 0 < sums.read_faults
@@ -136,7 +135,7 @@ module _ {L : Type 0} where
   DoorAfterMirrorFault before after port links workers fault.NoMemory = IsTried before after port
   -- all links came back
   DoorAfterMirrorFault before after port links workers (fault.Ahead beyond) =
-      (sums : Sums) × (after ≡ served_door before port links workers sums after.kept) × (sums.back ≡ sums.given) × (sums.given + sums.failed ≡ links)
+      (sums : Sums) × AllCameBack links sums × (after ≡ served_door before port links workers sums after.kept)
 
 -- the fault where the door didn't listen
 abbrev pub mirror_fault_of_listen : ListenFault → MirrorFault

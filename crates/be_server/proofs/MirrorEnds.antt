@@ -31,10 +31,10 @@ module _ {L : Type 0} (told : L → LinkState) where
   were_read : (s : Attributes) (h : List Entry) (shuts : Bool) (links : ℕ) (sums : Sums) (keeps : Bool) (kept : List (SessionNo × L)) → (l : LinksAreRead told s h shuts links sums keeps kept) → AreFaultless sums
       → MirrorLinksWereRead links sums l.served
   were_read s h shuts links sums keeps kept l none =
-      let all : sums.given ≡ links = all_given sums.given sums.failed links l.all (λ some. absurd (omega (arith, l.failed some, none.0))) in
+      let all : sums.given ≡ links = all_given sums.given sums.failed links l.came_back.1 (λ some. absurd (omega (arith, l.failed some, none.0))) in
       record {
         given = all;
-        back = l.back ∙ all;
+        back = l.came_back.0 ∙ all;
         each = All-weaker (IsReadLink s h shuts sums) (λ (x : ReadLink). IsRead x.end) (λ x k. read_by (list_terms s h shuts) sums x.link x.end k none) l.served l.each;
       }
 

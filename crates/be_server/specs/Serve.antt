@@ -6,7 +6,7 @@ use Rattle.be_change.specs.History.{Entry}
 use Rattle.be_change.specs.Opening.{opening_of}
 use Rattle.be_door.specs.Door.{DoorState, after_try}
 use Rattle.be_door.specs.declared.sums.Sums.{Sums}
-use Rattle.be_hub.specs.Serving.{AreFaultless, LinksAreServed, WereRead, served_door, IsTried, LeavesDoor}
+use Rattle.be_hub.specs.Serving.{AllCameBack, AreFaultless, LinksAreServed, WereRead, served_door, IsTried, LeavesDoor}
 use Rattle.be_hub.specs.declared.serving.ServeFault.{ServeFault}
 use Rattle.be_hub.specs.declared.serving.ServeFault.TheVariants as fault
 use Rattle.be_io.specs.Counts.{HasRisen}
@@ -75,9 +75,9 @@ module _ {L : Type 0} (told : L → LinkState) where
   -- before the door was tried, before anything was written, or in the output
   RunsServe Kept s rows port seats links door door' before after NoMemory =
       (Kept × ((door' ≡ door) ⊎ IsTried door door' port)) ⊎ Served s rows port seats links door door' before after NoMemory
-  -- no list keeps the words of all sessions, and none is printed. The links were served
-  RunsServe Kept s rows port seats links door door' before after (Split rift) = Kept × (sums : Sums) × (door' ≡ served_door door port links seats sums door'.kept)
-  RunsServe Kept s rows port seats links door door' before after (Stray stray) = Kept × (sums : Sums) × (door' ≡ served_door door port links seats sums door'.kept)
+  -- no list keeps the words of all sessions, and none is printed. All links that were given out were served
+  RunsServe Kept s rows port seats links door door' before after (Split rift) = Kept × (sums : Sums) × AllCameBack links sums × (door' ≡ served_door door port links seats sums door'.kept)
+  RunsServe Kept s rows port seats links door door' before after (Stray stray) = Kept × (sums : Sums) × AllCameBack links sums × (door' ≡ served_door door port links seats sums door'.kept)
   RunsServe Kept s rows port seats links door door' before after _ = ⊥
 
   -- the files are as they should be, and the sessions ended so

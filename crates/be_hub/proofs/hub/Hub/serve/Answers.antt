@@ -6,7 +6,7 @@ use Rattle.be_door.specs.Counts.{with_counts}
 use Rattle.be_door.specs.Door.{after_listen}
 use Rattle.be_door.specs.Sums.{no_sums}
 use Rattle.be_hub.specs.Serving.{LeavesDoor, served_door}
-use Rattle.be_hub.proofs.DoorServed.{ServedWithBoxes, seats_at, splits_are, counts_are, links_are_served, may_start}
+use Rattle.be_hub.proofs.DoorServed.{ServedWithBoxes, seats_at, splits_are, counts_are, all_came_back, links_are_served, may_start}
 use Rattle.be_hub.proofs.DoorSettled.{kept_is, keeps_is, door_served, all_links, leaves_closing, leaves_settling}
 use Rattle.be_hub.proofs.Ends.{all_back}
 use Rattle.be_hub.proofs.FilesClosed.{none_is}
@@ -82,7 +82,7 @@ returns-in-Err-settle_links-clause-fault g c =
     let counts = map (λ end. end.count) ends in
     let listened : d₁ ≡ after_listen d d₁.«open» c.args.port c.args.links (length boxes) = subst (λ n. d₁ ≡ after_listen d d₁.«open» c.args.port c.args.links n) workers c.in-Ok.ensures.listens in
     subst (LeavesDoor d d₂ c.args.port c.args.links (length boxes)) (sym c.from-in-Err-settle_links.ensures)
-    (leaves_settling d d₁ d₂ c.args.port c.args.links (length boxes) listened counts c.in-Err-settle_links.fault c.in-Err-settle_links.ensures.fault)
+    (leaves_settling d d₁ d₂ c.args.port c.args.links (length boxes) listened counts (all_came_back told (λ end. end.seat) (λ end. end.count) (λ end. end.ends.items) (λ end. end.tended) (λ end. end.asked) (λ end. end.between) g.J.Naming.schema boxes g.J.Naming.opening d₁ ends c.args.seats.items c.requires.seats count c.in-Ok-run_door.ensures.ends) c.in-Err-settle_links.fault c.in-Err-settle_links.ensures.fault)
 
 pub close-requires : goal.close-requires
 close-requires g c =
@@ -155,4 +155,6 @@ returns-in-Err-close-clause-fault g c =
     let counts = map (λ end. end.count) ends in
     let listened : d₁ ≡ after_listen d d₁.«open» c.args.port c.args.links (length boxes) = subst (λ n. d₁ ≡ after_listen d d₁.«open» c.args.port c.args.links n) workers c.in-Ok.ensures.listens in
     let e = c.in-Ok-settle_links.ensures in
-    subst (LeavesDoor d d₂ c.args.port c.args.links (length boxes)) (sym c.from-in-Err-close.ensures) (leaves_closing d d₁ d₂ c.args.port c.args.links (length boxes) listened counts e.settled c.in-Err-close.fault)
+    let none : (with_counts no_sums counts).refused ≡ 0 = ap (λ x. x.refused) (sym e.sums) ∙ e.none_refused in
+    subst (LeavesDoor d d₂ c.args.port c.args.links (length boxes)) (sym c.from-in-Err-close.ensures)
+    (leaves_closing d d₁ d₂ c.args.port c.args.links (length boxes) listened counts e.settled e.links none (all_came_back told (λ end. end.seat) (λ end. end.count) (λ end. end.ends.items) (λ end. end.tended) (λ end. end.asked) (λ end. end.between) g.J.Naming.schema boxes g.J.Naming.opening d₁ ends c.args.seats.items c.requires.seats count c.in-Ok-run_door.ensures.ends) c.in-Err-close.fault)
