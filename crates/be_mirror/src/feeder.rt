@@ -1,25 +1,35 @@
 //! The side of a mirror that is fed.
 
-ghost use Rattle.std.specs.Prelude.{◌≡◌, ◌≢◌, ◌<◌, [], length, None, OnOk, Err};
+ghost use Rattle.std.specs.Prelude.{◌≡◌, ◌≢◌, [], length, OnOk};
+ghost use Rattle.rtrb.specs.Ring.{sent, received, SameProducer, SameConsumer};
 ghost use Rattle.std.specs.Arc.{arc_value};
 ghost use Rattle.be_base.specs.Lists.{BeginsWith};
+ghost use Rattle.be_change.specs.Entries.{entries_in};
 ghost use Rattle.be_index.specs.Rows.{plain_index};
 ghost use Rattle.be_io.specs.Outside.{source_state};
-ghost use Rattle.be_follow.specs.Followers.{Follows};
+ghost use Rattle.be_follow.specs.Followers.{Follows, new_follower};
+ghost use Rattle.be_protocol.specs.Conversation.{TakesWithin};
 ghost use Rattle.be_mirror.specs.Feeders.{new_feeder, IsAllPublished};
-ghost use Rattle.be_mirror.specs.Feeding.{TakesNext};
+ghost use Rattle.be_mirror.specs.Serving.{Feeds};
 
-use crate::feeding::FeedEnd;
-use crate::printing::{Printer, lacked, read_beside};
+use crate::bell::Bell;
+use crate::feeding::{FeedEnd, take_pieces};
+use crate::printing::{Printer, changes_from};
+use crate::ring::{Giver, InOrder, Taker, print_taken};
 use be_base::NoMemory;
 use be_follow::Follower;
 use be_index::ListIndex;
 use be_io::Source;
 use be_model::Schema;
+use rtrb::RingBuffer;
 use std::alloc::Global;
 use std::marker::Model;
+use std::sync::atomic::AtomicBool;
 use std::sync::{Arc, Wait};
-use std::thread::Threads;
+use std::thread::{Threads, join_mut};
+
+/// How many changes that were read may wait to be published. Those of a list that waits longer are read no faster than published.
+const RING_CHANGES: usize = 16384;
 
 /// It puts the changes of a feed behind a press and publishes them. Contracts see what a follower of these bytes has, and what is
 /// published of its list. It is not `Drop`: end it by `end`.
@@ -60,32 +70,42 @@ impl<P: Printer + Send> Feeder<P> {
         }
     }
 
-    /// Reads the next piece of the feed into the buffer and takes it, while another thread publishes what the pieces before it brought.
-    /// Where no thread can be made it publishes after the reading. Where memory is wanting the feed can't go on. It may wait for readers.
-    pub fn read<R: Threads + Wait + Sync, S: Source>(
+    /// Takes a feed from the input, until it ends, fails or `over` is set, while another thread publishes what it brings. What that one
+    /// hasn't published by the end is left. Where no thread can be made nothing is published. It may wait for readers, and for the
+    /// input.
+    pub fn take<R: Threads + Wait + Sync, S: Source>(
         &mut self,
         rt: &R,
         source: &mut S,
-        buffer: &mut [u8],
-    ) -> Result<usize, FeedEnd>
-        requires some { 0 < length buffer.old }
-        requires sound { self.old.took.fed.fault ≡ None }
-        ensures takes { TakesNext (length buffer.old) (source_state S.Source source.old) (source_state S.Source source.new) self.old.took self.new.took result }
-        ensures shown { result ≢ Err FeedEnd.NoMemory → self.new.published ≡ self.old.took.fed.list }
-        ensures kept { BeginsWith self.new.published self.old.published }
+        over: &AtomicBool,
+    ) -> FeedEnd
+        requires new { (self.old ≡ new_feeder P.schema) × Follows [] self.old.took }
+        ensures feeds { result ≢ FeedEnd.NoMemory → Feeds P.schema (source_state S.Source source.old) (source_state S.Source source.new) result self.new.took.fed }
+        ensures within { TakesWithin (S.taken source.old) (S.taken source.new) }
         ensures beside { S.kept_by_read source.new ≡ S.kept_by_read source.old }
     {
-        let Ok(changes) = lacked(self.alloc, &self.ledger, &self.press) else {
-            return Err(FeedEnd::NoMemory);
+        let ring = RingBuffer::with_protocol::<Global, InOrder<P>>(self.alloc, RING_CHANGES);
+        let Ok((mut giver, mut taker)) = ring else {
+            return FeedEnd::NoMemory;
         };
-        read_beside(
+        let bell = Bell::make();
+        let (printed, end) = take_and_print(
             rt,
+            self.alloc,
             &mut self.ledger,
+            &mut giver,
             source,
-            buffer,
+            over,
             &mut self.press,
-            changes,
-        )
+            &mut taker,
+            &bell,
+        );
+        // What came out of the ring is a beginning of what was put in.
+        taker.slots_beside(&mut giver);
+        match printed {
+            Ok(()) => end,
+            Err(NoMemory) => FeedEnd::NoMemory,
+        }
     }
 
     /// Publishes all of the list. It may wait for readers.
@@ -94,7 +114,7 @@ impl<P: Printer + Send> Feeder<P> {
         ensures kept { BeginsWith self.new.published self.old.published }
         ensures shown { OnOk result (IsAllPublished self.new) }
     {
-        let changes = lacked(self.alloc, &self.ledger, &self.press)?;
+        let changes = changes_from(self.alloc, &self.ledger, self.press.handed())?;
         self.press.print(rt, changes)
     }
 
@@ -121,4 +141,79 @@ impl<P: Printer + Send> Feeder<P> {
         } = self;
         press.end(rt);
     }
+}
+
+// Takes a feed in this thread, and publishes what comes out of the ring in another one.
+fn take_and_print<R: Threads + Wait + Sync, S: Source, P: Printer + Send>(
+    rt: &R,
+    alloc: Global,
+    ledger: &mut Follower<ListIndex>,
+    giver: &mut Giver<P>,
+    source: &mut S,
+    over: &AtomicBool,
+    press: &mut P,
+    taker: &mut Taker<P>,
+    bell: &Bell,
+) -> (Result<(), NoMemory>, FeedEnd)
+    requires new { (ledger.old ≡ new_follower P.schema) × Follows [] ledger.old }
+    requires empty { (sent giver.old ≡ []) × (received taker.old ≡ []) × (P.list press.old ≡ []) × (P.published press.old ≡ []) }
+    ensures feeds { result.1 ≢ FeedEnd.NoMemory → Feeds P.schema (source_state S.Source source.old) (source_state S.Source source.new) result.1 ledger.new.fed }
+    ensures given { SameProducer giver.old giver.new × (ledger.new.schema ≡ P.schema) × BeginsWith ledger.new.fed.list (entries_in (sent giver.new)) }
+    ensures taken { SameConsumer taker.old taker.new × BeginsWith (entries_in (received taker.new)) (P.list press.new) }
+    ensures seen { BeginsWith (P.list press.new) (P.published press.new) }
+    ensures within { TakesWithin (S.taken source.old) (S.taken source.new) }
+    ensures beside { S.kept_by_read source.new ≡ S.kept_by_read source.old }
+{
+    take_beside(
+        rt,
+        &mut || -> Result<(), NoMemory>
+            requires { (received taker.now ≡ []) × (P.list press.now ≡ []) × (P.published press.now ≡ []) }
+            ensures taken { SameConsumer taker.entry.now taker.exit.now × BeginsWith (entries_in (received taker.exit.now)) (P.list press.exit.now) }
+            ensures seen { BeginsWith (P.list press.exit.now) (P.published press.exit.now) }
+        { print_taken(rt, alloc, press, taker, bell) },
+        alloc,
+        ledger,
+        giver,
+        source,
+        over,
+        bell,
+    )
+}
+
+// Takes a feed beside the work.
+fn take_beside<
+    R: Threads + Wait + Sync,
+    W: FnMut() -> A + Send,
+    A: Send,
+    P: Printer + Send,
+    S: Source,
+>(
+    rt: &R,
+    work: &mut W,
+    alloc: Global,
+    ledger: &mut Follower<ListIndex>,
+    giver: &mut Giver<P>,
+    source: &mut S,
+    over: &AtomicBool,
+    bell: &Bell,
+) -> (A, FeedEnd)
+    requires work { W.pre work.old }
+    requires new { (ledger.old ≡ new_follower P.schema) × Follows [] ledger.old × (sent giver.old ≡ []) }
+    ensures works { W.step work.old result.0 work.new }
+    ensures feeds { result.1 ≢ FeedEnd.NoMemory → Feeds P.schema (source_state S.Source source.old) (source_state S.Source source.new) result.1 ledger.new.fed }
+    ensures given { SameProducer giver.old giver.new × (ledger.new.schema ≡ P.schema) × BeginsWith ledger.new.fed.list (entries_in (sent giver.new)) }
+    ensures within { TakesWithin (S.taken source.old) (S.taken source.new) }
+    ensures beside { S.kept_by_read source.new ≡ S.kept_by_read source.old }
+{
+    join_mut(
+        rt,
+        work,
+        &mut || -> FeedEnd
+            requires { (ledger.now ≡ new_follower P.schema) × Follows [] ledger.now × (sent giver.now ≡ []) }
+            ensures feeds { result ≢ FeedEnd.NoMemory → Feeds P.schema (source_state S.Source source.entry.now) (source_state S.Source source.exit.now) result ledger.exit.now.fed }
+            ensures given { SameProducer giver.entry.now giver.exit.now × (ledger.exit.now.schema ≡ P.schema) × BeginsWith ledger.exit.now.fed.list (entries_in (sent giver.exit.now)) }
+            ensures within { TakesWithin (S.taken source.entry.now) (S.taken source.exit.now) }
+            ensures beside { S.kept_by_read source.exit.now ≡ S.kept_by_read source.entry.now }
+        { take_pieces(rt, alloc, ledger, giver, source, over, bell) },
+    )
 }

@@ -1,15 +1,20 @@
 //! How a feed is taken from an input.
 
-ghost use Rattle.std.specs.Prelude.{◌≡◌, ◌≢◌, ◌<◌, None, [], length};
+ghost use Rattle.std.specs.Prelude.{◌≡◌, ◌≢◌, ◌<◌, None, [], length, IfOk};
+ghost use Rattle.rtrb.specs.Ring.{sent, SameProducer};
+ghost use Rattle.be_base.specs.Lists.{BeginsWith};
+ghost use Rattle.be_change.specs.Entries.{entries_in};
 ghost use Rattle.be_io.specs.Outside.{source_state};
-ghost use Rattle.be_follow.specs.Followers.{Follows};
+ghost use Rattle.be_follow.specs.Followers.{Follows, new_follower};
 ghost use Rattle.be_protocol.specs.Conversation.{TakesWithin};
 ghost use Rattle.be_mirror.specs.Feeders.{new_feeder, IsAllPublished};
 ghost use Rattle.be_mirror.specs.Feeding.{TakesNext};
 ghost use Rattle.be_mirror.specs.Serving.{Feeds};
 
+use crate::bell::Bell;
 use crate::feeder::Feeder;
-use crate::printing::Printer;
+use crate::printing::{Printer, changes_from};
+use crate::ring::{Giver, give_all};
 use be_base::{NoMemory, READ_BYTES, SOURCE_BYTES};
 use be_follow::{FeedFault, FeedKind, Follower};
 use be_index::ListIndex;
@@ -40,7 +45,6 @@ pub enum FeedEnd {
 // before each read.
 pub(crate) fn take_feed<P: Printer + Send, S: Source, R: Threads + Wait + Sync>(
     rt: &R,
-    alloc: Global,
     feeder: &mut Feeder<P>,
     source: &mut S,
     over: &AtomicBool,
@@ -51,45 +55,102 @@ pub(crate) fn take_feed<P: Printer + Send, S: Source, R: Threads + Wait + Sync>(
     ensures within { TakesWithin (S.taken source.old) (S.taken source.new) }
     ensures beside { S.kept_by_read source.new ≡ S.kept_by_read source.old }
 {
-    let end = take_pieces(rt, alloc, feeder, source, over);
+    let end = feeder.take(rt, source, over);
     match feeder.publish(rt) {
         Ok(()) => end,
         Err(NoMemory) => FeedEnd::NoMemory,
     }
 }
 
-// The same, but that what the last piece brought may not be published.
-fn take_pieces<P: Printer + Send, S: Source, R: Threads + Wait + Sync>(
+// Takes a feed from the input, and puts its changes into the ring, but those of the last piece. Then it closes the bell.
+pub(crate) fn take_pieces<P: Printer, S: Source, R: Wait>(
     rt: &R,
     alloc: Global,
-    feeder: &mut Feeder<P>,
+    ledger: &mut Follower<ListIndex>,
+    giver: &mut Giver<P>,
     source: &mut S,
     over: &AtomicBool,
+    bell: &Bell,
 ) -> FeedEnd
-    requires new { (feeder.old ≡ new_feeder P.schema) × Follows [] feeder.old.took }
-    ensures feeds { result ≢ FeedEnd.NoMemory → Feeds P.schema (source_state S.Source source.old) (source_state S.Source source.new) result feeder.new.took.fed }
+    requires new { (ledger.old ≡ new_follower P.schema) × Follows [] ledger.old }
+    requires empty { sent giver.old ≡ [] }
+    ensures feeds { result ≢ FeedEnd.NoMemory → Feeds P.schema (source_state S.Source source.old) (source_state S.Source source.new) result ledger.new.fed }
+    ensures given { SameProducer giver.old giver.new × (ledger.new.schema ≡ P.schema) × BeginsWith ledger.new.fed.list (entries_in (sent giver.new)) }
+    ensures within { TakesWithin (S.taken source.old) (S.taken source.new) }
+    ensures beside { S.kept_by_read source.new ≡ S.kept_by_read source.old }
+{
+    bell.await_taker();
+    let end = give_pieces(rt, alloc, ledger, giver, source, over, bell);
+    bell.close(rt);
+    end
+}
+
+// The same, without the bell's close.
+fn give_pieces<P: Printer, S: Source, R: Wait>(
+    rt: &R,
+    alloc: Global,
+    ledger: &mut Follower<ListIndex>,
+    giver: &mut Giver<P>,
+    source: &mut S,
+    over: &AtomicBool,
+    bell: &Bell,
+) -> FeedEnd
+    requires new { (ledger.old ≡ new_follower P.schema) × Follows [] ledger.old }
+    requires empty { sent giver.old ≡ [] }
+    ensures feeds { result ≢ FeedEnd.NoMemory → Feeds P.schema (source_state S.Source source.old) (source_state S.Source source.new) result ledger.new.fed }
+    ensures given { SameProducer giver.old giver.new × (ledger.new.schema ≡ P.schema) × BeginsWith ledger.new.fed.list (entries_in (sent giver.new)) }
     ensures within { TakesWithin (S.taken source.old) (S.taken source.new) }
     ensures beside { S.kept_by_read source.new ≡ S.kept_by_read source.old }
 {
     let Ok(mut buffer) = vec![in alloc; 0; READ_BYTES] else {
         return FeedEnd::NoMemory;
     };
+    let mut given = 0;
     let mut left = SOURCE_BYTES;
     while left > 0 {
         if over.load(Ordering::SeqCst) {
             return FeedEnd::Left;
         }
         let most = READ_BYTES.min(left as usize);
-        match feeder.read(rt, source, &mut buffer[..most]) {
+        match read_piece(ledger, source, &mut buffer[..most]) {
             Ok(count) => left -= count as u64,
             Err(end) => return end,
+        }
+        match give_new(rt, alloc, &*ledger, giver, given, bell) {
+            Ok(count) => given = count,
+            Err(NoMemory) => return FeedEnd::NoMemory,
         }
     }
     FeedEnd::Spent
 }
 
+// Puts what is new in the list into the ring, of which so many changes stood there, and says how many then did. Where no thread takes
+// them out it puts none.
+fn give_new<P: Printer, R: Wait>(
+    rt: &R,
+    alloc: Global,
+    ledger: &Follower<ListIndex>,
+    giver: &mut Giver<P>,
+    given: u64,
+    bell: &Bell,
+) -> Result<u64, NoMemory>
+    requires schema { ledger.now.schema ≡ P.schema }
+    requires given { given ≡ length (entries_in (sent giver.old)) }
+    requires begins { BeginsWith ledger.now.fed.list (entries_in (sent giver.old)) }
+    ensures ring { SameProducer giver.old giver.new }
+    ensures begins { BeginsWith ledger.now.fed.list (entries_in (sent giver.new)) }
+    ensures given { IfOk result (λ n. n ≡ length (entries_in (sent giver.new))) }
+{
+    if !bell.has_taker() {
+        return Ok(given);
+    }
+    let changes = changes_from(alloc, ledger, given)?;
+    give_all(rt, giver, changes, bell)?;
+    Ok(ledger.len())
+}
+
 // Reads the next piece of a feed into the buffer and takes it, and says how long it was, or why there is none or no more.
-pub(crate) fn read_piece<S: Source>(
+fn read_piece<S: Source>(
     ledger: &mut Follower<ListIndex>,
     source: &mut S,
     buffer: &mut [u8],

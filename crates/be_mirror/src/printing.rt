@@ -1,24 +1,20 @@
-//! How a press shows a list, while another thread goes on with it.
+//! A press as what shows a list.
 
-ghost use Rattle.std.specs.Prelude.{◌≡◌, ◌≢◌, ◌<◌, ◌++◌, ◌∷◌, [], length, None, Err, OnOk, OnErr, IfOk, IfSome};
+ghost use Rattle.std.specs.Prelude.{◌≡◌, ◌++◌, ◌∷◌, [], List, length, OnOk, OnErr, IfOk};
 ghost use Rattle.std.specs.Arc.{arc_value};
 ghost use Rattle.be_base.specs.Lists.{BeginsWith};
 ghost use Rattle.be_change.specs.Entries.{entry_of, entries_in};
+ghost use Rattle.be_change.specs.History.{Entry};
 ghost use Rattle.be_change.specs.Sound.{MayAppend, Sound};
-ghost use Rattle.be_io.specs.Outside.{source_state};
-ghost use Rattle.be_mirror.specs.Feeding.{TakesNext};
 
-use crate::feeding::{FeedEnd, read_piece};
 use be_base::NoMemory;
 use be_copy::Edit;
 use be_follow::Follower;
 use be_index::ListIndex;
-use be_io::Source;
 use be_model::Change;
 use be_published::{Naming, Press, Sheet};
 use std::alloc::Global;
 use std::sync::{Arc, Wait};
-use std::thread::{Threads, join_mut};
 
 /// A list of changes that is shown to readers. A closure can't capture a reference to `Press<T, J>`, which names an associated type. So
 /// a press stands behind a type parameter.
@@ -96,72 +92,16 @@ fn put_last<T: Sheet<J>, J: Naming>(
     }
 }
 
-// The changes of the list that the press lacks.
-pub(crate) fn lacked<P: Printer>(
+// The changes of the list from a place on.
+pub(crate) fn changes_from(
     alloc: Global,
     ledger: &Follower<ListIndex>,
-    press: &P,
+    from: u64,
 ) -> Result<Vec<Arc<Change>>, NoMemory>
-    requires schema { ledger.now.schema ≡ P.schema }
-    requires begins { BeginsWith ledger.now.fed.list (P.list press.now) }
-    ensures all { IfOk result (λ changes. P.list press.now ++ entries_in changes.items ≡ ledger.now.fed.list) }
-    ensures sound { IfOk result (λ changes. Sound P.schema (P.list press.now ++ entries_in changes.items)) }
+    ensures all { (h : List Entry) → BeginsWith ledger.now.fed.list h → length h ≡ from → IfOk result (λ changes. h ++ entries_in changes.items ≡ ledger.now.fed.list) }
+    ensures sound { Sound ledger.now.schema ledger.now.fed.list }
 {
     let mut changes = Vec::new(alloc);
-    ledger.tail(press.handed(), ledger.len(), &mut changes)?;
+    ledger.tail(from, ledger.len(), &mut changes)?;
     Ok(changes)
-}
-
-// Reads the next piece of a feed and takes it, while another thread shows the changes; where no thread can be made, before they are shown.
-// Where there are none it starts no thread. Where memory is wanting to the press it may have some of them.
-pub(crate) fn read_beside<R: Threads + Wait + Sync, S: Source, P: Printer + Send>(
-    rt: &R,
-    ledger: &mut Follower<ListIndex>,
-    source: &mut S,
-    buffer: &mut [u8],
-    press: &mut P,
-    changes: Vec<Arc<Change>>,
-) -> Result<usize, FeedEnd>
-    requires some { 0 < length buffer.old }
-    requires fine { ledger.old.fed.fault ≡ None }
-    requires sound { Sound P.schema (P.list press.old ++ entries_in changes.items) }
-    requires seen { BeginsWith (P.list press.old) (P.published press.old) }
-    ensures takes { TakesNext (length buffer.old) (source_state S.Source source.old) (source_state S.Source source.new) ledger.old ledger.new result }
-    ensures beside { S.kept_by_read source.new ≡ S.kept_by_read source.old }
-    ensures begins { BeginsWith (P.list press.old ++ entries_in changes.items) (P.list press.new) }
-    ensures seen { BeginsWith (P.list press.new) (P.published press.new) }
-    ensures kept { BeginsWith (P.published press.new) (P.published press.old) }
-    ensures shown { result ≢ Err FeedEnd.NoMemory → P.published press.new ≡ P.list press.old ++ entries_in changes.items }
-{
-    if changes.is_empty() {
-        return match press.print(rt, changes) {
-            Ok(()) => read_piece(ledger, source, buffer),
-            Err(NoMemory) => Err(FeedEnd::NoMemory),
-        };
-    }
-    let mut changes = Some(changes);
-    let (shown, taken) = join_mut(
-        rt,
-        &mut || -> Result<(), NoMemory>
-            requires { IfSome changes (λ changes. Sound P.schema (P.list press.now ++ entries_in changes.items)) × BeginsWith (P.list press.now) (P.published press.now) }
-            ensures seen { BeginsWith (P.list press.exit.now) (P.published press.exit.now) }
-            ensures kept { BeginsWith (P.published press.exit.now) (P.published press.entry.now) }
-            ensures begins { IfSome changes.entry (λ changes. BeginsWith (P.list press.entry.now ++ entries_in changes.items) (P.list press.exit.now)) }
-            ensures shown { IfSome changes.entry (λ changes. OnOk result (P.published press.exit.now ≡ P.list press.entry.now ++ entries_in changes.items)) }
-        {
-            match changes.take() {
-                Some(changes) => press.print(rt, changes),
-                None => Ok(()),
-            }
-        },
-        &mut || -> Result<usize, FeedEnd>
-            requires { (0 < length buffer.now) × (ledger.now.fed.fault ≡ None) }
-            ensures takes { TakesNext (length buffer.entry.now) (source_state S.Source source.entry.now) (source_state S.Source source.exit.now) ledger.entry.now ledger.exit.now result }
-            ensures beside { S.kept_by_read source.exit.now ≡ S.kept_by_read source.entry.now }
-        { read_piece(ledger, source, buffer) },
-    );
-    match shown {
-        Ok(()) => taken,
-        Err(NoMemory) => Err(FeedEnd::NoMemory),
-    }
 }

@@ -239,7 +239,6 @@ fn run_beside<
     let mut jobs = Some(jobs);
     take_beside(
         rt,
-        alloc,
         &mut move || -> Result<Vec<WorkEnd<T, J, L>>, NoMemory>
             requires { IfSome jobs (λ jobs. (length jobs.items ≤ SEATS) × All (λ job. (job.worker ≤ SEATS) × IsNew (D.state door.now) job.count) jobs.items) }
             ensures { IfSome jobs.entry (λ jobs. IfOk result (λ ends. (length ends.items ≡ length jobs.items)
@@ -265,14 +264,7 @@ fn take_beside<
     A: Send,
     P: Printer + Send,
     S: Source,
->(
-    rt: &R,
-    alloc: Global,
-    work: &mut W,
-    feeder: &mut Feeder<P>,
-    source: &mut S,
-    over: &AtomicBool,
-) -> (A, FeedEnd)
+>(rt: &R, work: &mut W, feeder: &mut Feeder<P>, source: &mut S, over: &AtomicBool) -> (A, FeedEnd)
     requires work { W.pre work.old }
     requires feeder { (feeder.old ≡ new_feeder P.schema) × Follows [] feeder.old.took }
     ensures works { W.step work.old result.0 work.new }
@@ -290,7 +282,7 @@ fn take_beside<
             ensures shown { result ≢ FeedEnd.NoMemory → IsAllPublished feeder.exit.now }
             ensures within { TakesWithin (S.taken source.entry.now) (S.taken source.exit.now) }
             ensures beside { S.kept_by_read source.exit.now ≡ S.kept_by_read source.entry.now }
-        { take_feed(rt, alloc, feeder, source, over) },
+        { take_feed(rt, feeder, source, over) },
     )
 }
 
