@@ -57,19 +57,27 @@ pub struct HoldingGate {
     first: Progress,
     second: Progress,
     reads: Arc<AtomicU64>,
+    turns_more: u64,
     held: AtomicU64,
     limits_met: AtomicU64,
 }
 
 impl HoldingGate {
-    /// It sees the calls of the input in `reads`. `None` says that memory ran out.
-    pub fn make(alloc: Global, holds: &[Hold], reads: Arc<AtomicU64>) -> Option<HoldingGate> {
+    /// It sees the calls of the input in `reads`, and holds a worker so many turns longer than that takes. `None` says that memory ran
+    /// out.
+    pub fn make(
+        alloc: Global,
+        holds: &[Hold],
+        reads: Arc<AtomicU64>,
+        turns_more: u64,
+    ) -> Option<HoldingGate> {
         let holds = Vec::from_slice(alloc, holds).ok()?;
         Some(HoldingGate {
             holds,
             first: Progress::none(),
             second: Progress::none(),
             reads,
+            turns_more,
             held: AtomicU64::new(0),
             limits_met: AtomicU64::new(0),
         })
@@ -109,11 +117,22 @@ impl HoldingGate {
         self.held.fetch_add(1, Ordering::SeqCst);
         for _ in 0..TURNS {
             if self.is_over(hold) {
-                return;
+                return self.settle(hold);
             }
             thread::yield_now();
         }
         self.limits_met.fetch_add(1, Ordering::SeqCst);
+    }
+}
+
+impl HoldingGate {
+    // What was read takes a while until readers are shown it.
+    fn settle(&self, hold: &Hold) {
+        if let Awaited::Read(_) = hold.awaited {
+            for _ in 0..self.turns_more {
+                thread::yield_now();
+            }
+        }
     }
 }
 

@@ -29,7 +29,7 @@ pub struct InputRow<'a> {
 /// LINES` and `link PIECE write N: LINES` are the door's links, in order; `input PIECE: LINES` and `input PIECE read N: LINES` are what
 /// the input gives; `hold W.L until V.M come` holds worker W before line L until worker V has come to line M, with `answered` at the
 /// end until it has answered that, and `hold W.L until read N` until the input was asked N times; `may: OUTCOME` is an outcome that
-/// may be.
+/// may be, and `due: OUTCOME` the one that it comes to when it is served again.
 #[derive(Drop)]
 pub struct Row<'a> {
     pub words: &'a str,
@@ -44,6 +44,7 @@ pub struct Row<'a> {
     pub input: Option<InputRow<'a>>,
     pub holds: Vec<Hold>,
     pub outcomes: Vec<&'a str>,
+    pub due: Option<&'a str>,
 }
 
 impl<'a> Row<'a> {
@@ -59,6 +60,7 @@ impl<'a> Row<'a> {
             input: None,
             holds: Vec::new(alloc),
             outcomes: Vec::new(alloc),
+            due: None,
         }
     }
 
@@ -81,6 +83,7 @@ impl<'a> Row<'a> {
             "input" => self.add_input(read_link(rest, lines)?),
             "hold" => self.holds.push(read_hold(rest)?).ok(),
             "may" => self.outcomes.push(lines).ok(),
+            "due" => self.add_due(lines),
             _ => self.add_fault(word, rest.parse().ok()?),
         }
     }
@@ -91,6 +94,11 @@ impl<'a> Row<'a> {
             piece: link.piece,
             failing_read: link.failing_read,
         });
+        Some(())
+    }
+
+    fn add_due(&mut self, outcome: &'a str) -> Option<()> {
+        self.due = Some(outcome);
         Some(())
     }
 

@@ -9,6 +9,13 @@ use be_door::Metered;
 use be_server::Status;
 use std::alloc::Global;
 
+/// What came of a row, as it is printed, and whether it is the outcome that the row comes to, where it names one.
+#[derive(Drop)]
+pub struct Shown {
+    pub text: String,
+    pub is_due: bool,
+}
+
 /// What was written and what each link holds, or that it is one of the row's outcomes; the status; and how workers were held, where
 /// they are to be.
 pub fn shown<R: Copy>(
@@ -16,8 +23,12 @@ pub fn shown<R: Copy>(
     row: &Row<'_>,
     stage: &Stage<R>,
     status: &Status,
-) -> Option<String> {
+) -> Option<Shown> {
     let outcome = outcome(alloc, stage.out.bytes(), stage.door.kept())?;
+    let is_due = match row.due {
+        Some(due) => due == outcome.as_str(),
+        None => true,
+    };
     let mut out = String::new(alloc);
     if is_one_of(outcome.as_str(), row.outcomes.as_slice()) {
         out.push_str("one of these").ok()?;
@@ -28,7 +39,7 @@ pub fn shown<R: Copy>(
     if !row.holds.is_empty() {
         put_holds(alloc, &mut out, &stage.gate)?;
     }
-    Some(out)
+    Some(Shown { text: out, is_due })
 }
 
 fn is_one_of(outcome: &str, outcomes: &[&str]) -> bool {

@@ -29,13 +29,13 @@ pub struct Stage<R> {
 }
 
 /// All that a row's call is given.
-pub fn stage_of<R: Copy>(rt: R, alloc: Global, row: &Row<'_>) -> Option<Stage<R>> {
+pub fn stage_of<R: Copy>(rt: R, alloc: Global, row: &Row<'_>, turns_more: u64) -> Option<Stage<R>> {
     let words = words_of(alloc, row)?;
     let shelf = shelf_of(alloc, row)?;
     let reads = Arc::new(alloc, AtomicU64::new(0)).ok()?;
     let input = Input::of(alloc, row, Arc::try_clone(&reads).ok()?)?;
     let out = out_of(alloc, row)?;
-    let gate = HoldingGate::make(alloc, row.holds.as_slice(), reads)?;
+    let gate = HoldingGate::make(alloc, row.holds.as_slice(), reads, turns_more)?;
     let door = door_of(rt, alloc, row)?;
     Some(Stage {
         words,
