@@ -67,7 +67,7 @@ fn served_once<R: Threads + Wait + Sync + Copy>(
 ) -> Option<Shown> {
     let mut stage = stage::stage_of(rt, alloc, row, turns_more)?;
     let status = call(&rt, alloc, &mut stage);
-    shown::shown(alloc, row, &stage, &status)
+    shown::show(alloc, row, &stage, &status)
 }
 
 fn main(rt: HostRuntime) -> io::Result<()> {

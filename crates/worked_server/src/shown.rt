@@ -18,7 +18,7 @@ pub struct Shown {
 
 /// What was written and what each link holds, or that it is one of the row's outcomes; the status; and how workers were held, where
 /// they are to be.
-pub fn shown<R: Copy>(
+pub fn show<R: Copy>(
     alloc: Global,
     row: &Row<'_>,
     stage: &Stage<R>,
