@@ -158,7 +158,7 @@ what='Ctrl-C'
 echo '// more' >>crates/base/src/lib.rt
 : >"$NOTES.slow"
 : >"$NOTES"
-(set -m; tools/build >out.log 2>&1 & echo $! >pid; wait $!; echo $? >code) 2>/dev/null &
+(set -m; env --default-signal=INT tools/build >out.log 2>&1 & echo $! >pid; wait $!; echo $? >code) 2>/dev/null &
 for _ in $(seq 100); do [ -s "$NOTES" ] && break; sleep 0.1; done
 kill -INT "$(cat pid)"
 wait
