@@ -9,3 +9,4 @@ pub mod Kept
 mod HitIds
 mod InOrder
 mod TailChanges
+mod TextRuns

@@ -6,3 +6,4 @@ pub mod Edits
 pub mod Wanted
 pub mod Registers
 pub mod Hits
+pub mod Runs

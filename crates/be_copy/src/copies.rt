@@ -1,6 +1,6 @@
 //! A list of changes and an index of what is live in it.
 
-ghost use Rattle.std.specs.Prelude.{◌≡◌, ◌<◌, ◌++◌, ◌∷◌, [], true, false, length, find, option_map, IfSome, OnOk, OnErr, IfOk, if◌then◌else◌};
+ghost use Rattle.std.specs.Prelude.{◌≡◌, ◌<◌, ◌≤◌, ◌++◌, ◌∷◌, [], true, false, length, map, find, option_map, IfSome, OnOk, OnErr, IfOk, if◌then◌else◌};
 ghost use Rattle.std.specs.Arc.{arc_value};
 ghost use Rattle.std.specs.Option.{IfNone};
 ghost use Rattle.be_model.specs.declared.paths.StepDone.TheVariants.{Done, NotHere};
@@ -12,11 +12,13 @@ ghost use Rattle.be_change.specs.History.{live, after_entry, has_name, is_live_n
 ghost use Rattle.be_change.specs.Walk.{HasNameAt};
 ghost use Rattle.be_change.specs.Sound.{all_lie};
 ghost use Rattle.be_copy.specs.Edits.{fits, with_entry};
+ghost use Rattle.be_copy.specs.Hits.{spaced_of, spaced_at};
 ghost use Rattle.be_copy.specs.Registers.{IsKept, IsRegister};
 
 use crate::edits::Edit;
 use crate::live::{append_wanted, first, put_row, remove_wanted};
 use crate::register::Register;
+use crate::spaced_names::SpacedNames;
 use crate::wanted::Wanted;
 use be_base::{Name, NoMemory, SessionNo};
 use be_change::ChangeLog;
@@ -32,6 +34,7 @@ pub struct Copy2<I: Index> {
     log: ChangeLog,
     index: I,
     register: Register,
+    names: SpacedNames,
 }
 
 impl<I: Index> Model for Copy2<I> {
@@ -39,11 +42,13 @@ impl<I: Index> Model for Copy2<I> {
 
     ghost Value = { Copied I };
 
+    ghost use Rattle.std.specs.Prelude.{◌≡◌, map};
+    ghost use Rattle.be_copy.specs.Hits.{spaced_of};
     ghost use Rattle.be_copy.specs.Registers.{IsKept};
 
     ghost view = { λ c. record { list = c.log.list; index = c.index } };
 
-    ghost invariant = { λ c. IsKept (I.schema c.index) c.log.list (I.rows c.index) c.register };
+    ghost invariant = { λ c. IsKept (I.schema c.index) c.log.list (I.rows c.index) c.register × (c.names.texts ≡ map spaced_of c.log.list) };
 }
 
 impl<I: Index> Copy2<I> {
@@ -59,6 +64,7 @@ impl<I: Index> Copy2<I> {
             log: ChangeLog::make(alloc),
             index,
             register: Register::make(alloc),
+            names: SpacedNames::make(alloc),
         }
     }
 
@@ -74,6 +80,13 @@ impl<I: Index> Copy2<I> {
         ensures rows { I.rows self.now.index ≡ live self.now.list }
     {
         &self.index
+    }
+
+    // The name of the row at a place, after a space, or no text where none is made there.
+    pub(crate) fn spaced_name(&self, id: u64) -> &[u8]
+        ensures { result.now ≡ spaced_at self.now.list id }
+    {
+        self.names.at(id)
     }
 
     /// The live row of a name: of several, which no well formed list has, that of the lowest id.
@@ -125,7 +138,13 @@ impl<I: Index> Copy2<I> {
         match edit {
             Edit::Reshape(step) => Ok(self.index.step(step)),
             Edit::Change(change) => {
-                take_in(&mut self.log, &mut self.index, &mut self.register, change)
+                take_in(
+                    &mut self.log,
+                    &mut self.index,
+                    &mut self.register,
+                    &mut self.names,
+                    change,
+                )
             }
         }
     }
@@ -136,10 +155,13 @@ fn take_in<I: Index>(
     log: &mut ChangeLog,
     index: &mut I,
     register: &mut Register,
+    names: &mut SpacedNames,
     change: &Arc<Change>,
 ) -> Result<StepDone, NoMemory>
-    requires { IsKept (I.schema index.old) log.old.list (I.rows index.old) register.old }
+    requires kept { IsKept (I.schema index.old) log.old.list (I.rows index.old) register.old }
+    requires names { names.old.texts ≡ map spaced_of log.old.list }
     ensures kept { IsKept (I.schema index.new) log.new.list (I.rows index.new) register.new }
+    ensures names { names.new.texts ≡ map spaced_of log.new.list }
     ensures answer { IfOk result (λ done. done ≡ (if fits (I.schema index.old) log.old.list (entry_of (arc_value change.now)) then Done else NotHere)) }
     ensures list { OnOk result (log.new.list ≡ with_entry (I.schema index.old) log.old.list (entry_of (arc_value change.now))) }
     ensures refused { OnErr result (log.new.list ≡ log.old.list) }
@@ -152,9 +174,10 @@ fn take_in<I: Index>(
         return Ok(StepDone::NotHere);
     }
     log.make_room(change)?;
+    names.make_room(log.spare(), change)?;
     let kept = Arc::try_clone(change)?;
     change_rows(log, index, register, change)?;
-    append(log, kept);
+    append(log, names, kept);
     Ok(StepDone::Done)
 }
 
@@ -223,11 +246,15 @@ fn add_row<I: Index>(
 }
 
 // Puts a change last, for which there is room.
-fn append(log: &mut ChangeLog, change: Arc<Change>)
+fn append(log: &mut ChangeLog, names: &mut SpacedNames, change: Arc<Change>)
     requires room { 0 < log.old.spare }
     requires id { HasIdAt (length log.old.list) (entry_of (arc_value change)) }
-    ensures { log.new.list ≡ log.old.list ++ entry_of (arc_value change) ∷ [] }
+    requires places { 0 < names.old.places }
+    requires bytes { length (spaced_of (entry_of (arc_value change))) ≤ names.old.bytes }
+    ensures list { log.new.list ≡ log.old.list ++ entry_of (arc_value change) ∷ [] }
+    ensures names { names.new.texts ≡ names.old.texts ++ spaced_of (entry_of (arc_value change)) ∷ [] }
 {
+    names.put(&change);
     match log.push(change) {
         Ok(()) => {}
         Err(_) => unreachable!(),

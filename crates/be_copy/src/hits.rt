@@ -3,16 +3,15 @@
 ghost use Rattle.std.specs.Prelude.{◌≡◌, ◌<◌, ◌++◌, [], true, length, OnOk, OnErr, IfOk};
 ghost use Rattle.be_model.specs.Bounds.{IsWithinBound};
 ghost use Rattle.be_model.specs.Lies.{event_lies};
-ghost use Rattle.be_model.specs.Matching.{FindsSome};
+ghost use Rattle.be_model.specs.Matching.{FindsSome, satisfied};
 ghost use Rattle.be_change.specs.History.{hit_rows, hits};
 ghost use Rattle.be_change.specs.Walk.{live_rows};
 ghost use Rattle.be_index.specs.Ids.{ids_of};
 ghost use Rattle.be_index.specs.Names.{spaced};
-ghost use Rattle.be_copy.specs.Hits.{name_at, names_at};
+ghost use Rattle.be_copy.specs.Hits.{all_spaced_at};
 
 use crate::copies::Copy2;
-use be_base::{Id, NoMemory};
-use be_change::ChangeLog;
+use be_base::NoMemory;
 use be_index::{Ids, Index};
 use be_model::{Cost, Event};
 
@@ -31,13 +30,25 @@ impl<I: Index> Copy2<I> {
     {
         names.clear();
         let cost = self.hit_ids(event, ids)?;
-        match push_names(self.log(), ids.ids(), names) {
+        match self.push_names(ids.ids(), names) {
             Ok(()) => Ok(cost),
             Err(NoMemory) => {
                 names.clear();
                 Err(NoMemory)
             }
         }
+    }
+
+    /// How many live rows the event satisfies, by one search, whose ids are left in no order.
+    pub fn count_hits(&self, event: &Event, ids: &mut Ids) -> Result<u64, NoMemory>
+        requires { event_lies (I.schema self.now.index) event.now ≡ true }
+        ensures count { IfOk result (λ n. n ≡ length (satisfied event.now (live_rows self.now.list))) }
+        // It is refused only where there is something to find.
+        ensures some { OnErr result (FindsSome event.now (live_rows self.now.list)) }
+    {
+        ids.clear();
+        self.index().find(event, ids)?;
+        Ok(ids.ids().len() as u64)
     }
 
     // The ids of the live rows that the event satisfies, by rising id.
@@ -56,26 +67,15 @@ impl<I: Index> Copy2<I> {
         ids.sort();
         Ok(cost)
     }
-}
 
-// Puts the names of the rows at these places last, each after a space.
-fn push_names(log: &ChangeLog, ids: &[u64], names: &mut Vec<u8>) -> Result<(), NoMemory>
-    ensures put { OnOk result (names.new.items ≡ names.old.items ++ spaced (names_at log.now.list ids.now)) }
-    ensures some { OnErr result (0 < length ids.now) }
-{
-    for id in ids {
-        names.extend_from_slice(b" ")?;
-        names.extend_from_slice(name_at(log, *id))?;
-    }
-    Ok(())
-}
-
-// The name of the row at a place, or no text where none is there.
-fn name_at(log: &ChangeLog, id: u64) -> &[u8]
-    ensures { result.now ≡ name_at log.now.list id }
-{
-    match log.row(Id(id)) {
-        Some(row) => row.name.bytes(),
-        None => &[],
+    // Puts the names of the rows at these places last, each after a space.
+    fn push_names(&self, ids: &[u64], names: &mut Vec<u8>) -> Result<(), NoMemory>
+        ensures put { OnOk result (names.new.items ≡ names.old.items ++ all_spaced_at self.now.list ids.now) }
+        ensures some { OnErr result (0 < length ids.now) }
+    {
+        for id in ids {
+            names.extend_from_slice(self.spaced_name(*id))?;
+        }
+        Ok(())
     }
 }

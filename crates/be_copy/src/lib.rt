@@ -15,6 +15,7 @@ mod marks;
 mod places;
 mod reads;
 mod register;
+mod spaced_names;
 mod tails;
 mod wanted;
 

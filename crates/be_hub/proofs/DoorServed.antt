@@ -6,13 +6,11 @@ use Rattle.std.proofs.lemmas.List.{length-map, nil_from_length}
 use Rattle.std.proofs.lemmas.List.Concat.{length-flat_map, flat_map-cons}
 use Rattle.std.proofs.lemmas.List.Elements.{All-contains, All-map}
 use Rattle.std.proofs.lemmas.List.Folds.{list_any_none, sum_by-replicate}
-use Rattle.std.proofs.lemmas.List.FromFn.{length-range_with_len}
 use Rattle.std.proofs.lemmas.List.Sums.{sum_by-cons}
 use Rattle.std.proofs.lemmas.Option.{slice_get-get_or, slice_get_within}
 use Rattle.atomic_table.specs.Seated.{TableId}
 use Rattle.be_base.specs.Counts.{raised, HasRisen}
 use Rattle.be_base.specs.Lists.{BeginsWith}
-use Rattle.be_base.specs.declared.limits.TheConstants.{SEATS}
 use Rattle.be_base.specs.declared.names.SessionNo.{SessionNo}
 use Rattle.be_io.specs.Outside.{LinkState}
 use Rattle.be_model.specs.Letters.{PlainLetter}
@@ -33,50 +31,24 @@ use Rattle.be_door.specs.declared.sums.Sums.{Sums}
 use Rattle.be_protocol.specs.declared.ends.SessionEnd.{SessionEnd}
 use Rattle.be_hub.specs.Closing.{KeepsAll, AreInOrder}
 use Rattle.be_hub.specs.Files.{is_split_end}
-use Rattle.be_hub.specs.Links.{MayStart, session_at, IsCounted, IsOfLink, SeatVisit, WorkerServed}
+use Rattle.be_hub.specs.Links.{session_at, IsCounted, IsOfLink, SeatVisit, WorkerServed}
 use Rattle.be_hub.specs.Posted.{LetterBox, taken_for, StandAmong, WasBox}
 use Rattle.be_hub.specs.Serving.{Told, ServedLink, IsServedLink, AreApart, Worker, TakeTurns, HasLetters, session_and_link, told_of, AreKept, LinksAreServed}
 use Rattle.be_hub.specs.Settling.{IsUnbroken, CountsSplits}
-use Rattle.be_hub.proofs.Ends.{there, at_its_place}
+use Rattle.be_hub.proofs.Ends.{there}
 use Rattle.be_hub.proofs.Pairs.{get_map, one_at, map_at}
 use Rattle.be_hub.proofs.Choices.{AreChosen, choose, maps_same, flat_maps_same, sums_alike}
 use Rattle.be_hub.proofs.DoorCounted.{same_number, sums_same, some_of, any_holds, counted_in}
 use Rattle.be_hub.proofs.LinksLegal.{told_at, shut_agrees, none_shut, legal_link}
-use Rattle.be_hub.proofs.LinksPosted.{notes_for, taken_is, given_among, put_by, workers_of, boxes_are, links_are, worker_at}
+use Rattle.be_hub.proofs.LinksPosted.{ServedWithBoxes, notes_for, taken_is, given_among, put_by, workers_of, boxes_are, links_are, worker_at}
 use Rattle.be_hub.proofs.Places.{all_from_places, any_at, at_of_all, flat_differs, flat_has, in_flat, EachDiffers}
 use Rattle.be_hub.proofs.Posted.{IsOfFound, all_boxes, seat_box}
 use Rattle.be_hub.proofs.FilesClosed.{seat_at, there_mapped}
-use Rattle.be_hub.proofs.Turns.{IsOfTurn, take_turns}
+use Rattle.be_hub.proofs.Turns.{served_link, of_visit, take_turns}
 use Rattle.be_hub.proofs.Shuts.{Stays, same_test, none_at, stays_on}
 
 abbrev pair : ℕ → LinkState → ℕ × LinkState
 pair a x = (a, x)
-
--- a visit as what was served, whose replies tell this
-abbrev pub served_link : Told → SeatVisit → ServedLink
-served_link told v = record {
-  session = v.entered.session;
-  known = length v.entered.glass.known;
-  seen = length v.left.glass.known;
-  link = v.link;
-  end = v.end;
-  told = told;
-}
-
-of_visit : (v : SeatVisit) (x : ServedLink) (told : Told) → v.left.session ≡ v.entered.session → served_link told v ≡ x → IsOfTurn v x
-of_visit v x told stays is = record {
-  stays = stays;
-  session = ap (λ (l : ServedLink). l.session) (sym is);
-  known = ap (λ (l : ServedLink). l.known) (sym is);
-  seen = ap (λ (l : ServedLink). l.seen) (sym is);
-}
-
-module _ {L : Type 0} (told : L → LinkState) (schema : Attributes) (found : BoxId → Mailbox → Type 0) (s : Attributes) (boxes : List TableId) (opening h : List Entry) (shuts : Bool) (links : ℕ) (keeps : Bool) where
-  -- the links were served, and the workers' boxes are the mailboxes
-  abbrev pub ServedWithBoxes : Sums → List (SessionNo × L) → Type 0
-  ServedWithBoxes sums kept =
-      (served : LinksAreServed told s opening h shuts (length boxes) links sums keeps kept) × (passes : List Passes) × AreAll boxes passes
-      × ((i : ℕ) (worker : Worker) → slice_get served.workers i ≡ Some worker → WasBox schema found boxes passes i worker.box)
 
 module _ {L : Type 0} (told : L → LinkState) {E : Type 0} (seat_in : E → SeatState) (count_in : E → CountState L) (ends_in : E → List SessionEnd) (calls_in asked_in between_in : E → ℕ) (s : Attributes) (boxes : List TableId) (opening : List Entry) (door : DoorState L)
     (ends : List E) (seats : List SeatState) (first : seats ≡ map (first_seat opening boxes) (range_with_len 0 (length boxes))) (count : length ends ≡ length boxes)
@@ -424,10 +396,3 @@ module _ {L : Type 0} (told : L → LinkState) {E : Type 0} (seat_in : E → Sea
 
             plus_none : (n : ℕ) → 0 < 0 + n → 0 < n
             plus_none n some = omega (arith, some)
-
--- the seats at the beginning may start
-pub may_start : (opening : List Entry) (boxes : List TableId) (seats : List SeatState) → seats ≡ map (first_seat opening boxes) (range_with_len 0 (length boxes)) → length boxes ≤ SEATS → All MayStart seats
-may_start opening boxes seats is few = all_from_places MayStart seats (λ i x at.
-    let k = get_map (first_seat opening boxes) (range_with_len 0 (length boxes)) i x (subst (λ l. slice_get l i ≡ Some x) is at) in
-    let within = slice_get_within (range_with_len 0 (length boxes)) i k.0 k.1 in
-    subst MayStart k.2 (refl, omega (arith, at_its_place (length boxes) i k.0 k.1, within, length-range_with_len 0 (length boxes), few)))

@@ -1,8 +1,11 @@
 -- A worker begins, and draws links.
-use Rattle.std.proofs.Common.{◌≡◌, ℕ, zero, suc, ◌+◌, ◌-◌, ◌*◌, ◌<◌, ◌≤◌, ◌==◌, Bool, true, false, IfSome, Some, List, [], length, Result, Err, Option, refl, sym, ap, subst, arith}
+use Rattle.std.proofs.Common.{◌≡◌, ℕ, zero, suc, ◌+◌, ◌-◌, ◌*◌, ◌<◌, ◌≤◌, ◌==◌, Bool, true, false, IfSome, Some, List, [], length, map, slice_get, Result, Err, Option, refl, sym, ap, subst, arith}
+use Rattle.std.specs.List.{All, range_with_len}
 use Rattle.std.proofs.lemmas.List.{append-nil}
 use Rattle.std.proofs.lemmas.List.Elements.{All-nil}
+use Rattle.std.proofs.lemmas.List.FromFn.{length-range_with_len}
 use Rattle.std.proofs.lemmas.Nat.{mul-le}
+use Rattle.std.proofs.lemmas.Option.{slice_get_within}
 use Rattle.atomic_table.specs.Seated.{TableId}
 use Rattle.be_base.specs.Counts.{raised, HasRisen}
 use Rattle.be_base.specs.declared.limits.TheConstants.{LINKS, SEATS}
@@ -11,14 +14,18 @@ use Rattle.be_io.specs.Outside.{LinkState}
 use Rattle.be_io.specs.declared.faults.AcceptFault.{AcceptFault}
 use Rattle.be_io.specs.declared.faults.AcceptFault.TheVariants as accept
 use Rattle.be_model.specs.Schemas.{Attributes}
-use Rattle.be_desk.specs.Seats.{SeatState}
+use Rattle.be_change.specs.History.{Entry}
+use Rattle.be_desk.specs.Seats.{SeatState, first_seat}
 use Rattle.be_desk.specs.declared.desk.TheConstants.{SESSIONS_END}
 use Rattle.be_door.specs.Counts.{CountState, sums_of, new_count, after_given, after_failed, after_refused, after_end}
 use Rattle.be_protocol.specs.declared.ends.SessionEnd.{SessionEnd}
 use Rattle.be_hub.specs.Files.{is_split_end}
-use Rattle.be_hub.specs.Links.{session_at, IsCounted, IsOfLink, LinksServed}
+use Rattle.be_hub.specs.Links.{MayStart, session_at, IsCounted, IsOfLink, LinksServed}
 use Rattle.be_hub.specs.declared.links.TheConstants.{FIRST_END}
+use Rattle.be_hub.proofs.Ends.{at_its_place}
 use Rattle.be_hub.proofs.LinksServed.{accepted}
+use Rattle.be_hub.proofs.Pairs.{get_map}
+use Rattle.be_hub.proofs.Places.{all_from_places}
 
 module _ {L : Type 0} (told : L → LinkState) (s : Attributes) (boxes : List TableId) where
   -- nothing was served yet
@@ -107,3 +114,10 @@ some_said {X} A o x is p = subst (λ (y : Option X). IfSome y (λ _. A)) is p
 pub some_from : (n : ℕ) → (n == 0) ≡ false → 0 < n
 some_from zero is = absurd cc
 some_from (suc n) is = omega arith
+
+-- the seats at the beginning may start
+pub may_start : (opening : List Entry) (boxes : List TableId) (seats : List SeatState) → seats ≡ map (first_seat opening boxes) (range_with_len 0 (length boxes)) → length boxes ≤ SEATS → All MayStart seats
+may_start opening boxes seats is few = all_from_places MayStart seats (λ i x at.
+    let k = get_map (first_seat opening boxes) (range_with_len 0 (length boxes)) i x (subst (λ l. slice_get l i ≡ Some x) is at) in
+    let within = slice_get_within (range_with_len 0 (length boxes)) i k.0 k.1 in
+    subst MayStart k.2 (refl, omega (arith, at_its_place (length boxes) i k.0 k.1, within, length-range_with_len 0 (length boxes), few)))

@@ -1,24 +1,38 @@
 -- The letters of the links of all workers, and the workers' boxes.
-use Rattle.std.proofs.Common.{◌≡◌, ℕ, zero, suc, ◌+◌, ◌-◌, ◌==◌, filter, List, [], ◌∷◌, ◌++◌, length, map, Some, slice_get, refl, sym, ap, ◌∙◌, arith, append_assoc}
+use Rattle.std.proofs.Common.{◌≡◌, ℕ, zero, suc, ◌+◌, ◌-◌, ◌==◌, filter, Bool, List, [], ◌∷◌, ◌++◌, length, map, Some, slice_get, refl, sym, ap, ◌∙◌, arith, append_assoc}
 use Rattle.std.specs.List.{flat_map}
 use Rattle.std.proofs.lemmas.List.{map-append}
 use Rattle.std.proofs.lemmas.List.Concat.{flat_map-cons}
 use Rattle.std.proofs.lemmas.List.Elements.{filter-append}
 use Rattle.atomic_table.specs.Seated.{TableId}
+use Rattle.be_base.specs.declared.names.SessionNo.{SessionNo}
+use Rattle.be_io.specs.Outside.{LinkState}
 use Rattle.be_model.specs.Letters.{PlainLetter}
 use Rattle.be_model.specs.Schemas.{Attributes}
+use Rattle.be_change.specs.History.{Entry}
 use Rattle.be_change.specs.Requests.{Note}
 use Rattle.be_mail.specs.Letters.{Posting, letter_in}
+use Rattle.be_mail.specs.Mailbox.{BoxId, Mailbox}
+use Rattle.be_mail.specs.Passes.{Passes}
+use Rattle.be_mail.specs.Settled.{AreAll}
 use Rattle.be_board.specs.Letters.{note_of}
 use Rattle.be_desk.specs.Boards.{put_count}
 use Rattle.be_desk.specs.Seats.{SeatState}
+use Rattle.be_door.specs.declared.sums.Sums.{Sums}
 use Rattle.be_hub.specs.Links.{SeatVisit, LinkServed}
-use Rattle.be_hub.specs.Posted.{Mailed, note_in, LetterBox, taken_for, StandAmong, mailed}
-use Rattle.be_hub.specs.Serving.{ServedLink, Worker, boxes_of}
+use Rattle.be_hub.specs.Posted.{Mailed, note_in, LetterBox, taken_for, StandAmong, WasBox, mailed}
+use Rattle.be_hub.specs.Serving.{ServedLink, Worker, LinksAreServed, boxes_of}
 use Rattle.be_hub.specs.Settling.{IsUnbroken}
 use Rattle.be_hub.proofs.LinksLegal.{told_at, tells_at}
 use Rattle.be_hub.proofs.Places.{one_some}
 use Rattle.be_hub.proofs.Posted.{noted}
+
+module _ {L : Type 0} (told : L → LinkState) (schema : Attributes) (found : BoxId → Mailbox → Type 0) (s : Attributes) (boxes : List TableId) (opening h : List Entry) (shuts : Bool) (links : ℕ) (keeps : Bool) where
+  -- the links were served, and the workers' boxes are the mailboxes
+  abbrev pub ServedWithBoxes : Sums → List (SessionNo × L) → Type 0
+  ServedWithBoxes sums kept =
+      (served : LinksAreServed told s opening h shuts (length boxes) links sums keeps kept) × (passes : List Passes) × AreAll boxes passes
+      × ((i : ℕ) (worker : Worker) → slice_get served.workers i ≡ Some worker → WasBox schema found boxes passes i worker.box)
 
 -- what session k reads of these letters
 abbrev pub notes_for : ℕ → List PlainLetter → List Note

@@ -3,7 +3,7 @@ use Rattle.std.proofs.Common.{◌≡◌, ℕ, suc, ◌+◌, ◌≤◌, List, [],
 use Rattle.be_model.specs.Schemas.{Attributes}
 use Rattle.be_desk.specs.Seats.{SeatState}
 use Rattle.be_hub.specs.Links.{SeatVisit, FollowLeft, FollowOn}
-use Rattle.be_hub.specs.Serving.{ServedLink, TakeTurns}
+use Rattle.be_hub.specs.Serving.{Told, ServedLink, TakeTurns}
 use Rattle.be_hub.proofs.Entered.{number_is, glass_same}
 
 -- what was served in a visit
@@ -12,6 +12,26 @@ pub record IsOfTurn (v : SeatVisit) (x : ServedLink) : Type 0 where
   pub session : x.session ≡ v.entered.session
   pub known : x.known ≡ length v.entered.glass.known
   pub seen : x.seen ≡ length v.left.glass.known
+
+-- a visit as what was served, whose replies tell this
+abbrev pub served_link : Told → SeatVisit → ServedLink
+served_link told v = record {
+  session = v.entered.session;
+  known = length v.entered.glass.known;
+  seen = length v.left.glass.known;
+  link = v.link;
+  end = v.end;
+  told = told;
+}
+
+-- that is what was served in the visit
+pub of_visit : (v : SeatVisit) (x : ServedLink) (told : Told) → v.left.session ≡ v.entered.session → served_link told v ≡ x → IsOfTurn v x
+of_visit v x told stays is = record {
+  stays = stays;
+  session = ap (λ (l : ServedLink). l.session) (sym is);
+  known = ap (λ (l : ServedLink). l.known) (sym is);
+  seen = ap (λ (l : ServedLink). l.seen) (sym is);
+}
 
 -- each link is the one of the visit at its place
 abbrev pub AreOfTurns : List SeatVisit → List ServedLink → Type 0

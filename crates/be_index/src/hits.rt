@@ -2,9 +2,10 @@
 
 ghost use Rattle.std.specs.Prelude.{◌≡◌, ◌<◌, ◌≤◌, ◌∷◌, [], length, take, OnOk, OnErr};
 ghost use Rattle.std.specs.Arc.{arc_value};
+ghost use Rattle.be_model.specs.Rows.{id_of};
 ghost use Rattle.be_index.specs.Puts.{Adds, KeepsPlaces};
 
-use be_base::NoMemory;
+use be_base::{Id, NoMemory};
 use be_model::{Found, Row};
 use std::sync::Arc;
 
@@ -20,8 +21,9 @@ pub trait Hits {
 
     ghost held: { Self → Held Self.Item };
 
-    /// Puts a row last.
-    fn put(&mut self, row: &Arc<Row>) -> Result<(), NoMemory>
+    /// Puts a row last. It is given with its id, so that where the id is all that is kept the row isn't looked at.
+    fn put(&mut self, id: Id, row: &Arc<Row>) -> Result<(), NoMemory>
+        requires { id.0 ≡ id_of (arc_value row.now) }
         ensures put { OnOk result (Adds (held self.old) (held self.new) (item_of (arc_value row.now) ∷ [])) }
         ensures refused { OnErr result ((held self.old).sure < 1) }
         ensures same { OnErr result ((held self.new).items ≡ (held self.old).items) }
@@ -48,7 +50,7 @@ impl Hits for Found {
 
     ghost held = { λ f. record { items = f.rows; sure = 0; places = length f.rows + f.spare } };
 
-    fn put(&mut self, row: &Arc<Row>) -> Result<(), NoMemory> {
+    fn put(&mut self, _id: Id, row: &Arc<Row>) -> Result<(), NoMemory> {
         self.reserve(1)?;
         self.push_again(row)
     }

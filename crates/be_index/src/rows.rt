@@ -208,7 +208,7 @@ fn push_wanted<C: Hits>(row: &Arc<Row>, wanted: Wanted<'_>, found: &mut C) -> Re
     ensures grown { Grows (C.held found.old) (C.held found.new) }
 {
     if wanted.takes(row) {
-        found.put(row)?;
+        found.put(row.id, row)?;
     }
     Ok(())
 }

@@ -208,7 +208,7 @@ fn test<C: Hits>(
     ensures grown { Grows (C.held found.old) (C.held found.new) }
 {
     if sure || leaf.is_met(place, e) {
-        found.put(row)?;
+        found.put(leaf.id(place), row)?;
     }
     Ok(())
 }

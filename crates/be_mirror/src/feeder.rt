@@ -13,7 +13,7 @@ ghost use Rattle.be_mirror.specs.Feeders.{new_feeder, IsAllPublished};
 ghost use Rattle.be_mirror.specs.Serving.{Feeds};
 
 use crate::bell::Bell;
-use crate::feeding::{FeedEnd, take_pieces};
+use crate::feeding::{FeedEnd, give_pieces};
 use crate::printing::{Printer, changes_from};
 use crate::ring::{Giver, InOrder, Taker, print_taken};
 use be_base::NoMemory;
@@ -170,7 +170,12 @@ fn take_and_print<R: Threads + Wait + Sync, S: Source, P: Printer + Send>(
             requires { (received taker.now ≡ []) × (P.list press.now ≡ []) × (P.published press.now ≡ []) }
             ensures taken { SameConsumer taker.entry.now taker.exit.now × BeginsWith (entries_in (received taker.exit.now)) (P.list press.exit.now) }
             ensures seen { BeginsWith (P.list press.exit.now) (P.published press.exit.now) }
-        { print_taken(rt, alloc, press, taker, bell) },
+        {
+            bell.begin();
+            let printed = print_taken(rt, alloc, press, taker, bell);
+            bell.close(rt);
+            printed
+        },
         alloc,
         ledger,
         giver,
@@ -214,6 +219,11 @@ fn take_beside<
             ensures given { SameProducer giver.entry.now giver.exit.now × (ledger.exit.now.schema ≡ P.schema) × BeginsWith ledger.exit.now.fed.list (entries_in (sent giver.exit.now)) }
             ensures within { TakesWithin (S.taken source.entry.now) (S.taken source.exit.now) }
             ensures beside { S.kept_by_read source.exit.now ≡ S.kept_by_read source.entry.now }
-        { take_pieces(rt, alloc, ledger, giver, source, over, bell) },
+        {
+            bell.await_taker();
+            let end = give_pieces(rt, alloc, ledger, giver, source, over, bell);
+            bell.close(rt);
+            end
+        },
     )
 }

@@ -62,31 +62,8 @@ pub(crate) fn take_feed<P: Printer + Send, S: Source, R: Threads + Wait + Sync>(
     }
 }
 
-// Takes a feed from the input, and puts its changes into the ring, but those of the last piece. Then it closes the bell.
-pub(crate) fn take_pieces<P: Printer, S: Source, R: Wait>(
-    rt: &R,
-    alloc: Global,
-    ledger: &mut Follower<ListIndex>,
-    giver: &mut Giver<P>,
-    source: &mut S,
-    over: &AtomicBool,
-    bell: &Bell,
-) -> FeedEnd
-    requires new { (ledger.old ≡ new_follower P.schema) × Follows [] ledger.old }
-    requires empty { sent giver.old ≡ [] }
-    ensures feeds { result ≢ FeedEnd.NoMemory → Feeds P.schema (source_state S.Source source.old) (source_state S.Source source.new) result ledger.new.fed }
-    ensures given { SameProducer giver.old giver.new × (ledger.new.schema ≡ P.schema) × BeginsWith ledger.new.fed.list (entries_in (sent giver.new)) }
-    ensures within { TakesWithin (S.taken source.old) (S.taken source.new) }
-    ensures beside { S.kept_by_read source.new ≡ S.kept_by_read source.old }
-{
-    bell.await_taker();
-    let end = give_pieces(rt, alloc, ledger, giver, source, over, bell);
-    bell.close(rt);
-    end
-}
-
-// The same, without the bell's close.
-fn give_pieces<P: Printer, S: Source, R: Wait>(
+// Takes a feed from the input, and puts its changes into the ring, but those of the last piece.
+pub(crate) fn give_pieces<P: Printer, S: Source, R: Wait>(
     rt: &R,
     alloc: Global,
     ledger: &mut Follower<ListIndex>,

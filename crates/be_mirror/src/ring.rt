@@ -141,28 +141,6 @@ pub(crate) fn print_taken<P: Printer, R: Wait>(
     ensures kept { BeginsWith (P.published press.new) (P.published press.old) }
     ensures shown { OnOk result (P.published press.new ≡ entries_in (received taker.new)) }
 {
-    bell.begin();
-    let printed = print_batches(rt, alloc, press, taker, bell);
-    bell.close(rt);
-    printed
-}
-
-fn print_batches<P: Printer, R: Wait>(
-    rt: &R,
-    alloc: Global,
-    press: &mut P,
-    taker: &mut Taker<P>,
-    bell: &Bell,
-) -> Result<(), NoMemory>
-    requires sound { Sound P.schema (entries_in (received taker.old)) }
-    requires list { P.list press.old ≡ entries_in (received taker.old) }
-    requires seen { BeginsWith (P.list press.old) (P.published press.old) }
-    ensures ring { SameConsumer taker.old taker.new }
-    ensures begins { BeginsWith (entries_in (received taker.new)) (P.list press.new) }
-    ensures seen { BeginsWith (P.list press.new) (P.published press.new) }
-    ensures kept { BeginsWith (P.published press.new) (P.published press.old) }
-    ensures shown { OnOk result (P.published press.new ≡ entries_in (received taker.new)) }
-{
     let mut is_closed = false;
     for _ in rt.forever() {
         let heard = bell.heard(rt);

@@ -15,15 +15,15 @@ ghost use Rattle.be_board.specs.Word.{own_in};
 
 use be_base::{Name, NoMemory};
 use be_board::{Answer, Board, LocalBoard};
-use be_index::Index;
-use be_model::{Conj, Cost, Event, Found};
+use be_index::{Ids, Index};
+use be_model::{Conj, Cost, Event};
 use std::alloc::Global;
 
-/// A board, and room for what an event finds among its rows. All that a generated run asks of its board stands here.
+/// A board, and room for the ids of what an event finds among its rows. All that a generated run asks of its board stands here.
 #[derive(Drop)]
 pub struct CountedBoard<I: Index> {
     pub board: LocalBoard<I>,
-    found: Found,
+    ids: Ids,
 }
 
 impl<I: Index> CountedBoard<I> {
@@ -36,7 +36,7 @@ impl<I: Index> CountedBoard<I> {
     {
         Ok(CountedBoard {
             board: LocalBoard::make(alloc, index)?,
-            found: Found::make(alloc),
+            ids: Ids::make(alloc),
         })
     }
 
@@ -64,10 +64,7 @@ impl<I: Index> CountedBoard<I> {
         ensures list { self.new.board.list ≡ self.old.board.list }
         ensures schema { I.schema self.new.board.index ≡ I.schema self.old.board.index }
     {
-        match self.board.find(event, &mut self.found) {
-            Ok(_) => Ok(self.found.len() as u64),
-            Err(_) => Err(NoMemory),
-        }
+        self.board.count_hits(event, &mut self.ids)
     }
 
     /// What a search for the event costs.

@@ -30,16 +30,16 @@ IsSound (Some b) = b.exact ≡ true → is_sound b.ends ≡ true
 below_from : (x : ℤ) → least <ℤ x → least ≤ℤ (x -ℤ pos 1)
 below_from x l = omega (arith, ints)
 
-below_to : (x : ℤ) → x <ℤ greatest → (x -ℤ pos 1) ≤ℤ greatest
+pub below_to : (x : ℤ) → x <ℤ greatest → (x -ℤ pos 1) ≤ℤ greatest
 below_to x h = omega (arith, ints)
 
 above_to : (x : ℤ) → x <ℤ greatest → (x +ℤ pos 1) ≤ℤ greatest
 above_to x h = omega (arith, ints)
 
-less_eq : (x y : ℤ) → x <ℤ y → x ≤ℤ y
+pub less_eq : (x y : ℤ) → x <ℤ y → x ≤ℤ y
 less_eq x y h = omega (arith, ints)
 
-same_le : (x : ℤ) → x ≤ℤ x
+pub same_le : (x : ℤ) → x ≤ℤ x
 same_le x = omega (arith, ints)
 
 risen : (x y : ℤ) → le_z x y ≡ true → x ≤ℤ y

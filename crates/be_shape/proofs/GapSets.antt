@@ -13,8 +13,8 @@ use Rattle.be_model.specs.Schemas.{numbered}
 use Rattle.be_model.proofs.InSchema.{same_attribute}
 use Rattle.be_shape.specs.Glances.{least, greatest, Test}
 use Rattle.be_shape.specs.Lanes.{raised, less, lets, slot_of, ends_of, free, seen, Slot, Lane, Few, is_single, HoldLanes}
-use Rattle.be_shape.specs.declared.few_tests.Count.{Count}
-use Rattle.be_shape.specs.declared.few_tests.Count.TheVariants.{One}
+use Rattle.be_shape.specs.declared.test_counts.Count.{Count}
+use Rattle.be_shape.specs.declared.test_counts.Count.TheVariants.{One}
 use Rattle.be_shape.specs.declared.small_sets.Told.{Told}
 use Rattle.be_shape.specs.declared.small_sets.Told.TheVariants.{FirstIsSet, IsSet}
 use Rattle.be_shape.specs.FewTests.{few_of}

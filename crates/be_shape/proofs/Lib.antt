@@ -34,4 +34,7 @@ pub mod Slots
 pub mod ToldLanes
 pub mod Choices
 pub mod GapSets
+pub mod TestCounts
+pub mod HeldRows
+pub mod NotedSets
 pub mod Depths

@@ -1,10 +1,12 @@
 -- At most three tests, as a list.
-use Rattle.std.specs.Prelude.{Bool, true, false, List, [], ◌∷◌}
-use Rattle.be_shape.specs.declared.few_tests.Count.{Count}
-use Rattle.be_shape.specs.declared.few_tests.Count.TheVariants.{Zero, One, Two, Three}
+use Rattle.std.specs.Prelude.{Bool, true, false, List, [], ◌∷◌, if◌then◌else◌}
+use Rattle.be_shape.specs.declared.test_counts.Count.{Count}
+use Rattle.be_shape.specs.declared.test_counts.Count.TheVariants.{Zero, One, Two, Three}
 use Rattle.be_model.specs.Schemas.{numbered}
 use Rattle.be_shape.specs.Glances.{Test}
-use Rattle.be_shape.specs.Lanes.{Lane, Few, ends_of}
+use Rattle.be_shape.specs.Lanes.{Slot, Lane, Few, ends_of, is_free}
+use Rattle.be_shape.specs.declared.small_sets.Told.{Told}
+use Rattle.be_shape.specs.SmallSets.{is_set}
 
 abbrev pub tests_of : Count → Test → Test → Test → List Test
 tests_of Zero x y z = []
@@ -18,6 +20,14 @@ test_of lane = (numbered lane.0, ends_of lane.1)
 
 abbrev pub few_of : Count → Lane → Lane → Lane → Few
 few_of count x y z = record { tests = tests_of count (test_of x) (test_of y) (test_of z); first = x; second = y; third = z }
+
+-- a lane without a test is free, but where the lanes behind the first are of the gaps of a set
+abbrev pub count_told : Told → Slot → Slot → Slot → Count
+count_told told x y z = if is_set told then One else (if is_free x then Zero else (if is_free y then One else (if is_free z then Two else Three)))
+
+-- the lanes of a place, and the tests that they are of
+abbrev pub few_told : Told → Lane → Lane → Lane → Few
+few_told told x y z = few_of (count_told told x.1 y.1 z.1) x y z
 
 abbrev pub has_first : Count → Bool
 has_first Zero = false

@@ -1,6 +1,6 @@
 -- What a search of an event of single values asks of a place: three lanes, each of an attribute and a slot of values, which goes
 -- round.
-use Rattle.std.specs.Prelude.{◌≡◌, ℕ, ℤ, pos, ◌+ℤ◌, ◌-ℤ◌, ◌+◌, ◌-◌, ◌%◌, ◌<◌, ◌&&◌, Bool, true, false, List, [], ◌∷◌, length, nat_le, unsigned_abs, Option, Some, None, int_lt, if◌then◌else◌}
+use Rattle.std.specs.Prelude.{◌≡◌, ℕ, ℤ, pos, ◌+ℤ◌, ◌-ℤ◌, ◌+◌, ◌-◌, ◌%◌, ◌<◌, ◌==◌, ◌&&◌, Bool, true, false, List, [], ◌∷◌, length, nat_le, unsigned_abs, Option, Some, None, int_lt, if◌then◌else◌}
 use Rattle.std.specs.List.{list_all}
 use Rattle.be_base.specs.declared.names.AttrNo.{AttrNo}
 use Rattle.be_model.specs.declared.preds.Pred.{Pred}
@@ -48,6 +48,9 @@ ends_of slot = (lowered slot.0, lowered ((slot.0 + slot.1) % 4294967296))
 -- the slot of all values, and of none
 abbrev pub free : Slot
 free = (0, 4294967295)
+
+abbrev pub is_free : Slot → Bool
+is_free slot = (slot.0 == 0) && (slot.1 == 4294967295)
 
 -- what a table has of an attribute: its only value, counted from the least; where it has none, a number beyond all values; else 0
 abbrev pub seen : Option (List ℤ) → ℕ

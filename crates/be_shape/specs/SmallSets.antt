@@ -1,5 +1,5 @@
 -- What a place tells of a small set of numbers, one of which its row wants of an attribute.
-use Rattle.std.specs.Prelude.{◌≡◌, ℕ, ℤ, ◌||◌, ◌==◌, Bool, true, false, List, ◌∷◌, Option, Some, None, unsigned_abs}
+use Rattle.std.specs.Prelude.{◌≡◌, ℕ, ℤ, ◌||◌, ◌==◌, Bool, true, false, List, [], ◌∷◌, Option, Some, None, unsigned_abs}
 use Rattle.std.specs.List.{list_any}
 use Rattle.std.specs.Ordering.{int_eq}
 use Rattle.be_model.specs.declared.preds.Pred.{Pred}
@@ -7,7 +7,7 @@ use Rattle.be_model.specs.Matching.{Assignments, values_of, satisfies}
 use Rattle.be_shape.specs.declared.glances.Extent.{Extent}
 use Rattle.be_shape.specs.declared.glances.Extent.TheVariants.{Whole, Few, Part}
 use Rattle.be_shape.specs.declared.small_sets.Told.{Told}
-use Rattle.be_shape.specs.declared.small_sets.Told.TheVariants.{AsWhole, AsFew, AsPart, IsSet, FirstIsSet, SecondIsSet, ThirdIsSet}
+use Rattle.be_shape.specs.declared.small_sets.Told.TheVariants.{AsWhole, AsFew, AsPart, IsSet, FirstIsSet, SecondIsSet}
 use Rattle.be_shape.specs.Glances.{Test}
 use Rattle.be_shape.specs.Listed.{low_part}
 
@@ -19,7 +19,6 @@ extent_of AsPart = Part
 extent_of IsSet = Few
 extent_of FirstIsSet = Few
 extent_of SecondIsSet = Few
-extent_of ThirdIsSet = Few
 
 -- an event of single values that passes the lanes satisfies the row
 abbrev pub is_sure : Told → Bool
@@ -29,7 +28,15 @@ is_sure AsPart = false
 is_sure IsSet = true
 is_sure FirstIsSet = false
 is_sure SecondIsSet = false
-is_sure ThirdIsSet = false
+
+-- the lanes behind the first are of its gaps, and of no test
+abbrev pub is_set : Told → Bool
+is_set AsWhole = false
+is_set AsFew = false
+is_set AsPart = false
+is_set IsSet = true
+is_set FirstIsSet = false
+is_set SecondIsSet = false
 
 -- the number is one of the ends, or the lower bits of its size are those of the number between them
 abbrev pub may_be : ℤ × ℤ → ℕ → ℤ → Bool
@@ -43,11 +50,11 @@ may_be_any ends middle (Some vs) = list_any (may_be ends middle) vs
 abbrev pub passes_set : Assignments → ℕ → Test → Bool
 passes_set e middle t = may_be_any t.1 middle (values_of e t.0)
 
--- the same of the test that is told to be of a set, where there is one
+-- the same of the test that is told to be of a set, where there is one, and there are at most two tests
 abbrev pub passes_told : Told → ℕ → List Test → Assignments → Bool
-passes_told FirstIsSet middle (x ∷ more) e = passes_set e middle x
-passes_told SecondIsSet middle (x ∷ y ∷ more) e = passes_set e middle y
-passes_told ThirdIsSet middle (x ∷ y ∷ z ∷ more) e = passes_set e middle z
+passes_told FirstIsSet middle (x ∷ []) e = passes_set e middle x
+passes_told FirstIsSet middle (x ∷ y ∷ []) e = passes_set e middle x
+passes_told SecondIsSet middle (x ∷ y ∷ []) e = passes_set e middle y
 passes_told _ _ _ _ = true
 
 -- no event that satisfies the condition is refused by what is told of the set

@@ -7,39 +7,33 @@ ghost use Rattle.be_model.specs.Lies.{conj_lies};
 ghost use Rattle.be_model.specs.Matching.{Assignments, is_met, satisfies, values_of};
 ghost use Rattle.be_model.specs.Rows.{has};
 ghost use Rattle.be_model.specs.Schemas.{numbered};
-ghost use Rattle.be_shape.specs.declared.few_tests.Count.TheVariants.{One};
 ghost use Rattle.be_shape.specs.declared.glances.Extent.TheVariants.{Few};
 ghost use Rattle.be_shape.specs.declared.small_sets.Told.TheVariants.{IsSet};
-ghost use Rattle.be_shape.specs.FewTests.{has_first, has_second, has_third};
+ghost use Rattle.be_shape.specs.FewTests.{few_told};
 ghost use Rattle.be_shape.specs.Gaps.{IsOnlySet};
 ghost use Rattle.be_shape.specs.Glances.{may_meet, test_on, is_whole, glance, glance_of};
 ghost use Rattle.be_shape.specs.Listed.{attrs_told};
 ghost use Rattle.be_model.specs.declared.preds.Pred.{Pred};
+ghost use Rattle.be_shape.specs.declared.small_sets.Told.{Told};
 ghost use Rattle.be_shape.specs.Lanes.{passes_lanes, AreFree, HoldLanes};
 ghost use Rattle.be_shape.specs.SmallSets.{extent_of, passes_set, passes_told, LosesNone};
 
 use crate::gaps::gaps_of;
 use crate::glances::{Ends, Extent, hull_in};
-use crate::lanes::{FREE, Slot, ends_of, numbered, slot_fits, slot_of};
+use crate::lanes::{
+    FREE, LaneAttrs, LaneSlots, Slot, ends_of, is_test, numbered, slot_fits, slot_of,
+};
 use crate::listings::RowAttrs;
 use crate::looks::has_attr;
 use crate::sights::Sight;
 use crate::small_sets::{Told, middle_of};
+use crate::test_counts::Count;
 use be_base::AttrNo;
 use be_model::{Conj, Op, Pred, Row, Schema};
 use std::marker::Model;
 
-/// How many tests there are.
-#[derive(Clone, Copy)]
-pub(crate) enum Count {
-    Zero,
-    One,
-    Two,
-    Three,
-}
-
-/// At most three tests, of attributes below 256, and three lanes, of which the first are of the tests. The fields stand in this
-/// order, as then they take 28 bytes.
+/// At most three tests, of attributes below 256, and three lanes, of which the first are of the tests. Where there are fewer than
+/// three, the third attribute may be what is told of the number between the ends of a set, as any attribute does for a free slot.
 #[derive(Drop)]
 pub(crate) struct FewTests {
     count: Count,
@@ -59,40 +53,6 @@ impl Model for FewTests {
     ghost use Rattle.be_shape.specs.FewTests.{few_of};
 
     ghost view = { λ t. few_of t.count (t.first_attr, t.first) (t.second_attr, t.second) (t.third_attr, t.third) };
-}
-
-impl Count {
-    fn has_first(self) -> bool
-        ensures { result ≡ has_first self }
-    {
-        !matches!(self, Count::Zero)
-    }
-
-    fn is_one(self) -> bool
-        ensures { result ≡ true → self ≡ One }
-    {
-        matches!(self, Count::One)
-    }
-
-    fn has_second(self) -> bool
-        ensures { result ≡ has_second self }
-    {
-        matches!(self, Count::Two | Count::Three)
-    }
-
-    fn has_third(self) -> bool
-        ensures { result ≡ has_third self }
-    {
-        matches!(self, Count::Three)
-    }
-}
-
-// Whether the test of a number of an attribute is on this attribute, between these ends.
-fn is_test(number: u8, test: Ends, a: AttrNo, ends: (i64, i64)) -> bool
-    ensures attr { result ≡ true → numbered number ≡ a }
-    ensures ends { result ≡ true → test ≡ ends }
-{
-    u16::from(number) == a.0 && test.0 as i64 == ends.0 && test.1 as i64 == ends.1
 }
 
 impl FewTests {
@@ -148,16 +108,35 @@ impl FewTests {
         }
     }
 
+    /// With what is told of the number between the ends of a set, where there is room for it.
+    pub(crate) fn noting(self, middle: u8) -> FewTests
+        requires free { AreFree self }
+        ensures tests { result.tests ≡ self.tests }
+        ensures free { AreFree result }
+        ensures set { (conj : List Pred) (told : Told) → LosesNone conj told middle self.tests → LosesNone conj told result.third.0 result.tests }
+    {
+        if self.count.has_third() {
+            self
+        } else {
+            FewTests {
+                third_attr: middle,
+                ..self
+            }
+        }
+    }
+
     /// With what is told, as a place has it.
     pub(crate) fn settled(self, told: Told, conj: &Conj) -> (Told, FewTests)
         requires told { glance self.tests (extent_of told) ≡ glance_of conj.now }
         requires form { IsConj conj.now }
         requires free { AreFree self }
         requires plain { told ≡ IsSet → ⊥ }
+        requires set { LosesNone conj.now told self.third.0 self.tests }
         ensures tests { result.1.tests ≡ self.tests }
         ensures extent { extent_of result.0 ≡ extent_of told }
         ensures lanes { HoldLanes conj.now result.0 result.1 }
-        ensures set { (m : ℕ) → LosesNone conj.now told m self.tests → LosesNone conj.now result.0 m result.1.tests }
+        ensures set { LosesNone conj.now result.0 result.1.third.0 result.1.tests }
+        ensures counted { result.1 ≡ few_told result.0 result.1.first result.1.second result.1.third }
     {
         slot_fits(self.first);
         slot_fits(self.second);
@@ -174,6 +153,40 @@ impl FewTests {
                 },
             ),
             None => (told, self),
+        }
+    }
+
+    /// The lanes.
+    pub(crate) fn lanes(&self) -> (LaneAttrs, LaneSlots)
+        ensures first { self.now.first ≡ (result.0.first, result.1.first) }
+        ensures second { self.now.second ≡ (result.0.second, result.1.second) }
+        ensures third { self.now.third ≡ (result.0.third, result.1.third) }
+    {
+        let attrs = LaneAttrs {
+            first: self.first_attr,
+            second: self.second_attr,
+            third: self.third_attr,
+        };
+        let slots = LaneSlots {
+            first: self.first,
+            second: self.second,
+            third: self.third,
+        };
+        (attrs, slots)
+    }
+
+    /// What a place has in its lanes.
+    pub(crate) fn told(told: Told, attrs: LaneAttrs, slots: LaneSlots) -> FewTests
+        ensures { result ≡ few_told told (attrs.first, slots.first) (attrs.second, slots.second) (attrs.third, slots.third) }
+    {
+        FewTests {
+            count: Count::told(told, slots),
+            first_attr: attrs.first,
+            second_attr: attrs.second,
+            third_attr: attrs.third,
+            first: slots.first,
+            second: slots.second,
+            third: slots.third,
         }
     }
 
@@ -194,49 +207,34 @@ impl FewTests {
         }
     }
 
-    // Whether an event of single values passes the lanes. None is left out, since which of them says no can't be foreseen.
+    // Whether an event of single values passes the lanes.
     fn passes(&self, e: &Sight) -> bool
         ensures { result ≡ passes_lanes e.now self.now }
     {
-        let first = e.lets(self.first_attr, self.first);
-        let second = e.lets(self.second_attr, self.second);
-        let third = e.lets(self.third_attr, self.third);
-        first & (second & third)
-    }
-
-    /// By the lanes, whether the event may satisfy the condition, and whether it then does for sure. Of an event that isn't of
-    /// single values they say nothing.
-    pub(crate) fn ask(&self, told: Told, e: &Sight) -> (bool, bool)
-        ensures may { (conj : List Pred) → HoldLanes conj told self.now → satisfies e.now conj ≡ true → result.0 ≡ true }
-        ensures sure { (conj : List Pred) → HoldLanes conj told self.now → result.0 ≡ true → result.1 ≡ true → satisfies e.now conj ≡ true }
-    {
-        let passes = self.passes(e);
-        let exact = e.is_exact();
-        (passes | !exact, told.is_sure() & exact)
+        let (attrs, slots) = self.lanes();
+        e.passes(attrs, &slots)
     }
 
     // Whether the event may have a number of the set that is told.
-    fn may_have_set(&self, told: Told, middle: u8, e: &Sight) -> bool
-        ensures { passes_told told middle self.now.tests e.now ≡ true → result ≡ true }
+    fn may_have_set(&self, told: Told, e: &Sight) -> bool
+        ensures { passes_told told self.now.third.0 self.now.tests e.now ≡ true → result ≡ true }
     {
-        match told {
-            Told::FirstIsSet => {
-                !self.count.has_first()
-                    || e.may_be(ends_of(self.first), middle, numbered(self.first_attr))
+        let middle = self.third_attr;
+        match (told, self.count) {
+            (Told::FirstIsSet, Count::One) => {
+                e.may_be(ends_of(self.first), middle, numbered(self.first_attr))
             }
-            Told::SecondIsSet => {
-                !self.count.has_second()
-                    || e.may_be(ends_of(self.second), middle, numbered(self.second_attr))
+            (Told::FirstIsSet, Count::Two) => {
+                e.may_be(ends_of(self.first), middle, numbered(self.first_attr))
             }
-            Told::ThirdIsSet => {
-                !self.count.has_third()
-                    || e.may_be(ends_of(self.third), middle, numbered(self.third_attr))
+            (Told::SecondIsSet, Count::Two) => {
+                e.may_be(ends_of(self.second), middle, numbered(self.second_attr))
             }
-            Told::AsWhole | Told::AsFew | Told::AsPart | Told::IsSet => true,
+            _ => true,
         }
     }
 
-    /// What is told where the test on the attribute is of a set of these ends.
+    /// What is told where the first or second test is on the attribute, of a set of these ends.
     pub(crate) fn set_at(&self, a: AttrNo, ends: (i64, i64)) -> Option<Told>
         ensures few { IfSome result (λ told. extent_of told ≡ Few) }
         ensures plain { IfSome result (λ told. told ≡ IsSet → ⊥) }
@@ -248,8 +246,6 @@ impl FewTests {
             && is_test(self.second_attr, ends_of(self.second), a, ends)
         {
             Some(Told::SecondIsSet)
-        } else if self.count.has_third() && is_test(self.third_attr, ends_of(self.third), a, ends) {
-            Some(Told::ThirdIsSet)
         } else {
             None
         }
@@ -310,18 +306,18 @@ impl FewTests {
 
     // Whether an event of single values that passes the lanes satisfies the condition, where that isn't sure.
     #[inline(never)]
-    fn is_met_by_one(&self, told: Told, middle: u8, conj: &Conj, e: &Sight) -> bool
-        requires set { LosesNone conj.now told middle self.now.tests }
+    fn is_met_by_one(&self, told: Told, conj: &Conj, e: &Sight) -> bool
+        requires set { LosesNone conj.now told self.now.third.0 self.now.tests }
         ensures { result ≡ satisfies e.now conj.now }
     {
-        self.may_have_set(told, middle, e) && conj.satisfied_by(e.event())
+        self.may_have_set(told, e) && conj.satisfied_by(e.event())
     }
 
     /// Whether the event satisfies the condition of which this is told.
-    pub(crate) fn is_met(&self, told: Told, middle: u8, conj: &Conj, e: &Sight) -> bool
+    pub(crate) fn is_met(&self, told: Told, conj: &Conj, e: &Sight) -> bool
         requires told { glance self.now.tests (extent_of told) ≡ glance_of conj.now }
         requires form { IsConj conj.now }
-        requires set { LosesNone conj.now told middle self.now.tests }
+        requires set { LosesNone conj.now told self.now.third.0 self.now.tests }
         requires lanes { HoldLanes conj.now told self.now }
         ensures { result ≡ satisfies e.now conj.now }
     {
@@ -330,7 +326,7 @@ impl FewTests {
         }
         let passes = self.passes(e);
         if passes & !told.is_sure() {
-            self.is_met_by_one(told, middle, conj, e)
+            self.is_met_by_one(told, conj, e)
         } else {
             passes
         }

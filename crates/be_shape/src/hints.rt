@@ -8,7 +8,7 @@ use std::alloc::Global;
 const HINTED_ROWS: usize = 64;
 
 /// A place for an id, at which its row may stand. Whoever asks looks whether it does, so nothing need be true of a hint, and where
-/// memory is wanting there is none. To note a row it is looked at for its id, which only a leaf with hints pays.
+/// memory is wanting there is none.
 #[derive(Drop)]
 pub(crate) struct Hints {
     slots: Vec<u32>,

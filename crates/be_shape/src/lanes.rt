@@ -1,8 +1,8 @@
 //! Slots of values, which a search of an event of single values asks.
 
-ghost use Rattle.std.specs.Prelude.{◌≡◌, ◌<◌, ◌≤ℤ◌, ◌^◌, pos, negsuc};
+ghost use Rattle.std.specs.Prelude.{◌≡◌, ◌<◌, ◌≤ℤ◌, ◌^◌, true, pos, negsuc};
 ghost use Rattle.be_model.specs.Schemas.{numbered};
-ghost use Rattle.be_shape.specs.Lanes.{raised, lowered, lets, slot_of, ends_of};
+ghost use Rattle.be_shape.specs.Lanes.{raised, lowered, lets, slot_of, ends_of, is_free};
 
 use crate::glances::Ends;
 use be_base::AttrNo;
@@ -12,6 +12,29 @@ pub(crate) type Slot = (u32, u32);
 
 /// The slot of all values, and of none.
 pub(crate) const FREE: Slot = (0, u32::MAX);
+
+/// The numbers of the attributes of three lanes.
+#[derive(Clone, Copy)]
+pub(crate) struct LaneAttrs {
+    pub(crate) first: u8,
+    pub(crate) second: u8,
+    pub(crate) third: u8,
+}
+
+/// The slots of three lanes.
+#[derive(Clone, Copy)]
+pub(crate) struct LaneSlots {
+    pub(crate) first: Slot,
+    pub(crate) second: Slot,
+    pub(crate) third: Slot,
+}
+
+/// Whether the slot is that of all values, and of none.
+pub(crate) fn is_free(slot: Slot) -> bool
+    ensures { result ≡ is_free slot }
+{
+    slot.0 == 0 && slot.1 == u32::MAX
+}
 
 /// The number, counted from the least one.
 pub(crate) fn raised(v: i32) -> u32
@@ -68,4 +91,12 @@ pub(crate) fn numbered(a: u8) -> AttrNo
     ensures { result ≡ numbered a }
 {
     AttrNo(u16::from(a))
+}
+
+/// Whether the test of a number of an attribute is on this attribute, between these ends.
+pub(crate) fn is_test(number: u8, test: Ends, a: AttrNo, ends: (i64, i64)) -> bool
+    ensures attr { result ≡ true → numbered number ≡ a }
+    ensures ends { result ≡ true → test ≡ ends }
+{
+    u16::from(number) == a.0 && test.0 as i64 == ends.0 && test.1 as i64 == ends.1
 }

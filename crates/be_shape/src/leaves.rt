@@ -4,7 +4,7 @@ ghost use Rattle.std.specs.Prelude.{◌≡◌, ◌↔◌, ◌<◌, ◌≤◌, tr
 ghost use Rattle.std.specs.List.{Contains, remove};
 ghost use Rattle.be_model.specs.Hulls.{span_in};
 ghost use Rattle.be_model.specs.Lies.{row_lies};
-ghost use Rattle.be_model.specs.Rows.{has};
+ghost use Rattle.be_model.specs.Rows.{has, id_of};
 ghost use Rattle.be_shape.specs.Chosen.{Covers};
 ghost use Rattle.be_shape.specs.Common.{AreCommon};
 ghost use Rattle.be_shape.specs.Listed.{attrs_of};
@@ -15,9 +15,8 @@ use crate::hints::Hints;
 use crate::listings::RowAttrs;
 use crate::places::Kept;
 use crate::sights::Sight;
-use crate::small_sets::low_part;
 use crate::tallies::common_of;
-use be_base::AttrNo;
+use be_base::{AttrNo, Id};
 use be_model::{Row, RowList, Schema};
 use smallvec::SmallVec;
 use std::alloc::Global;
@@ -103,6 +102,14 @@ impl Leaf {
         self.kept(place).row()
     }
 
+    /// The id of the row at a place. The row isn't looked at, but where its id is beyond 32 bits.
+    pub fn id(&self, place: usize) -> Id
+        requires { place < length self.now }
+        ensures { option_map id_of (slice_get self.now place) ≡ Some result.0 }
+    {
+        self.kept(place).id()
+    }
+
     /// Whether the event satisfies the row at a place. The row is looked at only where its tests are met and don't say all;
     /// most others are passed over by the table of the sight.
     pub fn is_met(&self, place: usize, e: &Sight) -> bool
@@ -174,10 +181,10 @@ impl Leaf {
         requires { place < length self.now }
         ensures { IsTrue result ↔ (slice_get self.now place ≡ Some row.now) }
     {
-        self.kept(place).low_part() == low_part(row.id.0) && self.row(place).same_as(row)
+        self.id(place).0 == row.id.0 && self.row(place).same_as(row)
     }
 
-    /// Where the row stands. A row whose id has other lower bits isn't looked at.
+    /// Where the row stands. A row of another id isn't looked at.
     pub fn place_of(&self, row: &Row) -> Option<usize>
         ensures found { IfSome result (λ place. slice_get self.now place ≡ Some row.now) }
         ensures none { IfNone result (Contains self.now row.now → ⊥) }

@@ -9,6 +9,7 @@ mod counts;
 mod few_tests;
 mod gaps;
 mod glances;
+mod held;
 mod hints;
 mod lanes;
 mod laws;
@@ -23,6 +24,7 @@ mod small_sets;
 mod spots;
 mod swaps;
 mod tallies;
+mod test_counts;
 mod trees;
 mod walks;
 

@@ -5,37 +5,26 @@ ghost use Rattle.std.specs.Arc.{arc_value};
 ghost use Rattle.be_model.specs.Matching.{satisfies};
 ghost use Rattle.be_model.specs.Hulls.{span_in};
 ghost use Rattle.be_model.specs.Lies.{row_lies};
-ghost use Rattle.be_model.specs.Rows.{has};
-ghost use Rattle.be_shape.specs.Listed.{attrs_of, low_part};
+ghost use Rattle.be_model.specs.Rows.{has, id_of};
+ghost use Rattle.be_model.specs.Forms.{IsConj};
+ghost use Rattle.be_shape.specs.Glances.{glance, glance_of};
+ghost use Rattle.be_shape.specs.Lanes.{HoldLanes};
+ghost use Rattle.be_shape.specs.Listed.{attrs_of};
+ghost use Rattle.be_shape.specs.SmallSets.{extent_of, LosesNone};
 
 use crate::few_tests::FewTests;
 use crate::glances::Glance;
+use crate::held::{Held, WIDE};
 use crate::listings::RowAttrs;
 use crate::sights::Sight;
-use crate::small_sets::{Told, low_part};
+use crate::small_sets::Told;
 use be_base::{AttrNo, Id};
 use be_model::{Row, Schema};
 use std::marker::Model;
 use std::sync::Arc;
 
-/// What a place has. The fields stand in this order, as then a place takes 40 bytes.
-#[derive(Drop)]
-pub(crate) enum Held {
-    Blank,
-    Full {
-        told: Told,
-        low_part: u8,
-        /// Of the set that is told, the lower bits of the number between its ends.
-        middle: u8,
-        tests: FewTests,
-        row: Arc<Row>,
-    },
-}
-
-const _: () = prove!(size_of::<Held>() == 40);
-
-/// A place of a leaf: a row, or a blank where the leaf ends. It tells at most three tests of the row and a part of its id,
-/// so that a row whose attributes are told isn't looked at for these, nor for its spans.
+/// A place of a leaf: a row, or a blank where the leaf ends. It tells at most three tests of the row and its id, so that a row whose
+/// attributes are told isn't looked at for these, nor for its spans, and no row for its id.
 #[derive(Drop)]
 pub(crate) struct Kept {
     held: Held,
@@ -68,15 +57,9 @@ impl Kept {
     {
         let glance = Glance::of(&row.conj);
         let (set, middle) = glance.set_of(&row.conj);
-        let (told, tests) = glance.tests.settled(set, &row.conj);
+        let (told, tests) = glance.tests.noting(middle).settled(set, &row.conj);
         Kept {
-            held: Held::Full {
-                told,
-                low_part: low_part(row.id.0),
-                middle,
-                tests,
-                row,
-            },
+            held: Held::of(told, tests, row),
         }
     }
 
@@ -84,39 +67,48 @@ impl Kept {
         requires { IsSome self }
         ensures { self ≡ Some (arc_value result) }
     {
-        match self.held {
-            Held::Full { row, .. } => row,
-            Held::Blank => unreachable!(),
-        }
+        self.held.into_row()
     }
 
     pub(crate) fn row(&self) -> &Arc<Row>
         requires { IsSome self.now }
         ensures { self.now ≡ Some (arc_value result.now) }
     {
-        match &self.held {
-            Held::Full { row, .. } => row,
-            Held::Blank => unreachable!(),
-        }
+        self.held.row()
     }
 
-    /// The lower 8 bits of the row's id.
-    pub(crate) fn low_part(&self) -> u8
+    /// The row's id. The row is looked at only where 32 bits don't tell it.
+    pub(crate) fn id(&self) -> Id
         requires { IsSome self.now }
-        ensures { option_map (λ row. low_part row.id.0) self.now ≡ Some result }
+        ensures { option_map id_of self.now ≡ Some result.0 }
     {
-        match &self.held {
-            Held::Full { low_part, .. } => *low_part,
-            Held::Blank => unreachable!(),
+        let number = self.held.short();
+        if number == WIDE {
+            self.row().id
+        } else {
+            Id(u64::from(number))
         }
     }
 
     /// The row's id. Of a blank there is none.
     pub(crate) fn any_id(&self) -> Option<Id> {
-        match &self.held {
-            Held::Full { row, .. } => Some(row.id),
-            Held::Blank => None,
+        if self.held.is_blank() {
+            None
+        } else {
+            Some(self.id())
         }
+    }
+
+    // The row, and what is told of it.
+    fn told(&self) -> (&Arc<Row>, Told, FewTests)
+        requires { IsSome self.now }
+        ensures row { self.now ≡ Some (arc_value result.0.now) }
+        ensures tests { glance result.2.tests (extent_of result.1) ≡ glance_of (arc_value result.0.now).conj }
+        ensures form { IsConj (arc_value result.0.now).conj }
+        ensures set { LosesNone (arc_value result.0.now).conj result.1 result.2.third.0 result.2.tests }
+        ensures lanes { HoldLanes (arc_value result.0.now).conj result.1 result.2 }
+    {
+        (self.held.row(), self.held.told(), self.held.tests())
     }
 
     /// The row's attributes.
@@ -124,10 +116,8 @@ impl Kept {
         requires { IsSome self.now }
         ensures { option_map (λ row. attrs_of row.conj) self.now ≡ Some result }
     {
-        match &self.held {
-            Held::Full { told, tests, .. } => tests.attrs(told.extent()),
-            Held::Blank => unreachable!(),
-        }
+        let (_, told, tests) = self.told();
+        tests.attrs(told.extent())
     }
 
     /// Whether the row has a predicate on the attribute.
@@ -135,15 +125,8 @@ impl Kept {
         requires { IsSome self.now }
         ensures { option_map (λ row. has a row) self.now ≡ Some result }
     {
-        match &self.held {
-            Held::Full {
-                told,
-                tests,
-                row,
-                ..
-            } => tests.has_attr(told.extent(), row, a),
-            Held::Blank => unreachable!(),
-        }
+        let (row, told, tests) = self.told();
+        tests.has_attr(told.extent(), row, a)
     }
 
     /// By what is told without a look at the row, whether the event may satisfy it, and whether it then does for sure.
@@ -152,10 +135,7 @@ impl Kept {
         ensures may { option_map (λ row. satisfies e.now row.conj) self.now ≡ Some true → result.0 ≡ true }
         ensures sure { result.0 ≡ true → result.1 ≡ true → option_map (λ row. satisfies e.now row.conj) self.now ≡ Some true }
     {
-        match &self.held {
-            Held::Full { told, tests, .. } => tests.ask(*told, e),
-            Held::Blank => unreachable!(),
-        }
+        self.held.ask(e)
     }
 
     /// Whether the event satisfies the row.
@@ -163,16 +143,8 @@ impl Kept {
         requires { IsSome self.now }
         ensures { option_map (λ row. satisfies e.now row.conj) self.now ≡ Some result }
     {
-        match &self.held {
-            Held::Full {
-                told,
-                middle,
-                tests,
-                row,
-                ..
-            } => tests.is_met(*told, *middle, &row.conj, e),
-            Held::Blank => unreachable!(),
-        }
+        let (row, told, tests) = self.told();
+        tests.is_met(told, &row.conj, e)
     }
 
     /// The row's span on the attribute.
@@ -181,14 +153,7 @@ impl Kept {
         requires lies { option_map (row_lies s.now) self.now ≡ Some true }
         ensures { option_map (λ row. span_in s.now a row.conj) self.now ≡ Some result }
     {
-        match &self.held {
-            Held::Full {
-                told,
-                tests,
-                row,
-                ..
-            } => tests.span(told.extent(), &row.conj, s, a),
-            Held::Blank => unreachable!(),
-        }
+        let (row, told, tests) = self.told();
+        tests.span(told.extent(), &row.conj, s, a)
     }
 }

@@ -1,6 +1,6 @@
 //! An event as a search looks at it.
 
-ghost use Rattle.std.specs.Prelude.{◌≡◌, ◌∷◌, [], true, Option, Some, List, ℤ, IfSome, option_map};
+ghost use Rattle.std.specs.Prelude.{◌≡◌, ◌∷◌, ◌&&◌, [], true, Option, Some, List, ℤ, IfSome, option_map};
 ghost use Rattle.be_model.specs.Forms.{attrs_rise};
 ghost use Rattle.be_model.specs.Matching.{attrs_of, values_of, is_assigned};
 ghost use Rattle.be_shape.specs.Glances.{has_in};
@@ -11,7 +11,7 @@ ghost use Rattle.be_shape.specs.SmallSets.{may_be_any};
 ghost use Rattle.be_shape.specs.Sights.{IsSight};
 
 use crate::glances::{Ends, GREATEST, has_in, is_in};
-use crate::lanes::{Slot, lets};
+use crate::lanes::{LaneAttrs, LaneSlots, Slot, lets};
 use crate::ranges::{NodeRange, holds_value};
 use crate::small_sets::may_be;
 use be_base::AttrNo;
@@ -154,6 +154,16 @@ impl<'a> Sight<'a> {
         ensures { result ≡ lets_event self.now (a, slot) }
     {
         lets(self.seen[usize::from(a)], slot)
+    }
+
+    /// Whether the event passes the lanes. None is left out, since which of them says no can't be foreseen.
+    pub(crate) fn passes(&self, attrs: LaneAttrs, slots: &LaneSlots) -> bool
+        ensures { result ≡ (lets_event self.now (attrs.first, slots.now.first) && (lets_event self.now (attrs.second, slots.now.second) && lets_event self.now (attrs.third, slots.now.third))) }
+    {
+        let first = self.lets(attrs.first, slots.first);
+        let second = self.lets(attrs.second, slots.second);
+        let third = self.lets(attrs.third, slots.third);
+        first & (second & third)
     }
 
     /// Whether a value of the attribute may be in the set of these ends, whose number between them has these lower bits.

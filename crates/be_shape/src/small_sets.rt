@@ -6,12 +6,13 @@ ghost use Rattle.be_model.specs.Hulls.{first_of_values, last_of_values};
 ghost use Rattle.be_model.specs.Matching.{is_among};
 ghost use Rattle.be_shape.specs.Listed.{low_part};
 ghost use Rattle.be_shape.specs.declared.small_sets.Told.TheVariants.{FirstIsSet};
-ghost use Rattle.be_shape.specs.SmallSets.{extent_of, is_sure, may_be};
+ghost use Rattle.be_shape.specs.SmallSets.{extent_of, is_set, is_sure, may_be};
 
 use crate::glances::{Ends, Extent};
 use be_model::Values;
 
-/// How much of a row its tests are, and which of them is of a set of at most three numbers, where one is told.
+/// How much of a row its tests are, and which of them is of a set of at most three numbers, where one is told. With three tests
+/// none is, as then there is no room for what is told of it.
 #[derive(Clone, Copy)]
 pub(crate) enum Told {
     AsWhole,
@@ -21,7 +22,6 @@ pub(crate) enum Told {
     IsSet,
     FirstIsSet,
     SecondIsSet,
-    ThirdIsSet,
 }
 
 impl Told {
@@ -31,8 +31,7 @@ impl Told {
         match self {
             Told::AsWhole => Extent::Whole,
             Told::AsPart => Extent::Part,
-            Told::AsFew | Told::IsSet | Told::FirstIsSet | Told::SecondIsSet | Told::ThirdIsSet =>
-                Extent::Few,
+            Told::AsFew | Told::IsSet | Told::FirstIsSet | Told::SecondIsSet => Extent::Few,
         }
     }
 
@@ -40,6 +39,13 @@ impl Told {
         ensures { result ≡ true → self ≡ FirstIsSet }
     {
         matches!(self, Told::FirstIsSet)
+    }
+
+    /// Whether the lanes behind the first are of the gaps of a set, and of no test.
+    pub(crate) fn is_set(self) -> bool
+        ensures { result ≡ is_set self }
+    {
+        matches!(self, Told::IsSet)
     }
 
     /// Whether an event of single values that passes the lanes satisfies the row.

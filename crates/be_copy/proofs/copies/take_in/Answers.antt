@@ -17,4 +17,4 @@ returns-clause-kept g c =
     let grown : c.append.new.log.list ≡ h ++ e ∷ [] = search rules in
     let become : g.I.Index.rows c.change_rows.new.index ≡ after_entry rows (length h) e = search rules in
     kept_after s (g.I.Index.schema c.change_rows.new.index) h c.append.new.log.list rows (g.I.Index.rows c.change_rows.new.index) c.args.register.now c.change_rows.new.register e
-    c.requires fit c.change_rows.ensures.schema grown become c.change_rows.ensures.filed
+    c.requires.kept fit c.change_rows.ensures.schema grown become c.change_rows.ensures.filed

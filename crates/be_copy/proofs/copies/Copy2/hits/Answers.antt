@@ -3,10 +3,8 @@ use Rattle.std.proofs.Common.{◌≡◌, ◌++◌, ℕ, Bool, [], refl, ◌∙�
 use Rattle.be_model.specs.declared.changes.Row.{Row}
 use Rattle.be_model.specs.Matching.{satisfies}
 use Rattle.be_change.proofs.Grows.{rising_live}
-use Rattle.be_change.specs.History.{live, hit_rows}
-use Rattle.be_index.specs.Ids.{ids_of}
-use Rattle.be_index.specs.Names.{spaced}
-use Rattle.be_copy.specs.Hits.{names_at}
+use Rattle.be_change.specs.History.{live}
+use Rattle.be_copy.specs.Hits.{all_spaced_at}
 use Rattle.be_copy.proofs.HitIds.{names_kept, some_hits}
 use Rattle.be_copy.proofs.Kept.{kept_listed}
 use Rattle.be_copy.proofs.copies.Copy2.hits.Goals as goal
@@ -16,11 +14,10 @@ returns-in-Ok-clause-names g c =
     let h = c.args.self.now.list in
     let e = c.args.event.now in
     let p : ℕ × Row → Bool = λ r. satisfies e r.1.conj in
-    let listed : c.log.result.now.list ≡ h = search rules in
     let empty : c.clear.new.self.items ≡ [] = search rules in
-    c.in-Ok.ensures.put ∙ ap (λ was. was ++ spaced (names_at c.log.result.now.list c.ids.result.now)) empty
-    ∙ ap (λ is. spaced (names_at c.log.result.now.list is)) (c.ids.ensures ∙ c.in_ok-cost.ensures.ids) ∙ ap (λ l. spaced (names_at l (ids_of (hit_rows h e)))) listed
-    ∙ ap spaced (names_kept h p (live h) (kept_listed h (live h) refl) (rising_live h))
+    c.in-Ok.ensures.put ∙ ap (λ was. was ++ all_spaced_at h c.ids.result.now) empty
+    ∙ ap (all_spaced_at h) (c.ids.ensures ∙ c.in_ok-cost.ensures.ids)
+    ∙ names_kept h p (live h) (kept_listed h (live h) refl) (rising_live h)
 
 pub returns-in-Err-clause-some : goal.returns-in-Err-clause-some
 returns-in-Err-clause-some g c =

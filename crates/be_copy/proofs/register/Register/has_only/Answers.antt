@@ -1,4 +1,3 @@
-use Rattle.std.proofs.Common.{sym, ◌∙◌}
 use Rattle.be_copy.proofs.Filed.{only_wanted}
 use Rattle.be_copy.proofs.register.Register.has_only.Goals as goal
 

@@ -6,10 +6,12 @@ use Rattle.be_door.specs.Counts.{with_counts}
 use Rattle.be_door.specs.Door.{after_listen}
 use Rattle.be_door.specs.Sums.{no_sums}
 use Rattle.be_hub.specs.Serving.{LeavesDoor, served_door}
-use Rattle.be_hub.proofs.DoorServed.{ServedWithBoxes, seats_at, splits_are, counts_are, all_came_back, links_are_served, may_start}
+use Rattle.be_hub.proofs.DoorServed.{seats_at, splits_are, counts_are, all_came_back, links_are_served}
 use Rattle.be_hub.proofs.DoorSettled.{kept_is, keeps_is, door_served, all_links, leaves_closing, leaves_settling}
 use Rattle.be_hub.proofs.Ends.{all_back}
 use Rattle.be_hub.proofs.FilesClosed.{none_is}
+use Rattle.be_hub.proofs.LinksBegun.{may_start}
+use Rattle.be_hub.proofs.LinksPosted.{ServedWithBoxes}
 use Rattle.be_io.specs.Outside.{link_state}
 use Rattle.be_hub.proofs.hub.Hub.serve.Goals as goal
 

@@ -4,7 +4,7 @@ use Rattle.rtrb.specs.Ring.{received, SameConsumer}
 use Rattle.be_base.specs.Lists.{BeginsWith}
 use Rattle.be_change.specs.Entries.{entries_in}
 use Rattle.be_change.specs.Sound.{Sound}
-use Rattle.be_mirror.proofs.ring.print_batches.Given as goal
+use Rattle.be_mirror.proofs.ring.print_taken.Given as goal
 
 abbrev pub invariant-loop : goal.invariant-loop
 invariant-loop g l =

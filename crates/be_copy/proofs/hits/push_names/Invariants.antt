@@ -1,9 +1,0 @@
--- The names so far and those of the ids that are left are all names.
-use Rattle.std.proofs.Common.{◌≡◌, ◌++◌, drop}
-use Rattle.be_index.specs.Names.{spaced}
-use Rattle.be_copy.specs.Hits.{names_at}
-use Rattle.be_copy.proofs.hits.push_names.Given as goal
-
-abbrev pub invariant-loop-id : goal.invariant-loop-id
-invariant-loop-id l =
-    l.names.items ++ spaced (names_at l.log.list (drop l.id-index l.ids)) ≡ l.initial.names.items ++ spaced (names_at l.log.list l.ids)

@@ -1,0 +1,33 @@
+use Rattle.std.proofs.Common.{◌≡◌, Some, sym, subst, ap, ap₂, ◌∙◌}
+use Rattle.std.specs.Arc.{arc_value}
+use Rattle.be_shape.specs.declared.small_sets.Told.{Told}
+use Rattle.be_shape.specs.Glances.{glance, glance_of}
+use Rattle.be_shape.specs.Held.{row_of, short_of, short_id, told_of, few_in, IsTold}
+use Rattle.be_shape.specs.Lanes.{Few, HoldLanes}
+use Rattle.be_shape.specs.SmallSets.{extent_of, LosesNone}
+use Rattle.be_shape.proofs.HeldRows.{of_row}
+use Rattle.be_shape.proofs.places.Kept.told.Goals as goal
+
+pub returns-clause-tests : goal.returns-clause-tests
+returns-clause-tests c =
+    let held = c.self.inside.held in
+    let row = arc_value c.row.result.now in
+    let t = (of_row held row c.self.invariant c.row.ensures).1 in
+    ap₂ (λ (few : Few) (told : Told). glance few.tests (extent_of told)) c.tests.ensures c.told.ensures ∙ t.tests
+
+pub returns-clause-form : goal.returns-clause-form
+returns-clause-form c = (of_row c.self.inside.held (arc_value c.row.result.now) c.self.invariant c.row.ensures).1.form
+
+pub returns-clause-set : goal.returns-clause-set
+returns-clause-set c =
+    let held = c.self.inside.held in
+    let row = arc_value c.row.result.now in
+    let t = (of_row held row c.self.invariant c.row.ensures).1 in
+    subst (λ (few : Few). LosesNone row.conj c.told.result few.third.0 few.tests) (sym c.tests.ensures) (subst (λ (told : Told). LosesNone row.conj told (few_in held).third.0 (few_in held).tests) (sym c.told.ensures) t.set)
+
+pub returns-clause-lanes : goal.returns-clause-lanes
+returns-clause-lanes c =
+    let held = c.self.inside.held in
+    let row = arc_value c.row.result.now in
+    let t = (of_row held row c.self.invariant c.row.ensures).1 in
+    subst (λ (few : Few). HoldLanes row.conj c.told.result few) (sym c.tests.ensures) (subst (λ (told : Told). HoldLanes row.conj told (few_in held)) (sym c.told.ensures) t.lanes)

@@ -1,0 +1,251 @@
+//! What a place of a leaf has.
+
+ghost use Rattle.std.specs.Prelude.{◌≡◌, true, false, List, Some, IsSome};
+ghost use Rattle.std.specs.Arc.{arc_value};
+ghost use Rattle.be_model.specs.declared.preds.Pred.{Pred};
+ghost use Rattle.be_model.specs.Matching.{satisfies};
+ghost use Rattle.be_model.specs.Rows.{id_of};
+ghost use Rattle.be_shape.specs.FewTests.{few_told};
+ghost use Rattle.be_shape.specs.Held.{short_id, row_of, short_of, told_of, few_in, few_with};
+ghost use Rattle.be_shape.specs.Lanes.{passes_lanes, HoldLanes};
+
+use crate::few_tests::FewTests;
+use crate::lanes::{LaneAttrs, LaneSlots};
+use crate::sights::Sight;
+use crate::small_sets::Told;
+use be_base::Id;
+use be_model::Row;
+use std::sync::Arc;
+
+/// Stands for an id that 32 bits don't tell.
+pub(crate) const WIDE: u32 = u32::MAX;
+
+/// What a place has: a blank, or a row with its id and lanes. How much these are of the row is told by the variant, as then a place
+/// takes 40 bytes; the fields stand in this order for the same.
+#[derive(Drop)]
+pub(crate) enum Held {
+    Blank,
+    ToldWhole {
+        attrs: LaneAttrs,
+        short: u32,
+        slots: LaneSlots,
+        row: Arc<Row>,
+    },
+    ToldSet {
+        attrs: LaneAttrs,
+        short: u32,
+        slots: LaneSlots,
+        row: Arc<Row>,
+    },
+    ToldFew {
+        attrs: LaneAttrs,
+        short: u32,
+        slots: LaneSlots,
+        row: Arc<Row>,
+    },
+    ToldPart {
+        attrs: LaneAttrs,
+        short: u32,
+        slots: LaneSlots,
+        row: Arc<Row>,
+    },
+    ToldFirstSet {
+        attrs: LaneAttrs,
+        short: u32,
+        slots: LaneSlots,
+        row: Arc<Row>,
+    },
+    ToldSecondSet {
+        attrs: LaneAttrs,
+        short: u32,
+        slots: LaneSlots,
+        row: Arc<Row>,
+    },
+}
+
+const _: () = prove!(size_of::<Held>() == 40);
+
+// The id as a place has it.
+fn short_id(id: Id) -> u32
+    ensures { result ≡ short_id id.0 }
+{
+    if id.0 < WIDE as u64 {
+        id.0 as u32
+    } else {
+        WIDE
+    }
+}
+
+impl Held {
+    /// A row, and what is told of it.
+    pub(crate) fn of(told: Told, tests: FewTests, row: Arc<Row>) -> Held
+        requires { tests ≡ few_told told tests.first tests.second tests.third }
+        ensures row { row_of result ≡ Some (arc_value row) }
+        ensures short { short_of result ≡ short_id (id_of (arc_value row)) }
+        ensures told { told_of result ≡ told }
+        ensures few { few_in result ≡ tests }
+    {
+        let (attrs, slots) = tests.lanes();
+        let short = short_id(row.id);
+        match told {
+            Told::AsWhole => Held::ToldWhole {
+                attrs,
+                short,
+                slots,
+                row,
+            },
+            Told::IsSet => Held::ToldSet {
+                attrs,
+                short,
+                slots,
+                row,
+            },
+            Told::AsFew => Held::ToldFew {
+                attrs,
+                short,
+                slots,
+                row,
+            },
+            Told::AsPart => Held::ToldPart {
+                attrs,
+                short,
+                slots,
+                row,
+            },
+            Told::FirstIsSet => Held::ToldFirstSet {
+                attrs,
+                short,
+                slots,
+                row,
+            },
+            Told::SecondIsSet => Held::ToldSecondSet {
+                attrs,
+                short,
+                slots,
+                row,
+            },
+        }
+    }
+
+    pub(crate) fn into_row(self) -> Arc<Row>
+        requires { IsSome (row_of self) }
+        ensures { row_of self ≡ Some (arc_value result) }
+    {
+        match self {
+            Held::ToldWhole { row, .. } => row,
+            Held::ToldSet { row, .. } => row,
+            Held::ToldFew { row, .. } => row,
+            Held::ToldPart { row, .. } => row,
+            Held::ToldFirstSet { row, .. } => row,
+            Held::ToldSecondSet { row, .. } => row,
+            Held::Blank => unreachable!(),
+        }
+    }
+
+    pub(crate) fn row(&self) -> &Arc<Row>
+        requires { IsSome (row_of self.now) }
+        ensures { row_of self.now ≡ Some (arc_value result.now) }
+    {
+        match self {
+            Held::ToldWhole { row, .. } => row,
+            Held::ToldSet { row, .. } => row,
+            Held::ToldFew { row, .. } => row,
+            Held::ToldPart { row, .. } => row,
+            Held::ToldFirstSet { row, .. } => row,
+            Held::ToldSecondSet { row, .. } => row,
+            Held::Blank => unreachable!(),
+        }
+    }
+
+    /// The row's id, or `WIDE` where it isn't told.
+    pub(crate) fn short(&self) -> u32
+        requires { IsSome (row_of self.now) }
+        ensures { result ≡ short_of self.now }
+    {
+        match self {
+            Held::ToldWhole { short, .. } => *short,
+            Held::ToldSet { short, .. } => *short,
+            Held::ToldFew { short, .. } => *short,
+            Held::ToldPart { short, .. } => *short,
+            Held::ToldFirstSet { short, .. } => *short,
+            Held::ToldSecondSet { short, .. } => *short,
+            Held::Blank => unreachable!(),
+        }
+    }
+
+    pub(crate) fn told(&self) -> Told
+        requires { IsSome (row_of self.now) }
+        ensures { result ≡ told_of self.now }
+    {
+        match self {
+            Held::ToldWhole { .. } => Told::AsWhole,
+            Held::ToldSet { .. } => Told::IsSet,
+            Held::ToldFew { .. } => Told::AsFew,
+            Held::ToldPart { .. } => Told::AsPart,
+            Held::ToldFirstSet { .. } => Told::FirstIsSet,
+            Held::ToldSecondSet { .. } => Told::SecondIsSet,
+            Held::Blank => unreachable!(),
+        }
+    }
+
+    // All variants have their lanes at one place, so this needs no jump.
+    fn lanes(&self) -> (&LaneAttrs, &LaneSlots)
+        requires { IsSome (row_of self.now) }
+        ensures { few_in self.now ≡ few_with (told_of self.now) result.0.now result.1.now }
+    {
+        match self {
+            Held::ToldWhole { attrs, slots, .. } => (attrs, slots),
+            Held::ToldSet { attrs, slots, .. } => (attrs, slots),
+            Held::ToldFew { attrs, slots, .. } => (attrs, slots),
+            Held::ToldPart { attrs, slots, .. } => (attrs, slots),
+            Held::ToldFirstSet { attrs, slots, .. } => (attrs, slots),
+            Held::ToldSecondSet { attrs, slots, .. } => (attrs, slots),
+            Held::Blank => unreachable!(),
+        }
+    }
+
+    /// The tests that the lanes are of.
+    pub(crate) fn tests(&self) -> FewTests
+        requires { IsSome (row_of self.now) }
+        ensures { result ≡ few_in self.now }
+    {
+        let (attrs, slots) = self.lanes();
+        FewTests::told(self.told(), *attrs, *slots)
+    }
+
+    // Whether an event of single values passes the lanes.
+    fn passes(&self, e: &Sight) -> bool
+        requires { IsSome (row_of self.now) }
+        ensures { result ≡ passes_lanes e.now (few_in self.now) }
+    {
+        let (attrs, slots) = self.lanes();
+        e.passes(*attrs, slots)
+    }
+
+    /// Whether it has no row.
+    pub(crate) fn is_blank(&self) -> bool
+        ensures { result ≡ false → IsSome (row_of self.now) }
+    {
+        match self {
+            Held::Blank => true,
+            Held::ToldWhole { .. } => false,
+            Held::ToldSet { .. } => false,
+            Held::ToldFew { .. } => false,
+            Held::ToldPart { .. } => false,
+            Held::ToldFirstSet { .. } => false,
+            Held::ToldSecondSet { .. } => false,
+        }
+    }
+
+    /// By the lanes, whether the event may satisfy the condition, and whether it then does for sure. Of an event that isn't of
+    /// single values they say nothing.
+    pub(crate) fn ask(&self, e: &Sight) -> (bool, bool)
+        requires { IsSome (row_of self.now) }
+        ensures may { (conj : List Pred) → HoldLanes conj (told_of self.now) (few_in self.now) → satisfies e.now conj ≡ true → result.0 ≡ true }
+        ensures sure { (conj : List Pred) → HoldLanes conj (told_of self.now) (few_in self.now) → result.0 ≡ true → result.1 ≡ true → satisfies e.now conj ≡ true }
+    {
+        let passes = self.passes(e);
+        let exact = e.is_exact();
+        (passes | !exact, self.told().is_sure() & exact)
+    }
+}
