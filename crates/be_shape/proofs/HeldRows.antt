@@ -1,5 +1,5 @@
 -- What a place tells is true of its row.
-use Rattle.std.proofs.Common.{◌≡◌, ℕ, ◌<◌, nat_lt, cond, Bool, true, false, Option, Some, None, IsSome, IfSome, refl, sym, ap, subst, ◌∙◌, arith}
+use Rattle.std.proofs.Common.{◌≡◌, ℕ, nat_lt, cond, Bool, true, false, Option, Some, None, IsSome, IfSome, refl, sym, ap, subst}
 use Rattle.std.specs.Prelude.{option_map}
 use Rattle.be_model.specs.declared.changes.Row.{Row}
 use Rattle.be_model.specs.Rows.{id_of}

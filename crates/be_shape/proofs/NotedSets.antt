@@ -1,5 +1,5 @@
 -- What is told of the number between the ends of a set, in the place of the third lane's attribute.
-use Rattle.std.proofs.Common.{◌≡◌, ℕ, ◌<◌, true, false, List, [], ◌∷◌, length, refl, sym, subst, ◌∙◌}
+use Rattle.std.proofs.Common.{◌≡◌, ℕ, true, false, List, [], ◌∷◌, refl, ◌∙◌}
 use Rattle.be_model.specs.declared.preds.Pred.{Pred}
 use Rattle.be_model.specs.Matching.{Assignments}
 use Rattle.be_shape.specs.declared.small_sets.Told.{Told}

@@ -21,7 +21,8 @@ test_of lane = (numbered lane.0, ends_of lane.1)
 abbrev pub few_of : Count → Lane → Lane → Lane → Few
 few_of count x y z = record { tests = tests_of count (test_of x) (test_of y) (test_of z); first = x; second = y; third = z }
 
--- a lane without a test is free, but where the lanes behind the first are of the gaps of a set
+-- how many tests there are, by the slots: a lane without a test is free, but where a set is all of the condition, which is one test,
+-- and the lanes behind the first are of its gaps
 abbrev pub count_told : Told → Slot → Slot → Slot → Count
 count_told told x y z = if is_set told then One else (if is_free x then Zero else (if is_free y then One else (if is_free z then Two else Three)))
 

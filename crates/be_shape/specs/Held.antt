@@ -59,8 +59,9 @@ few_in (ToldPart attrs short slots row) = few_with AsPart attrs slots
 few_in (ToldFirstSet attrs short slots row) = few_with FirstIsSet attrs slots
 few_in (ToldSecondSet attrs short slots row) = few_with SecondIsSet attrs slots
 
--- lanes, the glance, and of a set that the row wants a number of. What is told of the number between the ends of the set stands in
--- the place of the third lane's attribute
+-- what is told of a row is right: the tests are its glance, its condition has the form of one, and neither what is told of a set nor
+-- the lanes refuse an event that satisfies it. What is told of the number between the ends of the set stands in the place of the
+-- third lane's attribute
 pub record IsTold (row : Row) (told : Told) (few : Few) : Type 0 where
   pub tests : glance few.tests (extent_of told) ≡ glance_of row.conj
   pub form : IsConj row.conj

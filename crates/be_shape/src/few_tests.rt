@@ -33,7 +33,8 @@ use be_model::{Conj, Op, Pred, Row, Schema};
 use std::marker::Model;
 
 /// At most three tests, of attributes below 256, and three lanes, of which the first are of the tests. Where there are fewer than
-/// three, the third attribute may be what is told of the number between the ends of a set, as any attribute does for a free slot.
+/// three tests, the third attribute may be what is told of the number between the ends of a set: a free slot lets every event pass,
+/// whatever its attribute.
 #[derive(Drop)]
 pub(crate) struct FewTests {
     count: Count,
@@ -251,7 +252,7 @@ impl FewTests {
         }
     }
 
-    // What is told where the predicate is of a small set, on which there is a test.
+    // What is told where the predicate is of a small set, and the first or second test is on it.
     fn set_told(&self, pred: &Pred) -> Option<(Told, u8)>
         ensures few { IfSome result (λ set. extent_of set.0 ≡ Few) }
         ensures plain { IfSome result (λ set. set.0 ≡ IsSet → ⊥) }
@@ -265,7 +266,7 @@ impl FewTests {
         Some((told, middle))
     }
 
-    /// What is told of the first small set of the condition on which there is a test.
+    /// What is told of the first small set of the condition on which the first or second test is.
     pub(crate) fn set_among(&self, conj: &Conj) -> (Told, u8)
         ensures few { extent_of result.0 ≡ Few }
         ensures plain { result.0 ≡ IsSet → ⊥ }

@@ -1,6 +1,6 @@
 //! What a place of a leaf has.
 
-ghost use Rattle.std.specs.Prelude.{◌≡◌, true, false, List, Some, IsSome};
+ghost use Rattle.std.specs.Prelude.{◌≡◌, ◌↔◌, true, false, List, Some, IsSome};
 ghost use Rattle.std.specs.Arc.{arc_value};
 ghost use Rattle.be_model.specs.declared.preds.Pred.{Pred};
 ghost use Rattle.be_model.specs.Matching.{satisfies};
@@ -224,7 +224,7 @@ impl Held {
 
     /// Whether it has no row.
     pub(crate) fn is_blank(&self) -> bool
-        ensures { result ≡ false → IsSome (row_of self.now) }
+        ensures { (result ≡ false) ↔ IsSome (row_of self.now) }
     {
         match self {
             Held::Blank => true,

@@ -24,7 +24,7 @@ use std::marker::Model;
 use std::sync::Arc;
 
 /// A place of a leaf: a row, or a blank where the leaf ends. It tells at most three tests of the row and its id, so that a row whose
-/// attributes are told isn't looked at for these, nor for its spans, and no row for its id.
+/// attributes are told isn't looked at for these, nor for its spans, and no row for an id below 2^32 - 1.
 #[derive(Drop)]
 pub(crate) struct Kept {
     held: Held,

@@ -12,7 +12,7 @@ use crate::glances::{Ends, Extent};
 use be_model::Values;
 
 /// How much of a row its tests are, and which of them is of a set of at most three numbers, where one is told. With three tests
-/// none is, as then there is no room for what is told of it.
+/// nothing is told of its numbers, as there is no room.
 #[derive(Clone, Copy)]
 pub(crate) enum Told {
     AsWhole,

@@ -1,6 +1,5 @@
-use Rattle.std.proofs.Common.{◌≡◌, false, true, refl, sym, ap, subst, ◌∙◌}
-use Rattle.be_shape.specs.FewTests.{has_third}
-use Rattle.be_shape.specs.Lanes.{Few, Lane, AreFree}
+use Rattle.std.proofs.Common.{refl, sym, ap, subst, ◌∙◌}
+use Rattle.be_shape.specs.Lanes.{Few, AreFree}
 use Rattle.be_shape.specs.SmallSets.{LosesNone}
 use Rattle.be_shape.proofs.NotedSets.{three_lose_none, same_tests, free_again}
 use Rattle.be_shape.proofs.few_tests.FewTests.noting.Goals as goal

@@ -1,8 +1,8 @@
-use Rattle.std.proofs.Common.{◌≡◌, Some, sym, subst, ap, ap₂, ◌∙◌}
+use Rattle.std.proofs.Common.{sym, subst, ap₂, ◌∙◌}
 use Rattle.std.specs.Arc.{arc_value}
 use Rattle.be_shape.specs.declared.small_sets.Told.{Told}
-use Rattle.be_shape.specs.Glances.{glance, glance_of}
-use Rattle.be_shape.specs.Held.{row_of, short_of, short_id, told_of, few_in, IsTold}
+use Rattle.be_shape.specs.Glances.{glance}
+use Rattle.be_shape.specs.Held.{few_in}
 use Rattle.be_shape.specs.Lanes.{Few, HoldLanes}
 use Rattle.be_shape.specs.SmallSets.{extent_of, LosesNone}
 use Rattle.be_shape.proofs.HeldRows.{of_row}
