@@ -6,7 +6,7 @@ ghost use Rattle.be_base.specs.Counts.{raised};
 ghost use Rattle.be_model.specs.Bounds.{IsWithinBound};
 ghost use Rattle.be_model.specs.ByIds.{rows_of};
 ghost use Rattle.be_model.specs.Lies.{conj_lies, event_lies, row_lies};
-ghost use Rattle.be_model.specs.Matching.{satisfied};
+ghost use Rattle.be_model.specs.Matching.{FindsSome, satisfied};
 ghost use Rattle.be_change.specs.History.{live, hit_rows, is_live_name};
 ghost use Rattle.be_change.specs.Opening.{IsTable};
 ghost use Rattle.be_change.specs.Requests as asked;
@@ -94,7 +94,8 @@ impl<I: Index> LocalBoard<I> {
     /// How many live rows the event satisfies. It is no read of the session, and puts none of their names.
     pub fn count_hits(&self, event: &Event, ids: &mut Ids) -> Result<u64, NoMemory>
         requires { event_lies (I.schema self.now.index) event.now ≡ true }
-        ensures { IfOk result (λ n. n ≡ length (satisfied event.now (live_rows self.now.list))) }
+        ensures count { IfOk result (λ n. n ≡ length (satisfied event.now (live_rows self.now.list))) }
+        ensures some { OnErr result (FindsSome event.now (live_rows self.now.list)) }
     {
         self.copy.read().count_hits(event, ids)
     }

@@ -20,7 +20,7 @@ use Rattle.be_change.specs.Walk.{live_rows}
 use Rattle.be_index.specs.Ids.{ids_of}
 use Rattle.be_index.specs.Names.{spaced}
 use Rattle.be_index.specs.Puts.{PutsItems}
-use Rattle.be_copy.specs.Hits.{spaced_name, spaced_of, spaced_at, all_spaced_at}
+use Rattle.be_copy.specs.Hits.{spaced_name, spaced_of, spaced_at, all_spaced_at, all_texts_at}
 use Rattle.be_copy.specs.Registers.{AreOfList}
 
 ids_said : (m : ByIds) → SayIds m → map id_of (rows_of m) ≡ ids_of m
@@ -48,10 +48,14 @@ as_many_ids rows before found none puts =
     ap length (puts.put ∙ ap (λ (is : List ℕ). is ++ map id_of puts.found) none) ∙ length-map puts.found id_of ∙ length_permutation rows puts.found puts.exact
 
 -- the text of each entry stands at its place
-pub spaced_there : (h : List Entry) (i : ℕ) → get_or (map spaced_of h) i [] ≡ spaced_at h i
+spaced_there : (h : List Entry) (i : ℕ) → get_or (map spaced_of h) i [] ≡ spaced_at h i
 spaced_there [] i = refl
 spaced_there (e ∷ h) zero = refl
 spaced_there (e ∷ h) (suc i) = spaced_there h i
+
+pub all_there : (h : List Entry) (ids : List ℕ) → all_texts_at (map spaced_of h) ids ≡ all_spaced_at h ids
+all_there h [] = refl
+all_there h (i ∷ ids) = ap₂ (λ (text texts : Text). text ++ texts) (spaced_there h i) (all_there h ids)
 
 -- at these ids stand the names of those that pass
 pub names_kept : (h : List Entry) (p : ℕ × Row → Bool) (m : ByIds) → AreOfList h m → Rising m → all_spaced_at h (ids_of (filter p m)) ≡ spaced (names_of (filter p m))

@@ -1,5 +1,5 @@
 -- Names of rows by their ids, as replies have them.
-use Rattle.std.specs.Prelude.{ℕ, List, [], ◌∷◌, Option, Some, None, slice_get}
+use Rattle.std.specs.Prelude.{◌≡◌, ℕ, List, [], ◌∷◌, map, Option, Some, None, slice_get, get_or, IfSome}
 use Rattle.std.specs.List.{flat_map}
 use Rattle.be_base.specs.Text.{Text}
 use Rattle.be_model.specs.declared.changes.Row.{Row}
@@ -22,3 +22,11 @@ spaced_at h id = spaced_name (row_in (slice_get h id))
 -- those at these places
 abbrev pub all_spaced_at : List Entry → List ℕ → Text
 all_spaced_at h ids = flat_map (spaced_at h) ids
+
+-- those of these texts
+abbrev pub all_texts_at : List Text → List ℕ → Text
+all_texts_at texts ids = flat_map (λ id. get_or texts id []) ids
+
+-- a text for each entry of the list, where there are texts
+abbrev pub AreNamesOf : List Entry → Option (List Text) → Type 0
+AreNamesOf h names = IfSome names (λ texts. texts ≡ map spaced_of h)

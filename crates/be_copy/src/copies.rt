@@ -1,6 +1,6 @@
 //! A list of changes and an index of what is live in it.
 
-ghost use Rattle.std.specs.Prelude.{◌≡◌, ◌<◌, ◌≤◌, ◌++◌, ◌∷◌, [], true, false, length, map, find, option_map, IfSome, OnOk, OnErr, IfOk, if◌then◌else◌};
+ghost use Rattle.std.specs.Prelude.{◌≡◌, ◌<◌, ◌++◌, ◌∷◌, [], true, false, length, map, find, option_map, IfSome, OnOk, OnErr, IfOk, if◌then◌else◌};
 ghost use Rattle.std.specs.Arc.{arc_value};
 ghost use Rattle.std.specs.Option.{IfNone};
 ghost use Rattle.be_model.specs.declared.paths.StepDone.TheVariants.{Done, NotHere};
@@ -12,7 +12,7 @@ ghost use Rattle.be_change.specs.History.{live, after_entry, has_name, is_live_n
 ghost use Rattle.be_change.specs.Walk.{HasNameAt};
 ghost use Rattle.be_change.specs.Sound.{all_lie};
 ghost use Rattle.be_copy.specs.Edits.{fits, with_entry};
-ghost use Rattle.be_copy.specs.Hits.{spaced_of, spaced_at};
+ghost use Rattle.be_copy.specs.Hits.{spaced_of, AreNamesOf};
 ghost use Rattle.be_copy.specs.Registers.{IsKept, IsRegister};
 
 use crate::edits::Edit;
@@ -34,7 +34,8 @@ pub struct Copy2<I: Index> {
     log: ChangeLog,
     index: I,
     register: Register,
-    names: SpacedNames,
+    // The names of the list's rows, one behind another. There are none from where memory was wanting to them.
+    names: Option<SpacedNames>,
 }
 
 impl<I: Index> Model for Copy2<I> {
@@ -42,13 +43,12 @@ impl<I: Index> Model for Copy2<I> {
 
     ghost Value = { Copied I };
 
-    ghost use Rattle.std.specs.Prelude.{◌≡◌, map};
-    ghost use Rattle.be_copy.specs.Hits.{spaced_of};
+    ghost use Rattle.be_copy.specs.Hits.{AreNamesOf};
     ghost use Rattle.be_copy.specs.Registers.{IsKept};
 
     ghost view = { λ c. record { list = c.log.list; index = c.index } };
 
-    ghost invariant = { λ c. IsKept (I.schema c.index) c.log.list (I.rows c.index) c.register × (c.names.texts ≡ map spaced_of c.log.list) };
+    ghost invariant = { λ c. IsKept (I.schema c.index) c.log.list (I.rows c.index) c.register × AreNamesOf c.log.list c.names };
 }
 
 impl<I: Index> Copy2<I> {
@@ -64,7 +64,7 @@ impl<I: Index> Copy2<I> {
             log: ChangeLog::make(alloc),
             index,
             register: Register::make(alloc),
-            names: SpacedNames::make(alloc),
+            names: Some(SpacedNames::make(alloc)),
         }
     }
 
@@ -82,11 +82,11 @@ impl<I: Index> Copy2<I> {
         &self.index
     }
 
-    // The name of the row at a place, after a space, or no text where none is made there.
-    pub(crate) fn spaced_name(&self, id: u64) -> &[u8]
-        ensures { result.now ≡ spaced_at self.now.list id }
+    // The names of the list's rows by their places, where there is memory for them.
+    pub(crate) fn names(&self) -> Option<&SpacedNames>
+        ensures { IfSome result (λ texts. texts.now ≡ map spaced_of self.now.list) }
     {
-        self.names.at(id)
+        self.names.as_ref()
     }
 
     /// The live row of a name: of several, which no well formed list has, that of the lowest id.
@@ -155,13 +155,13 @@ fn take_in<I: Index>(
     log: &mut ChangeLog,
     index: &mut I,
     register: &mut Register,
-    names: &mut SpacedNames,
+    names: &mut Option<SpacedNames>,
     change: &Arc<Change>,
 ) -> Result<StepDone, NoMemory>
     requires kept { IsKept (I.schema index.old) log.old.list (I.rows index.old) register.old }
-    requires names { names.old.texts ≡ map spaced_of log.old.list }
+    requires names { AreNamesOf log.old.list names.old }
     ensures kept { IsKept (I.schema index.new) log.new.list (I.rows index.new) register.new }
-    ensures names { names.new.texts ≡ map spaced_of log.new.list }
+    ensures names { AreNamesOf log.new.list names.new }
     ensures answer { IfOk result (λ done. done ≡ (if fits (I.schema index.old) log.old.list (entry_of (arc_value change.now)) then Done else NotHere)) }
     ensures list { OnOk result (log.new.list ≡ with_entry (I.schema index.old) log.old.list (entry_of (arc_value change.now))) }
     ensures refused { OnErr result (log.new.list ≡ log.old.list) }
@@ -174,7 +174,6 @@ fn take_in<I: Index>(
         return Ok(StepDone::NotHere);
     }
     log.make_room(change)?;
-    names.make_room(log.spare(), change)?;
     let kept = Arc::try_clone(change)?;
     change_rows(log, index, register, change)?;
     append(log, names, kept);
@@ -246,17 +245,29 @@ fn add_row<I: Index>(
 }
 
 // Puts a change last, for which there is room.
-fn append(log: &mut ChangeLog, names: &mut SpacedNames, change: Arc<Change>)
+fn append(log: &mut ChangeLog, names: &mut Option<SpacedNames>, change: Arc<Change>)
     requires room { 0 < log.old.spare }
     requires id { HasIdAt (length log.old.list) (entry_of (arc_value change)) }
-    requires places { 0 < names.old.places }
-    requires bytes { length (spaced_of (entry_of (arc_value change))) ≤ names.old.bytes }
+    requires names { AreNamesOf log.old.list names.old }
     ensures list { log.new.list ≡ log.old.list ++ entry_of (arc_value change) ∷ [] }
-    ensures names { names.new.texts ≡ names.old.texts ++ spaced_of (entry_of (arc_value change)) ∷ [] }
+    ensures names { AreNamesOf log.new.list names.new }
 {
-    names.put(&change);
+    put_name(names, &change);
     match log.push(change) {
         Ok(()) => {}
         Err(_) => unreachable!(),
+    }
+}
+
+// Puts the name of the row that a change makes behind the others. Where memory is wanting to it all are given up, so that no change is
+// refused for a name's sake.
+fn put_name(names: &mut Option<SpacedNames>, change: &Change)
+    ensures { (h : _) → AreNamesOf h names.old → AreNamesOf (h ++ entry_of change.now ∷ []) names.new }
+{
+    let Some(mut texts) = names.take() else {
+        return;
+    };
+    if texts.push(change).is_ok() {
+        *names = Some(texts);
     }
 }

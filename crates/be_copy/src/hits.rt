@@ -8,10 +8,12 @@ ghost use Rattle.be_change.specs.History.{hit_rows, hits};
 ghost use Rattle.be_change.specs.Walk.{live_rows};
 ghost use Rattle.be_index.specs.Ids.{ids_of};
 ghost use Rattle.be_index.specs.Names.{spaced};
-ghost use Rattle.be_copy.specs.Hits.{all_spaced_at};
+ghost use Rattle.be_copy.specs.Hits.{spaced_at, all_spaced_at, all_texts_at};
 
 use crate::copies::Copy2;
-use be_base::NoMemory;
+use crate::spaced_names::SpacedNames;
+use be_base::{Id, NoMemory};
+use be_change::ChangeLog;
 use be_index::{Ids, Index};
 use be_model::{Cost, Event};
 
@@ -39,7 +41,7 @@ impl<I: Index> Copy2<I> {
         }
     }
 
-    /// How many live rows the event satisfies, by one search, whose ids are left in no order.
+    /// How many live rows the event satisfies, by one search, which uses `ids` as its room.
     pub fn count_hits(&self, event: &Event, ids: &mut Ids) -> Result<u64, NoMemory>
         requires { event_lies (I.schema self.now.index) event.now ≡ true }
         ensures count { IfOk result (λ n. n ≡ length (satisfied event.now (live_rows self.now.list))) }
@@ -73,9 +75,41 @@ impl<I: Index> Copy2<I> {
         ensures put { OnOk result (names.new.items ≡ names.old.items ++ all_spaced_at self.now.list ids.now) }
         ensures some { OnErr result (0 < length ids.now) }
     {
-        for id in ids {
-            names.extend_from_slice(self.spaced_name(*id))?;
+        match self.names() {
+            Some(texts) => push_texts(texts, ids, names),
+            None => push_from_rows(self.log(), ids, names),
         }
-        Ok(())
     }
+}
+
+// Puts the texts at these places last.
+fn push_texts(texts: &SpacedNames, ids: &[u64], names: &mut Vec<u8>) -> Result<(), NoMemory>
+    ensures put { OnOk result (names.new.items ≡ names.old.items ++ all_texts_at texts.now ids.now) }
+    ensures some { OnErr result (0 < length ids.now) }
+{
+    for id in ids {
+        names.extend_from_slice(texts.at(*id))?;
+    }
+    Ok(())
+}
+
+// The same from the rows themselves.
+fn push_from_rows(log: &ChangeLog, ids: &[u64], names: &mut Vec<u8>) -> Result<(), NoMemory>
+    ensures put { OnOk result (names.new.items ≡ names.old.items ++ all_spaced_at log.now.list ids.now) }
+    ensures some { OnErr result (0 < length ids.now) }
+{
+    for id in ids {
+        push_from_row(log, *id, names)?;
+    }
+    Ok(())
+}
+
+fn push_from_row(log: &ChangeLog, id: u64, names: &mut Vec<u8>) -> Result<(), NoMemory>
+    ensures { OnOk result (names.new.items ≡ names.old.items ++ spaced_at log.now.list id) }
+{
+    if let Some(row) = log.row(Id(id)) {
+        names.extend_from_slice(b" ")?;
+        names.extend_from_slice(row.name.bytes())?;
+    }
+    Ok(())
 }

@@ -1,6 +1,6 @@
 //! The names of a list's rows by their places, one behind another.
 
-ghost use Rattle.std.specs.Prelude.{◌≡◌, ◌+◌, ◌-◌, ◌<◌, ◌≤◌, ◌++◌, ◌∷◌, [], length, take, drop, get_or, slice_get, Some, vec_len, vec_capacity, OnOk, IfSome};
+ghost use Rattle.std.specs.Prelude.{◌≡◌, ◌+◌, ◌-◌, ◌<◌, ◌≤◌, ◌++◌, ◌∷◌, [], length, take, drop, get_or, slice_get, Some, vec_len, vec_capacity, OnOk, OnErr, IfSome};
 ghost use Rattle.std.specs.Option.{IfNone};
 ghost use Rattle.be_change.specs.Entries.{entry_of};
 ghost use Rattle.be_copy.specs.Hits.{spaced_of};
@@ -21,12 +21,13 @@ pub struct SpacedNames {
 }
 
 impl Model for SpacedNames {
-    ghost use Rattle.std.specs.Prelude.{◌-◌, vec_len, vec_capacity};
-    ghost use Rattle.be_copy.specs.Runs.{Run, cut_at, AreEnds};
+    ghost use Rattle.std.specs.Prelude.{List};
+    ghost use Rattle.be_base.specs.Text.{Text};
+    ghost use Rattle.be_copy.specs.Runs.{cut_at, AreEnds};
 
-    ghost Value = { Run };
+    ghost Value = { List Text };
 
-    ghost view = { λ n. record { texts = cut_at 0 n.ends.items n.bytes.items; places = vec_capacity n.ends - vec_len n.ends; bytes = vec_capacity n.bytes - vec_len n.bytes } };
+    ghost view = { λ n. cut_at 0 n.ends.items n.bytes.items };
 
     ghost invariant = { λ n. AreEnds 0 n.ends.items n.bytes.items };
 }
@@ -34,7 +35,7 @@ impl Model for SpacedNames {
 impl SpacedNames {
     /// No places. It takes no memory.
     pub fn make(alloc: Global) -> SpacedNames
-        ensures { result.texts ≡ [] }
+        ensures { result ≡ [] }
     {
         SpacedNames {
             bytes: Vec::new(alloc),
@@ -42,32 +43,20 @@ impl SpacedNames {
         }
     }
 
-    /// Makes room for so many places, the first of which is that of the change.
-    pub fn make_room(&mut self, places: usize, change: &Change) -> Result<(), NoMemory>
-        ensures texts { self.new.texts ≡ self.old.texts }
-        ensures places { OnOk result (places ≤ self.new.places) }
-        ensures bytes { OnOk result (length (spaced_of (entry_of change.now)) ≤ self.new.bytes) }
+    /// Puts the text of a change last.
+    pub fn push(&mut self, change: &Change) -> Result<(), NoMemory>
+        ensures put { OnOk result (self.new ≡ self.old ++ spaced_of (entry_of change.now) ∷ []) }
+        ensures refused { OnErr result (self.new ≡ self.old) }
     {
-        self.ends.reserve(places)?;
-        if let Change::Sub { row, .. } = change {
-            self.bytes.reserve(1 + row.name.bytes().len())?;
-        }
+        self.ends.reserve(1)?;
+        reserve_name(&mut self.bytes, change)?;
+        put_text(&mut self.bytes, &mut self.ends, change);
         Ok(())
-    }
-
-    /// Puts the text of a change last, for which there is room.
-    pub fn put(&mut self, change: &Change)
-        requires places { 0 < self.old.places }
-        requires bytes { length (spaced_of (entry_of change.now)) ≤ self.old.bytes }
-        ensures { self.new.texts ≡ self.old.texts ++ spaced_of (entry_of change.now) ∷ [] }
-    {
-        push_name(&mut self.bytes, change);
-        self.ends.push_reserved(self.bytes.len());
     }
 
     /// The text of a place, or none behind the last one.
     pub fn at(&self, place: u64) -> &[u8]
-        ensures { result.now ≡ get_or self.now.texts place [] }
+        ensures { result.now ≡ get_or self.now place [] }
     {
         match span_at(&self.ends, place as usize) {
             Some((start, end)) => &self.bytes[start..end],
@@ -85,6 +74,29 @@ fn span_at(ends: &[usize], place: usize) -> Option<(usize, usize)>
     let end = *ends.get(place)?;
     let start = if place == 0 { 0 } else { ends[place - 1] };
     Some((start, end))
+}
+
+// Makes room for the name of the row that a change makes, and for a space.
+fn reserve_name(bytes: &mut Vec<u8>, change: &Change) -> Result<(), NoMemory>
+    ensures same { bytes.new.items ≡ bytes.old.items }
+    ensures room { OnOk result (vec_len bytes.new + length (spaced_of (entry_of change.now)) ≤ vec_capacity bytes.new) }
+{
+    if let Change::Sub { row, .. } = change {
+        bytes.reserve(1 + row.name.bytes().len())?;
+    }
+    Ok(())
+}
+
+// Puts the text of a change last, for which there is room.
+fn put_text(bytes: &mut Vec<u8>, ends: &mut Vec<usize>, change: &Change)
+    requires places { vec_len ends.old < vec_capacity ends.old }
+    requires room { vec_len bytes.old + length (spaced_of (entry_of change.now)) ≤ vec_capacity bytes.old }
+    requires ends { AreEnds 0 ends.old.items bytes.old.items }
+    ensures ends { AreEnds 0 ends.new.items bytes.new.items }
+    ensures texts { cut_at 0 ends.new.items bytes.new.items ≡ cut_at 0 ends.old.items bytes.old.items ++ spaced_of (entry_of change.now) ∷ [] }
+{
+    push_name(bytes, change);
+    ends.push_reserved(bytes.len());
 }
 
 // Puts the name of the row that a change makes last, after a space, for which there is room.

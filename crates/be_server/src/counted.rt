@@ -3,7 +3,7 @@
 ghost use Rattle.std.specs.Prelude.{◌≡◌, ◌++◌, [], length, true, false, OnOk, OnErr, IfOk};
 ghost use Rattle.be_model.specs.Bounds.{IsWithinBound};
 ghost use Rattle.be_model.specs.Lies.{conj_lies, event_lies};
-ghost use Rattle.be_model.specs.Matching.{satisfied};
+ghost use Rattle.be_model.specs.Matching.{FindsSome, satisfied};
 ghost use Rattle.be_change.specs.History.{live, is_live_name};
 ghost use Rattle.be_change.specs.Made.{change_named};
 ghost use Rattle.be_change.specs.Requests as asked;
@@ -61,6 +61,7 @@ impl<I: Index> CountedBoard<I> {
     pub fn count_hits(&mut self, event: &Event) -> Result<u64, NoMemory>
         requires { event_lies (I.schema self.old.board.index) event.now ≡ true }
         ensures hits { IfOk result (λ n. n ≡ length (satisfied event.now (live_rows self.old.board.list))) }
+        ensures some { OnErr result (FindsSome event.now (live_rows self.old.board.list)) }
         ensures list { self.new.board.list ≡ self.old.board.list }
         ensures schema { I.schema self.new.board.index ≡ I.schema self.old.board.index }
     {
