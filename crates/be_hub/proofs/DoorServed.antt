@@ -11,14 +11,13 @@ use Rattle.std.proofs.lemmas.Option.{slice_get-get_or, slice_get_within}
 use Rattle.atomic_table.specs.Seated.{TableId}
 use Rattle.be_base.specs.Counts.{raised, HasRisen}
 use Rattle.be_base.specs.Lists.{BeginsWith}
-use Rattle.be_base.specs.declared.names.SessionNo.{SessionNo}
 use Rattle.be_io.specs.Outside.{LinkState}
 use Rattle.be_model.specs.Letters.{PlainLetter}
 use Rattle.be_model.specs.Schemas.{Attributes}
 use Rattle.be_change.specs.History.{Entry, session_of, IsWellFormed}
 use Rattle.be_mail.specs.Letters.{seat_of, letter_in}
 use Rattle.be_mail.specs.Mailbox.{BoxId, Mailbox}
-use Rattle.be_mail.specs.Passes.{Passes, new_passes}
+use Rattle.be_mail.specs.Passes.{new_passes}
 use Rattle.be_mail.specs.Settled.{AreAll}
 use Rattle.be_desk.specs.Boards.{put_count}
 use Rattle.be_desk.specs.Closing.{AreRecorded}
@@ -27,13 +26,12 @@ use Rattle.be_desk.specs.Seats.{SeatState, first_seat, IsKeptSeat}
 use Rattle.be_door.specs.Counts.{CountState, sums_of, with_counts, all_kept}
 use Rattle.be_door.specs.Door.{DoorState, IsOf, AreAllCounts}
 use Rattle.be_door.specs.Sums.{no_sums}
-use Rattle.be_door.specs.declared.sums.Sums.{Sums}
 use Rattle.be_protocol.specs.declared.ends.SessionEnd.{SessionEnd}
 use Rattle.be_hub.specs.Closing.{KeepsAll, AreInOrder}
 use Rattle.be_hub.specs.Files.{is_split_end}
 use Rattle.be_hub.specs.Links.{session_at, IsCounted, IsOfLink, SeatVisit, WorkerServed}
 use Rattle.be_hub.specs.Posted.{LetterBox, taken_for, StandAmong, WasBox}
-use Rattle.be_hub.specs.Serving.{Told, ServedLink, IsServedLink, AreApart, Worker, TakeTurns, HasLetters, session_and_link, told_of, AreKept, LinksAreServed}
+use Rattle.be_hub.specs.Serving.{Told, ServedLink, IsServedLink, AreApart, Worker, TakeTurns, HasLetters, session_and_link, told_of, AreKept}
 use Rattle.be_hub.specs.Settling.{IsUnbroken, CountsSplits}
 use Rattle.be_hub.proofs.Ends.{there}
 use Rattle.be_hub.proofs.Pairs.{get_map, one_at, map_at}
