@@ -241,9 +241,10 @@ if command -v python3 >/dev/null; then
     python3 "$top/tests/client.py" "$program" || exit 1
     python3 "$top/tests/model.py" "$program" 40 || exit 1
     python3 "$top/tests/cover.py" "$program" || exit 1
-    passed=$((passed + 3))
+    python3 "$top/tests/limits.py" "$program" "$top/examples/short/schema.txt" || exit 1
+    passed=$((passed + 4))
 else
-    echo 'skipped: the client and the model: there is no python3 here'
+    echo 'skipped: the client, the model and limits on memory: there is no python3 here'
 fi
 
 echo "$passed passed, 0 failed"
