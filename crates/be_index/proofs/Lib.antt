@@ -1,3 +1,4 @@
 pub mod Adding
+pub mod IdBits
 pub mod Maps
 pub mod Searches

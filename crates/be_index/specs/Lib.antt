@@ -1,3 +1,4 @@
+pub mod IdBits
 pub mod Ids
 pub mod Names
 pub mod Puts

@@ -7,6 +7,7 @@
 #![tactic(auto)]
 
 mod hits;
+mod id_bits;
 mod ids;
 mod promise;
 mod rows;
