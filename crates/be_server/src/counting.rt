@@ -16,6 +16,7 @@ use be_io::first_line;
 use be_model::Schema;
 use be_protocol::{Request, read_line};
 use std::alloc::Global;
+use std::mem;
 
 /// A run so far, and the sums of its replies.
 #[derive(Drop)]
@@ -76,5 +77,8 @@ pub fn count_script<I: Index>(
         counting.answer(alloc, schema, line)?;
         rest = after;
     }
-    Ok(counting.sums)
+    let Counting { board, sums } = counting;
+    // The program ends behind this, and the system takes the board's memory back at once.
+    mem::forget(board);
+    Ok(sums)
 }

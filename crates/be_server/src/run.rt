@@ -24,6 +24,7 @@ use be_model::Schema;
 use be_session::{SessionEnd, serve_link};
 use be_tree::BeTree;
 use std::alloc::Global;
+use std::mem;
 use std::sync::Arc;
 
 /// The worker of a run's session.
@@ -71,7 +72,10 @@ fn serve<S: Source, K: Sink>(
     };
     // That the list keeps the board's word comes to light at the list.
     let _ = board.log();
-    serve_pair(alloc, &schema, &mut board, input, out)
+    let end = serve_pair(alloc, &schema, &mut board, input, out);
+    // The program ends behind this, and the system takes the board's memory back at once.
+    mem::forget(board);
+    end
 }
 
 // Serves the board's session over two objects.

@@ -15,7 +15,7 @@ ghost use Rattle.be_shape.specs.Glances.{may_meet, test_on, is_whole, glance, gl
 ghost use Rattle.be_shape.specs.Listed.{attrs_told};
 ghost use Rattle.be_model.specs.declared.preds.Pred.{Pred};
 ghost use Rattle.be_shape.specs.declared.small_sets.Told.{Told};
-ghost use Rattle.be_shape.specs.Lanes.{passes_lanes, AreFree, HoldLanes};
+ghost use Rattle.be_shape.specs.Lanes.{AreFree, HoldLanes};
 ghost use Rattle.be_shape.specs.SmallSets.{extent_of, passes_set, passes_told, LosesNone};
 
 use crate::gaps::gaps_of;
@@ -208,14 +208,6 @@ impl FewTests {
         }
     }
 
-    // Whether an event of single values passes the lanes.
-    fn passes(&self, e: &Sight) -> bool
-        ensures { result ≡ passes_lanes e.now self.now }
-    {
-        let (attrs, slots) = self.lanes();
-        e.passes(attrs, &slots)
-    }
-
     // Whether the event may have a number of the set that is told.
     fn may_have_set(&self, told: Told, e: &Sight) -> bool
         ensures { passes_told told self.now.third.0 self.now.tests e.now ≡ true → result ≡ true }
@@ -305,8 +297,7 @@ impl FewTests {
         }
     }
 
-    // Whether an event of single values that passes the lanes satisfies the condition, where that isn't sure.
-    #[inline(never)]
+    // The same, where what is told of a set may pass the row over.
     fn is_met_by_one(&self, told: Told, conj: &Conj, e: &Sight) -> bool
         requires set { LosesNone conj.now told self.now.third.0 self.now.tests }
         ensures { result ≡ satisfies e.now conj.now }
@@ -314,22 +305,18 @@ impl FewTests {
         self.may_have_set(told, e) && conj.satisfied_by(e.event())
     }
 
-    /// Whether the event satisfies the condition of which this is told.
+    /// Whether the event satisfies the condition of which this is told. An event of single values has passed the lanes mostly, so they
+    /// aren't asked again.
     pub(crate) fn is_met(&self, told: Told, conj: &Conj, e: &Sight) -> bool
         requires told { glance self.now.tests (extent_of told) ≡ glance_of conj.now }
         requires form { IsConj conj.now }
         requires set { LosesNone conj.now told self.now.third.0 self.now.tests }
-        requires lanes { HoldLanes conj.now told self.now }
         ensures { result ≡ satisfies e.now conj.now }
     {
-        if !e.is_exact() {
-            return self.is_met_by_values(told.extent(), conj, e);
-        }
-        let passes = self.passes(e);
-        if passes & !told.is_sure() {
+        if e.is_exact() {
             self.is_met_by_one(told, conj, e)
         } else {
-            passes
+            self.is_met_by_values(told.extent(), conj, e)
         }
     }
 

@@ -7,7 +7,7 @@ ghost use Rattle.be_model.specs.Matching.{satisfies};
 ghost use Rattle.be_model.specs.Rows.{id_of};
 ghost use Rattle.be_shape.specs.FewTests.{few_told};
 ghost use Rattle.be_shape.specs.Held.{short_id, row_of, short_of, told_of, few_in, few_with};
-ghost use Rattle.be_shape.specs.Lanes.{passes_lanes, HoldLanes};
+ghost use Rattle.be_shape.specs.Lanes.{passes_lanes, are_single, HoldLanes};
 
 use crate::few_tests::FewTests;
 use crate::lanes::{LaneAttrs, LaneSlots};
@@ -238,14 +238,17 @@ impl Held {
     }
 
     /// By the lanes, whether the event may satisfy the condition, and whether it then does for sure. Of an event that isn't of
-    /// single values they say nothing.
-    pub(crate) fn ask(&self, e: &Sight) -> (bool, bool)
-        requires { IsSome (row_of self.now) }
+    /// single values they say nothing. Which it is stands in `exact`, so that a search asks it once a block.
+    pub(crate) fn ask(&self, exact: bool, e: &Sight) -> (bool, bool)
+        requires row { IsSome (row_of self.now) }
+        requires exact { exact ≡ are_single e.now }
         ensures may { (conj : List Pred) → HoldLanes conj (told_of self.now) (few_in self.now) → satisfies e.now conj ≡ true → result.0 ≡ true }
         ensures sure { (conj : List Pred) → HoldLanes conj (told_of self.now) (few_in self.now) → result.0 ≡ true → result.1 ≡ true → satisfies e.now conj ≡ true }
     {
-        let passes = self.passes(e);
-        let exact = e.is_exact();
-        (passes | !exact, self.told().is_sure() & exact)
+        if exact {
+            (self.passes(e), self.told().is_sure())
+        } else {
+            (true, false)
+        }
     }
 }

@@ -110,8 +110,8 @@ impl Leaf {
         self.kept(place).id()
     }
 
-    /// Whether the event satisfies the row at a place. The row is looked at only where its tests are met and don't say all;
-    /// most others are passed over by the table of the sight.
+    /// Whether the event satisfies the row at a place, which was chosen and isn't sure. Of an event of single values the lanes aren't
+    /// asked again; the row is looked at unless what is told of a set passes it over.
     pub fn is_met(&self, place: usize, e: &Sight) -> bool
         requires { place < length self.now }
         ensures { option_map (λ row. satisfies e.now row.conj) (slice_get self.now place) ≡ Some result }
@@ -128,9 +128,10 @@ impl Leaf {
         ensures places { Covers e.now self.now from 32 (take result chosen.new) }
     {
         let many = (self.len() - from).min(BLOCK);
+        let exact = e.is_exact();
         let mut kept = 0;
         for at in 0..many {
-            let (may, sure) = self.kept(from + at).ask(e);
+            let (may, sure) = self.kept(from + at).ask(exact, e);
             chosen[kept] = Choice { at: at as u8, sure };
             kept += usize::from(may);
         }

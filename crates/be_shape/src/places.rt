@@ -8,7 +8,7 @@ ghost use Rattle.be_model.specs.Lies.{row_lies};
 ghost use Rattle.be_model.specs.Rows.{has, id_of};
 ghost use Rattle.be_model.specs.Forms.{IsConj};
 ghost use Rattle.be_shape.specs.Glances.{glance, glance_of};
-ghost use Rattle.be_shape.specs.Lanes.{HoldLanes};
+ghost use Rattle.be_shape.specs.Lanes.{are_single, HoldLanes};
 ghost use Rattle.be_shape.specs.Listed.{attrs_of};
 ghost use Rattle.be_shape.specs.SmallSets.{extent_of, LosesNone};
 
@@ -129,13 +129,15 @@ impl Kept {
         tests.has_attr(told.extent(), row, a)
     }
 
-    /// By what is told without a look at the row, whether the event may satisfy it, and whether it then does for sure.
-    pub(crate) fn ask(&self, e: &Sight) -> (bool, bool)
-        requires { IsSome self.now }
+    /// By what is told without a look at the row, whether the event may satisfy it, and whether it then does for sure. Whether the
+    /// event is of single values alone stands in `exact`.
+    pub(crate) fn ask(&self, exact: bool, e: &Sight) -> (bool, bool)
+        requires row { IsSome self.now }
+        requires exact { exact ≡ are_single e.now }
         ensures may { option_map (λ row. satisfies e.now row.conj) self.now ≡ Some true → result.0 ≡ true }
         ensures sure { result.0 ≡ true → result.1 ≡ true → option_map (λ row. satisfies e.now row.conj) self.now ≡ Some true }
     {
-        self.held.ask(e)
+        self.held.ask(exact, e)
     }
 
     /// Whether the event satisfies the row.

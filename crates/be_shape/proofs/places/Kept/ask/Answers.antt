@@ -11,11 +11,11 @@ returns-clause-may c = λ h.
     let held = c.self.inside.held in
     let met = λ (row : Row). satisfies c.args.e.now row.conj in
     let is : option_map met (row_of held) ≡ Some true = subst (λ (o : Option Row). option_map met o ≡ Some true) (sym c.self.view_is) h in
-    if_some held met (subst IsSome (sym c.self.view_is) c.requires) is (c.ask.result.0 ≡ true) (λ row e s. c.ask.ensures.may row.conj (of_row held row c.self.invariant e).1.lanes s)
+    if_some held met (subst IsSome (sym c.self.view_is) c.requires.row) is (c.ask.result.0 ≡ true) (λ row e s. c.ask.ensures.may row.conj (of_row held row c.self.invariant e).1.lanes s)
 
 pub returns-clause-sure : goal.returns-clause-sure
 returns-clause-sure c = λ h k.
     let held = c.self.inside.held in
     let met = λ (row : Row). satisfies c.args.e.now row.conj in
     subst (λ (o : Option Row). option_map met o ≡ Some true) c.self.view_is
-    (of_some held met true (subst IsSome (sym c.self.view_is) c.requires) (λ row e. c.ask.ensures.sure row.conj (of_row held row c.self.invariant e).1.lanes h k))
+    (of_some held met true (subst IsSome (sym c.self.view_is) c.requires.row) (λ row e. c.ask.ensures.sure row.conj (of_row held row c.self.invariant e).1.lanes h k))
