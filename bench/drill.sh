@@ -1,44 +1,57 @@
 #!/usr/bin/env bash
-# Prints how many events a second `drill` answers of 1, 2 and 4 files over 10,000 subscriptions like a market's (bench/market.awk),
-# each file on a processor of its own, and how much longer three such files take beside a file that writes. The times are elapsed
-# ones, less those of as many empty files; each figure is the middle of three runs. Other work on the machine spoils all of it.
+# Prints how many events a second `drill` answers of 1, 2 and 4 files over 10,000 subscriptions, each file on a processor of its own,
+# how much more processor time an event takes at four files than at one, and how much longer three such files take beside a file
+# that writes; of the generated kind (bench/generated.awk) and like a market's (bench/market.awk). All times are less those of as
+# many empty files; each figure is the middle of three runs. Other work on the machine spoils all but the processor time.
 # shellcheck source=common.sh
 . "$(dirname "${BASH_SOURCE[0]}")/common.sh"
 use_program
-pubs="$(scaled 300000)" subs="$(scaled 10000)"
+subs="$(scaled 10000)"
 [ "$(nproc)" -ge 4 ] || echo "$(basename "$0"): four processors are wanted, and there are $(nproc)" >&2
 cd "$room" || exit 1
-schema market >schema.txt
-script market "$subs" 0 | sed 's/^SUB/ROW/' >load.txt
-# each file has its own events
-script market 0 $((4 * pubs)) >events
-split -l "$pubs" --numeric-suffixes=1 -a 1 events reads
 : >none
 
-# writing CHANGES: so many, of a condition that hardly an event satisfies
-writing() { awk -v most="$1" 'BEGIN { for (i = 1; i <= most / 2; i++) print "SUB w price < 5 and volume < 5\nUNSUB w" }'; }
+# prepare KIND EVENTS: a schema, a load file, and files of so many events, each with its own
+prepare() {
+    schema "$1" >schema.txt
+    script "$1" "$subs" 0 | sed 's/^SUB/ROW/' >load.txt
+    script "$1" 0 $((4 * $2)) >events
+    split -l "$2" --numeric-suffixes=1 -a 1 events reads
+}
 
-# took FILE..: the elapsed seconds of one `drill` of them
+# took FILE..: the elapsed seconds of one `drill` of them, and those of all processors
 took() {
-    local TIMEFORMAT=%R seconds
+    local TIMEFORMAT='%R %U %S' seconds
     seconds="$({ time "$program" drill schema.txt 0 "$@" --load=load.txt >out 2>err; } 2>&1)" || fail "$(cat err)"
     sed '/^== LOG/,$d' out | grep -v '^HIT\|^OK\|^==' >others
     [ ! -s others ] || fail "a line has another reply: $(head -n 1 others)"
-    echo "$seconds"
+    echo "$seconds" | awk '{ print $1, $2 + $3 }'
 }
 
-# few enough that the writer ends before the readers
-changes="$(scaled 100000)"
-writing "$changes" >writes
+# measure KIND TEXT EVENTS CHANGES: the rows of a kind, with so many events a file; the writer is to end before the readers. Its
+# condition is one that hardly an event satisfies.
+measure() {
+    local one two four condition
+    prepare "$1" "$3"
+    condition="price < 5 and volume < 5"
+    [ "$1" = market ] || condition="a0 < 5 and a1 < 5"
+    awk -v most="$4" -v condition="$condition" 'BEGIN { for (i = 1; i <= most / 2; i++) print "SUB w " condition "\nUNSUB w" }' >writes
+    # a row of pairs of seconds: 1, 2 and 4 files, each behind as many empty ones; then three files beside an empty and beside a
+    # writing one
+    for _ in 1 2 3; do
+        echo "$(took none) $(took reads1) $(took none none) $(took reads1 reads2)" \
+            "$(took none none none none) $(took reads1 reads2 reads3 reads4)" \
+            "$(took reads1 reads2 reads3 none) $(took reads1 reads2 reads3 writes)"
+    done >rows
+    awk 'NF != 16 { exit 1 }' rows || fail "a run failed"
+    one="$(middle "$3" 'events / ($3 - $1)')" two="$(middle "$3" '2 * events / ($7 - $5)')" four="$(middle "$3" '4 * events / ($11 - $9)')"
+    row "events a second of \`drill\` of 1, 2 and 4 files over $(grouped "$subs") subscriptions $2" "$(grouped "$one"), $(grouped "$two") and $(grouped "$four")"
+    row "processor time an event at 4 such files" "$(figure '%.2f times that at one' "$(middle "$3" '($12 - $10) / 4 / ($4 - $2)')")"
+    row "3 such files beside one that changes $(grouped "$4") times" "$(figure '%.2f times as long as alone' "$(middle "$3" '($15 - $9) / ($13 - $9)')")"
+}
 
-# a row of seconds: 1, 2 and 4 files, each behind as many empty ones; then three files beside an empty and beside a writing one
-for _ in 1 2 3; do
-    echo "$(took none) $(took reads1) $(took none none) $(took reads1 reads2)" \
-        "$(took none none none none) $(took reads1 reads2 reads3 reads4)" \
-        "$(took reads1 reads2 reads3 none) $(took reads1 reads2 reads3 writes)"
-done >rows
-awk 'NF != 8 { exit 1 }' rows || fail "a run failed"
-middle() { awk -v pubs="$pubs" "{ print $1 }" rows | sort -g | sed -n 2p; }
-one="$(middle 'pubs / ($2 - $1)')" two="$(middle '2 * pubs / ($4 - $3)')" four="$(middle '4 * pubs / ($6 - $5)')"
-row "events a second of \`drill\` of 1, 2 and 4 files over $(grouped "$subs") subscriptions" "$(grouped "$one"), $(grouped "$two") and $(grouped "$four")"
-row "3 files of \`drill\` beside one that changes $(grouped "$changes") times" "$(figure '%.2f times as long as alone' "$(middle '($8 - $5) / ($7 - $5)')")"
+# middle EVENTS EXPRESSION: of the rows
+middle() { awk -v events="$1" "{ print $2 }" rows | sort -g | sed -n 2p; }
+
+measure generated "of the generated kind" "$(scaled 20000)" "$(scaled 100000)"
+measure market "like a market's" "$(scaled 300000)" "$(scaled 100000)"
