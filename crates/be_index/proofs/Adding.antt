@@ -1,5 +1,5 @@
 -- Items that are put one list after another.
-use Rattle.std.proofs.Common.{◌≡◌, ℕ, ◌+◌, ◌<◌, ◌≤◌, List, [], ◌++◌, length, map, Result, Ok, Err, OnOk, OnErr, refl, sym, ap, ◌∙◌, arith, length-append}
+use Rattle.std.proofs.Common.{◌≡◌, ℕ, ◌+◌, ◌<◌, ◌≤◌, List, [], ◌++◌, length, map, Result, Ok, Err, OnOk, OnErr, sym, ap, ◌∙◌, arith, length-append}
 use Rattle.std.proofs.lemmas.List.{append_assoc, append-nil, map-append, map-id, length-map}
 use Rattle.std.proofs.lemmas.List.Elements.{filter-append}
 use Rattle.be_base.proofs.Beginnings.{BeginsWith-along}

@@ -78,7 +78,7 @@ pub fn count_script<I: Index>(
         rest = after;
     }
     let Counting { board, sums } = counting;
-    // The program ends behind this, and the system takes the board's memory back at once.
+    // The line of the sums alone is written behind this. Then the system takes the board's memory back at once.
     mem::forget(board);
     Ok(sums)
 }

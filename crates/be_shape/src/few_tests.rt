@@ -297,7 +297,7 @@ impl FewTests {
         }
     }
 
-    // The same, where what is told of a set may pass the row over.
+    // Whether an event of single values satisfies the condition. What is told of a set may say no before the row is read.
     fn is_met_by_one(&self, told: Told, conj: &Conj, e: &Sight) -> bool
         requires set { LosesNone conj.now told self.now.third.0 self.now.tests }
         ensures { result ≡ satisfies e.now conj.now }
@@ -305,8 +305,8 @@ impl FewTests {
         self.may_have_set(told, e) && conj.satisfied_by(e.event())
     }
 
-    /// Whether the event satisfies the condition of which this is told. An event of single values has passed the lanes mostly, so they
-    /// aren't asked again.
+    /// Whether the event satisfies the condition of which this is told. A search asks it only of events that passed the lanes, where
+    /// these have single values, so they aren't asked again.
     pub(crate) fn is_met(&self, told: Told, conj: &Conj, e: &Sight) -> bool
         requires told { glance self.now.tests (extent_of told) ≡ glance_of conj.now }
         requires form { IsConj conj.now }

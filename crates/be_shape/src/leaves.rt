@@ -110,8 +110,8 @@ impl Leaf {
         self.kept(place).id()
     }
 
-    /// Whether the event satisfies the row at a place, which was chosen and isn't sure. Of an event of single values the lanes aren't
-    /// asked again; the row is looked at unless what is told of a set passes it over.
+    /// Whether the event satisfies the row at a place. A search asks it of places that `choose` noted and isn't sure of, so it doesn't
+    /// ask the lanes again.
     pub fn is_met(&self, place: usize, e: &Sight) -> bool
         requires { place < length self.now }
         ensures { option_map (λ row. satisfies e.now row.conj) (slice_get self.now place) ≡ Some result }

@@ -8,7 +8,7 @@ ghost use Rattle.be_model.specs.Lies.{row_lies};
 ghost use Rattle.be_model.specs.Rows.{has, id_of};
 ghost use Rattle.be_model.specs.Forms.{IsConj};
 ghost use Rattle.be_shape.specs.Glances.{glance, glance_of};
-ghost use Rattle.be_shape.specs.Lanes.{are_single, HoldLanes};
+ghost use Rattle.be_shape.specs.Lanes.{are_single};
 ghost use Rattle.be_shape.specs.Listed.{attrs_of};
 ghost use Rattle.be_shape.specs.SmallSets.{extent_of, LosesNone};
 
@@ -106,7 +106,6 @@ impl Kept {
         ensures tests { glance result.2.tests (extent_of result.1) ≡ glance_of (arc_value result.0.now).conj }
         ensures form { IsConj (arc_value result.0.now).conj }
         ensures set { LosesNone (arc_value result.0.now).conj result.1 result.2.third.0 result.2.tests }
-        ensures lanes { HoldLanes (arc_value result.0.now).conj result.1 result.2 }
     {
         (self.held.row(), self.held.told(), self.held.tests())
     }

@@ -3,7 +3,7 @@ use Rattle.std.specs.Arc.{arc_value}
 use Rattle.be_shape.specs.declared.small_sets.Told.{Told}
 use Rattle.be_shape.specs.Glances.{glance}
 use Rattle.be_shape.specs.Held.{few_in}
-use Rattle.be_shape.specs.Lanes.{Few, HoldLanes}
+use Rattle.be_shape.specs.Lanes.{Few}
 use Rattle.be_shape.specs.SmallSets.{extent_of, LosesNone}
 use Rattle.be_shape.proofs.HeldRows.{of_row}
 use Rattle.be_shape.proofs.places.Kept.told.Goals as goal
@@ -24,10 +24,3 @@ returns-clause-set c =
     let row = arc_value c.row.result.now in
     let t = (of_row held row c.self.invariant c.row.ensures).1 in
     subst (λ (few : Few). LosesNone row.conj c.told.result few.third.0 few.tests) (sym c.tests.ensures) (subst (λ (told : Told). LosesNone row.conj told (few_in held).third.0 (few_in held).tests) (sym c.told.ensures) t.set)
-
-pub returns-clause-lanes : goal.returns-clause-lanes
-returns-clause-lanes c =
-    let held = c.self.inside.held in
-    let row = arc_value c.row.result.now in
-    let t = (of_row held row c.self.invariant c.row.ensures).1 in
-    subst (λ (few : Few). HoldLanes row.conj c.told.result few) (sym c.tests.ensures) (subst (λ (told : Told). HoldLanes row.conj told (few_in held)) (sym c.told.ensures) t.lanes)
