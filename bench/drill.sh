@@ -2,7 +2,8 @@
 # Prints how many events a second `drill` answers of 1, 2 and 4 files over 10,000 subscriptions, each file on a processor of its own,
 # how much more processor time an event takes at four files than at one, and how much longer three such files take beside a file
 # that writes; of the generated kind (bench/generated.awk) and like a market's (bench/market.awk). All times are less those of as
-# many empty files; each figure is the middle of three runs. Other work on the machine spoils all but the processor time.
+# many empty files; each figure is the middle of three runs. An elapsed time has that of the transcripts in it, which one thread writes
+# at the end. Other work on the machine spoils the elapsed times most.
 # shellcheck source=common.sh
 . "$(dirname "${BASH_SOURCE[0]}")/common.sh"
 use_program
@@ -28,6 +29,9 @@ took() {
     echo "$seconds" | awk '{ print $1, $2 + $3 }'
 }
 
+# ends_early: whether in the last transcript the fourth session, which writes, has left before the others
+ends_early() { [ "$(sed -n '/^== LOG/,$p' out | grep '^BYE' | head -n 1 | cut -d ' ' -f 2)" = 4 ]; }
+
 # measure KIND TEXT EVENTS CHANGES: the rows of a kind, with so many events a file; the writer is to end before the readers. Its
 # condition is one that hardly an event satisfies.
 measure() {
@@ -42,16 +46,17 @@ measure() {
         echo "$(took none) $(took reads1) $(took none none) $(took reads1 reads2)" \
             "$(took none none none none) $(took reads1 reads2 reads3 reads4)" \
             "$(took reads1 reads2 reads3 none) $(took reads1 reads2 reads3 writes)"
+        ends_early || fail "the file that writes ended after the others"
     done >rows
     awk 'NF != 16 { exit 1 }' rows || fail "a run failed"
     one="$(middle "$3" 'events / ($3 - $1)')" two="$(middle "$3" '2 * events / ($7 - $5)')" four="$(middle "$3" '4 * events / ($11 - $9)')"
     row "events a second of \`drill\` of 1, 2 and 4 files over $(grouped "$subs") subscriptions $2" "$(grouped "$one"), $(grouped "$two") and $(grouped "$four")"
-    row "processor time an event at 4 such files" "$(figure '%.2f times that at one' "$(middle "$3" '($12 - $10) / 4 / ($4 - $2)')")"
-    row "3 such files beside one that changes $(grouped "$4") times" "$(figure '%.2f times as long as alone' "$(middle "$3" '($15 - $9) / ($13 - $9)')")"
+    row "processor time an event at 4 files, $2" "$(figure '%.2f times that at one' "$(middle "$3" '($12 - $10) / 4 / ($4 - $2)')")"
+    row "3 files $2 beside one that changes $(grouped "$4") times" "$(figure '%.2f times as long as alone' "$(middle "$3" '($15 - $9) / ($13 - $9)')")"
 }
 
 # middle EVENTS EXPRESSION: of the rows
 middle() { awk -v events="$1" "{ print $2 }" rows | sort -g | sed -n 2p; }
 
-measure generated "of the generated kind" "$(scaled 20000)" "$(scaled 100000)"
+measure generated "of the generated kind" "$(scaled 20000)" "$(scaled 10000)"
 measure market "like a market's" "$(scaled 300000)" "$(scaled 100000)"
