@@ -28,8 +28,6 @@ FOR_NOW = {
     "value_lies value_in_range some_is_next FindsIn",
     "be_protocol": "new_reader LinesGoOn IsGoingOn",
     "be_session": "note_lines Draws FetchesSo IsLegalSoFar RunsOver BoardServes Serves",
-    "be_shape": "Each-both of_half listed_more listed_new told_more noted counted_none few_common none_put settled_but Splits "
-    "part_rows IsSettledBut enters",
     "be_command_line": "settles",
 }
 

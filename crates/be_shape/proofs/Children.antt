@@ -35,10 +35,6 @@ pub Each-weaker : {X : Type 0} (P Q : X → Type 0) → ((x : X) → P x → Q x
 Each-weaker P Q f [] h = tt
 Each-weaker P Q f (x ∷ xs) h = (f x h.0, Each-weaker P Q f xs h.1)
 
-pub Each-both : {X : Type 0} (P Q : X → Type 0) (xs : List X) → AllByRecursion P xs → AllByRecursion Q xs → AllByRecursion (λ x. P x × Q x) xs
-Each-both P Q [] a b = tt
-Each-both P Q (x ∷ xs) a b = ((a.0, b.0), Each-both P Q xs a.1 b.1)
-
 -- what holds of a node where it holds of its children, holds of each
 mutual
   pub in_trees : (P : Plain → Type 0) → ((n : Plain) → AllByRecursion (λ (x : Hop × Plain). P x.1) (children n) → P n) → (n : Plain) → P n
@@ -63,10 +59,6 @@ over_children f parts low high =
 pub over_children_is : {X : Type 0} (f : Hop × Plain → List X) (rows : List Row) (parts : Parts) (low high : Half) → flat_map f (children (node rows parts low high)) ≡ over_children f parts low high
 over_children_is f rows parts low high =
     flat_map-append f (roots_of parts ++ root_of Low low) (root_of High high) ∙ ap (λ q. q ++ flat_map f (root_of High high)) (flat_map-append f (roots_of parts) (root_of Low low))
-
--- a list for a part or a half is that of its root
-pub of_half : {X : Type 0} (f : Hop × Plain → List X) (hop : Hop) (n : Plain) → flat_map f (root_of hop (half n)) ≡ f (hop, n)
-of_half f hop n = append-nil (f (hop, n))
 
 -- the rows below a node: those of its leaf, and those below its children
 abbrev pub rows_of : Hop × Plain → List Row

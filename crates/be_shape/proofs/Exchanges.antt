@@ -58,15 +58,6 @@ missing (part b root more) a h = by_test (eqb b.0 a.0) h (missing more a)
     by_test true e f = absurd (cc)
     by_test false e f = f (none (place_on a more) e)
 
--- nothing is put where there is no part
-pub none_put : (parts : Parts) (a : AttrNo) (o : Plain) → part_on a parts ≡ None → other_part a o parts ≡ parts
-none_put no_part a o h = refl
-none_put (part b root more) a o h = by_test (eqb b.0 a.0) h (none_put more a o)
-  where
-    by_test : (t : Bool) → cond t (Some root) (part_on a more) ≡ None → (part_on a more ≡ None → other_part a o more ≡ more) → cond t (part b o more) (part b root (other_part a o more)) ≡ part b root more
-    by_test true e f = absurd (cc)
-    by_test false e f = ap (part b root) (f e)
-
 -- a path by its first step
 pub walk_first : (hops rest : List Hop) (hop : Hop) (n m : Plain) → hops ≡ hop ∷ rest → child hop n ≡ Some m → walk hops n ≡ walk rest m
 walk_first hops rest hop n m e h = ap (λ hs. walk hs n) e ∙ ap (option_and_then (walk rest)) h

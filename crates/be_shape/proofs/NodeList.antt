@@ -1,9 +1,9 @@
 -- All nodes of a tree: what holds everywhere holds of each, and the path of each leads to it.
-use Rattle.std.proofs.Common.{◌≡◌, ◌≢◌, ◌<◌, ◌≤◌, ◌+◌, ℕ, Bool, true, cond, ltb, ◌&&◌, List, [], ◌∷◌, ◌++◌, Option, Some, None, option_and_then, refl, sym, ap, ◌∙◌, subst, arith}
+use Rattle.std.proofs.Common.{◌≡◌, ◌<◌, ◌≤◌, ◌+◌, ℕ, Bool, true, cond, ltb, ◌&&◌, List, [], ◌∷◌, ◌++◌, Option, Some, None, option_and_then, refl, sym, ap, ◌∙◌, subst, arith}
 use Rattle.std.specs.List.{list_all, flat_map, AllByRecursion, Contains}
 use Rattle.std.proofs.lemmas.Bool.{and_parts, ltb-true, eq-eqb, ne_eqb}
 use Rattle.std.proofs.lemmas.List.{append_assoc, append-nil}
-use Rattle.std.proofs.lemmas.List.Elements.{All-from_recursion, All-weaker, Contains-append_left, Contains-append_right}
+use Rattle.std.proofs.lemmas.List.Elements.{All-from_recursion, Contains-append_left, Contains-append_right}
 use Rattle.std.proofs.lemmas.List.Folds.{list_all-append}
 use Rattle.be_base.specs.declared.names.AttrNo.{AttrNo}
 use Rattle.be_model.specs.declared.changes.Row.{Row}
@@ -12,11 +12,11 @@ use Rattle.be_model.specs.declared.paths.Hop.TheVariants.{Part, Low, High}
 use Rattle.be_model.specs.Schemas.{Attributes}
 use Rattle.be_model.specs.Forms.{attrs_rise}
 use Rattle.be_shape.specs.Plain.{Plain, node, Parts, no_part, part, Half, no_half, half, parts_under}
-use Rattle.be_shape.specs.Shape.{Known, nothing, in_part, in_low, in_high, everywhere, is_placed_at, is_settled_at, is_settled, attrs_of}
+use Rattle.be_shape.specs.Shape.{Known, nothing, in_part, in_low, in_high, everywhere, is_placed_at, attrs_of}
 use Rattle.be_shape.specs.Paths.{part_on, child, walk}
 use Rattle.be_shape.specs.Children.{roots_of, root_of, children, known_below}
-use Rattle.be_shape.specs.NodeList.{NodeAt, node_at, nodes_from, nodes_in_parts, nodes_in_half, nodes, known_along, HoldsAtNodes, PathsLead, NodesAreListed, IsSettledBut}
-use Rattle.be_shape.proofs.Children.{Each-append, Each-weaker, Each-from_test, in_trees, where_known, below, everywhere_is, over_children_is}
+use Rattle.be_shape.specs.NodeList.{NodeAt, node_at, nodes_from, nodes_in_parts, nodes_in_half, nodes, known_along, HoldsAtNodes, PathsLead, NodesAreListed}
+use Rattle.be_shape.proofs.Children.{Each-append, Each-weaker, in_trees, where_known, below, everywhere_is, over_children_is}
 use Rattle.be_shape.proofs.Placed.{placed, at_child}
 
 -- the nodes below a child
@@ -169,12 +169,6 @@ pub paths_lead : (s : Attributes) (n : Plain) → everywhere (is_placed_at s) s 
 paths_lead s n h =
     All-from_recursion (λ (x : NodeAt). (walk x.path n ≡ Some x.here) × (known_along s x.path nothing ≡ x.known)) (nodes s n)
     (Each-weaker (Leads s [] nothing n) (λ (x : NodeAt). (walk x.path n ≡ Some x.here) × (known_along s x.path nothing ≡ x.known)) (λ x l. (ap (λ p. walk p n) l.is ∙ l.walks, ap (λ p. known_along s p nothing) l.is ∙ l.knows)) (nodes s n) (all_lead s nothing n h []))
-
--- a tree that is settled is settled but for any leaf
-pub settled_but : (s : Attributes) (path : List Hop) (n : Plain) → is_settled s n ≡ true → IsSettledBut s path n
-settled_but s path n h =
-    All-weaker (λ (x : NodeAt). is_settled_at s x.known x.here ≡ true) (λ (x : NodeAt). x.path ≢ path → is_settled_at s x.known x.here ≡ true) (λ x t _. t) (nodes s n)
-    (All-from_recursion (λ (x : NodeAt). is_settled_at s x.known x.here ≡ true) (nodes s n) (Each-from_test (λ (x : NodeAt). is_settled_at s x.known x.here) (nodes s n) (sym (at_nodes s n (is_settled_at s)) ∙ h)))
 
 -- what a list for an element contains, the lists for all contain
 abbrev Brings : {X Y : Type 0} → (X → List Y) → List Y → X → Type 0

@@ -29,10 +29,6 @@ pub record Placed (s : Attributes) (k : Known) (n : Plain) : Type 0 where
   pub open_steps : AllByRecursion (λ (x : Hop × Plain). is_open x.0 k ≡ true) (children n)
   pub pass : AllByRecursion (λ (x : Hop × Plain). list_all (may_pass s x.0 k.range) (rows_below x.1) ≡ true) (children n)
 
--- what is said of the halves, of the low or of the high one
-abbrev Splits : Known → Half → Type 0
-Splits k h = is_here h ≡ true → can_split k.range ≡ true
-
 halves_split : (b l h : Bool) → (b || not (l || h)) ≡ true → (l ≡ true → b ≡ true) × (h ≡ true → b ≡ true)
 halves_split true l h t = (λ _. refl, λ _. refl)
 halves_split false true h t = absurd (cc)

@@ -13,10 +13,10 @@ use Rattle.be_model.proofs.Attributes.{and_left, and_right, and_both}
 use Rattle.be_model.proofs.RowsByIds.{length_by_ids, few_rows as few_ids}
 use Rattle.be_shape.specs.declared.nodes.Node.{Node}
 use Rattle.be_shape.specs.declared.nodes.Part.{Part}
-use Rattle.be_shape.specs.declared.nodes.Node.TheViews.{out-Node, out-Part}
+use Rattle.be_shape.specs.declared.nodes.Node.TheViews.{out-Node}
 use Rattle.be_shape.specs.Plain.{Plain, plain, part_as, parts_of, parts_as, half_as, rows_below, rows_in_parts, rows_in_half, contents}
 use Rattle.be_shape.specs.Shape.{nothing, everywhere, is_placed_at, is_placed, may_stand, rows_lie}
-use Rattle.be_shape.proofs.Plains.{plain_out, part_out}
+use Rattle.be_shape.proofs.Plains.{plain_out}
 
 sum : (x p l h : List Row) → length (x ++ p ++ l ++ h) ≡ length x + (length p + (length l + length h))
 sum x p l h = omega (arith, length-append (x ++ p ++ l) h, length-append (x ++ p) l, length-append x p)
@@ -24,10 +24,6 @@ sum x p l h = omega (arith, length-append (x ++ p ++ l) h, length-append (x ++ p
 pub node_rows : (n : Node) → length (rows_below (plain n)) ≡ length (out-Node n).leaf + (length (rows_in_parts (parts_as (out-Node n).parts.items)) + (length (rows_in_half (half_as (out-Node n).low)) + length (rows_in_half (half_as (out-Node n).high))))
 node_rows n =
     ap (λ m. length (rows_below m)) (plain_out n) ∙ sum (out-Node n).leaf (rows_in_parts (parts_as (out-Node n).parts.items)) (rows_in_half (half_as (out-Node n).low)) (rows_in_half (half_as (out-Node n).high))
-
-pub part_rows : (p : Part) → length (rows_in_parts (parts_of (part_as p ∷ []))) ≡ length (rows_below (plain (out-Part p).root.value))
-part_rows p =
-    ap (λ q. length (rows_in_parts (parts_of (q ∷ [])))) (part_out p) ∙ ap length (append-nil (rows_below (plain (out-Part p).root.value)))
 
 pub rows_from : (ps : List Part) (i : ℕ) (p : Part) → i < length ps → p ≡ get_or ps i p
     → length (rows_in_parts (parts_as (drop i ps))) ≡ length (rows_in_parts (parts_of (part_as p ∷ []))) + length (rows_in_parts (parts_as (drop (i + 1) ps)))

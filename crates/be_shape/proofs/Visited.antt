@@ -1,18 +1,24 @@
 -- The leaves that a search visits, by the children of a node.
-use Rattle.std.proofs.Common.{◌≡◌, cond, List, [], ◌∷◌, ◌++◌, refl, sym, ap, ◌∙◌}
+use Rattle.std.proofs.Common.{◌≡◌, Bool, cond, List, [], ◌∷◌, ◌++◌, refl, sym, ap, ◌∙◌}
 use Rattle.std.specs.List.{flat_map}
 use Rattle.std.proofs.lemmas.List.{append-nil}
 use Rattle.be_model.specs.declared.changes.Row.{Row}
 use Rattle.be_model.specs.declared.paths.Hop.{Hop}
-use Rattle.be_model.specs.declared.paths.Hop.TheVariants.{Low, High}
+use Rattle.be_model.specs.declared.paths.Hop.TheVariants.{Part, Low, High}
 use Rattle.be_model.specs.Schemas.{Attributes}
 use Rattle.be_model.specs.Matching.{Assignments, is_assigned}
 use Rattle.be_shape.specs.Plain.{Plain, node, Parts, no_part, part, Half, no_half, half, leaf_of}
 use Rattle.be_shape.specs.Shape.{NodeRange, whole, lower, upper}
 use Rattle.be_shape.specs.Paths.{range_below}
 use Rattle.be_shape.specs.Children.{roots_of, root_of, children}
-use Rattle.be_shape.specs.Search.{enters, holds_value, visited, visited_in_parts, visited_in_half}
+use Rattle.be_shape.specs.Search.{holds_value, visited, visited_in_parts, visited_in_half}
 use Rattle.be_shape.proofs.Children.{over_children_is}
+
+-- a search of a node enters the part of an attribute that the event assigns, and a half that holds one of its values
+abbrev enters : Attributes → Assignments → NodeRange → Hop → Bool
+enters s e r (Part a) = is_assigned e a
+enters s e r Low = holds_value e (lower r)
+enters s e r High = holds_value e (upper r)
 
 -- the leaves that are visited at a child and below it
 abbrev pub visited_of : Attributes → Assignments → NodeRange → Hop × Plain → List (List Row)

@@ -1,11 +1,11 @@
 -- All nodes of a tree, in order, each with its path.
-use Rattle.std.specs.Prelude.{◌≡◌, ◌≢◌, ◌&&◌, Bool, true, List, [], ◌∷◌, ◌++◌, Some}
+use Rattle.std.specs.Prelude.{◌≡◌, ◌&&◌, Bool, true, List, [], ◌∷◌, ◌++◌, Some}
 use Rattle.std.specs.List.{list_all, All, Contains}
 use Rattle.be_model.specs.declared.paths.Hop.{Hop}
 use Rattle.be_model.specs.declared.paths.Hop.TheVariants.{Part, Low, High}
 use Rattle.be_model.specs.Schemas.{Attributes}
 use Rattle.be_shape.specs.Plain.{Plain, node, Parts, no_part, part, Half, no_half, half}
-use Rattle.be_shape.specs.Shape.{Known, nothing, in_part, in_low, in_high, everywhere, is_settled_at}
+use Rattle.be_shape.specs.Shape.{Known, nothing, in_part, in_low, in_high, everywhere}
 use Rattle.be_shape.specs.Paths.{walk}
 use Rattle.be_shape.specs.Children.{known_below, is_open}
 
@@ -57,11 +57,6 @@ HoldsAtNodes s n =
 abbrev pub PathsLead : Attributes → Plain → Type 0
 PathsLead s n =
     All (λ (x : NodeAt). (walk x.path n ≡ Some x.here) × (known_along s x.path nothing ≡ x.known)) (nodes s n)
-
--- each leaf but that at the end of the path has at most 16 rows, or all its rows are stuck
-abbrev pub IsSettledBut : Attributes → List Hop → Plain → Type 0
-IsSettledBut s path n =
-    All (λ (x : NodeAt). x.path ≢ path → is_settled_at s x.known x.here ≡ true) (nodes s n)
 
 -- the list is complete: each node that a path leads to is in it, with the path and what is known along it
 abbrev pub NodesAreListed : Attributes → Plain → Type 0

@@ -1,8 +1,6 @@
 -- What a search for the rows that an event satisfies visits, tests and finds.
 use Rattle.std.specs.Prelude.{ℕ, ℤ, Bool, false, List, [], ◌∷◌, ◌++◌, length, Option, Some, None, if◌then◌else◌}
 use Rattle.be_model.specs.declared.changes.Row.{Row}
-use Rattle.be_model.specs.declared.paths.Hop.{Hop}
-use Rattle.be_model.specs.declared.paths.Hop.TheVariants.{Part, Low, High}
 use Rattle.be_model.specs.Domains.{Range, is_some_within}
 use Rattle.be_model.specs.Schemas.{Attributes}
 use Rattle.be_model.specs.Matching.{Assignments, values_of, is_assigned}
@@ -17,12 +15,6 @@ values_inside r (Some vs) = is_some_within r vs
 abbrev pub holds_value : Assignments → NodeRange → Bool
 holds_value e None = false
 holds_value e (Some r) = values_inside r.1 (values_of e r.0)
-
--- a search of a node enters the part of an attribute that the event assigns, and a half that holds one of its values
-abbrev pub enters : Attributes → Assignments → NodeRange → Hop → Bool
-enters s e r (Part a) = is_assigned e a
-enters s e r Low = holds_value e (lower r)
-enters s e r High = holds_value e (upper r)
 
 -- The leaves of the visited nodes: of the node itself, of the root of each part whose attribute the event assigns,
 -- and of each half that holds at least one of the event's values of its attribute, and so on below these.
