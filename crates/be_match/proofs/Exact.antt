@@ -4,7 +4,7 @@ use Rattle.std.specs.Option.{is_some}
 use Rattle.std.specs.Int.Signed.{le_z}
 use Rattle.be_shape.proofs.Children.{where_known, rows_of, rows_are}
 use Rattle.be_shape.proofs.Placed.{placed}
-use Rattle.be_shape.proofs.Visited.{visited_of, visited_is}
+use Rattle.be_shape.proofs.Visited.{enters, visited_of, visited_is}
 use Rattle.be_shape.specs.Children.{children, known_below, is_open, may_pass}
 use Rattle.be_shape.specs.Paths.{range_below}
 use Rattle.be_model.specs.declared.paths.Hop.{Hop}
@@ -32,7 +32,7 @@ use Rattle.be_model.proofs.FormTests.{IsConj-from_is_conj}
 use Rattle.be_base.specs.declared.limits.TheConstants.{LOG_CHANGES}
 use Rattle.be_shape.specs.Plain.{Plain, rows_below, leaf_of}
 use Rattle.be_shape.specs.Shape.{NodeRange, lower, upper, Known, everywhere, is_inside, spans_inside, can_split, is_placed_at, may_stand}
-use Rattle.be_shape.specs.Search.{values_inside, holds_value, enters, visited, all_of}
+use Rattle.be_shape.specs.Search.{values_inside, holds_value, visited, all_of}
 use Rattle.be_match.proofs.Sizes.{all_of_append}
 
 satisfied_append : (e : Assignments) (xs ys : List Row) → satisfied e (xs ++ ys) ≡ satisfied e xs ++ satisfied e ys

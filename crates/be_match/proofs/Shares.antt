@@ -17,7 +17,7 @@ use Rattle.be_shape.proofs.BitsLeft.{bits_left, whole_bits, low_left, high_left}
 use Rattle.be_model.specs.declared.paths.Hop.{Hop}
 use Rattle.be_model.specs.declared.paths.Hop.TheVariants.{Part, Low, High}
 use Rattle.be_shape.specs.Children.{known_below, is_open, may_pass}
-use Rattle.be_shape.specs.Search.{enters}
+use Rattle.be_shape.proofs.Visited.{enters}
 use Rattle.be_shape.specs.Shape.{Known, nothing, in_part, in_low, in_high, is_used, can_split, is_some as some_row}
 
 abbrev unused_ranges : Attributes → List AttrNo → Row → AttrNo × List ℤ → ℕ

@@ -13,14 +13,14 @@ use Rattle.be_model.specs.Bounds.{is_covered, tested_bound}
 use Rattle.be_model.proofs.Attributes.{and_left, and_right, and_both}
 use Rattle.be_shape.specs.Plain.{Plain, node, rows_below, leaf_of}
 use Rattle.be_shape.specs.Shape.{NodeRange, Known, nothing, everywhere, is_used, is_settled_at, is_stuck, is_between}
-use Rattle.be_shape.specs.Search.{enters, visited, visits, tested, all_of}
+use Rattle.be_shape.specs.Search.{visited, visits, tested, all_of}
 use Rattle.std.proofs.lemmas.Bool.{and_from}
 use Rattle.be_model.specs.declared.paths.Hop.{Hop}
 use Rattle.be_model.specs.declared.paths.Hop.TheVariants.{Part, Low, High}
 use Rattle.be_shape.specs.Children.{children, known_below}
 use Rattle.be_shape.specs.Paths.{range_below}
 use Rattle.be_shape.proofs.Children.{in_trees, where_known, rows_of, rows_are}
-use Rattle.be_shape.proofs.Visited.{visited_of, visited_is}
+use Rattle.be_shape.proofs.Visited.{enters, visited_of, visited_is}
 use Rattle.be_match.proofs.Exact.{range_known}
 use Rattle.be_match.proofs.Sizes.{rows_append}
 

@@ -8,7 +8,7 @@ use Rattle.be_model.specs.Matching.{Assignments}
 use Rattle.be_model.specs.Bounds.{shared, visits_bound}
 use Rattle.be_shape.specs.Plain.{Plain, rows_below, leaf_of}
 use Rattle.be_shape.specs.Shape.{Known, nothing, everywhere, is_placed_at, is_pruned_at, is_some}
-use Rattle.be_shape.specs.Search.{enters, visited, visits}
+use Rattle.be_shape.specs.Search.{visited, visits}
 use Rattle.std.proofs.lemmas.Bool.{and_parts}
 use Rattle.be_model.specs.declared.paths.Hop.{Hop}
 use Rattle.be_shape.specs.Children.{children, known_below, is_open, may_pass}
@@ -16,7 +16,7 @@ use Rattle.be_shape.specs.Paths.{range_below}
 use Rattle.be_shape.proofs.Children.{where_known, levels, below, rows_of, rows_are}
 use Rattle.be_shape.proofs.Placed.{placed}
 use Rattle.be_shape.proofs.Levels.{holds_rows, pruned_is}
-use Rattle.be_shape.proofs.Visited.{visited_of, visited_is}
+use Rattle.be_shape.proofs.Visited.{enters, visited_of, visited_is}
 use Rattle.be_match.proofs.Exact.{range_known}
 use Rattle.be_match.proofs.Shares.{share, share_at_root, share_below, rows_pay}
 

@@ -15,7 +15,7 @@ use Rattle.be_shape.specs.Search.{holds_value, visited, visited_in_parts, visite
 use Rattle.be_shape.proofs.Children.{over_children_is}
 
 -- a search of a node enters the part of an attribute that the event assigns, and a half that holds one of its values
-abbrev enters : Attributes → Assignments → NodeRange → Hop → Bool
+abbrev pub enters : Attributes → Assignments → NodeRange → Hop → Bool
 enters s e r (Part a) = is_assigned e a
 enters s e r Low = holds_value e (lower r)
 enters s e r High = holds_value e (upper r)
