@@ -16,7 +16,7 @@ use Rattle.be_shape.specs.Lanes.{raised, less, lets, slot_of, ends_of, free, see
 use Rattle.be_shape.specs.declared.test_counts.Count.{Count}
 use Rattle.be_shape.specs.declared.test_counts.Count.TheVariants.{One}
 use Rattle.be_shape.specs.declared.small_sets.Told.{Told}
-use Rattle.be_shape.specs.declared.small_sets.Told.TheVariants.{FirstIsSet, IsSet}
+use Rattle.be_shape.specs.declared.small_sets.Told.TheVariants.{AsFew, IsSet}
 use Rattle.be_shape.specs.FewTests.{few_of}
 use Rattle.be_shape.specs.Gaps.{AreTwo, AreThree, AreGaps, TellSet, IsOnlySet}
 use Rattle.be_shape.proofs.Slots.{IsSmall, IsSlot, slot_again, raised_is, less_up, less_round, lets_if_in, in_if_lets, lets_free}
@@ -235,15 +235,15 @@ one_pred (p ∷ q ∷ ps) pred a b e = absurd (omega (arith, b))
 one_test : (count : Count) (x y z : Lane) → count ≡ One → length (few_of count x y z).tests ≡ 1
 one_test count x y z e = ap (λ n. length (few_of n x y z).tests) e
 
-pub only_set : (conj : List Pred) (told : Told) (t : Few) (count : Count) (a : ℕ) (s : Slot) (y z : Lane) (pred : Pred) (ps : List Pred) (ends : ℤ × ℤ) (o : Option (Slot × Slot)) → few_of count (a, s) y z ≡ t → count ≡ One → told ≡ FirstIsSet → ps ≡ conj
+pub only_set : (conj : List Pred) (told : Told) (t : Few) (count : Count) (a : ℕ) (s : Slot) (y z : Lane) (pred : Pred) (ps : List Pred) (ends : ℤ × ℤ) (o : Option (Slot × Slot)) → few_of count (a, s) y z ≡ t → count ≡ One → told ≡ AsFew → ps ≡ conj
     → 1 ≤ length ps → length ps < 2 → pred ≡ get_or ps 0 pred → IsSlot s → ends ≡ ends_of s → IfSome o (λ gaps. TellSet pred (a, slot_of ends) (a, gaps.0) (a, gaps.1)) → IfSome o (λ gaps. IsOnlySet conj told t gaps)
-only_set conj told t count a s y z pred ps ends None v one first same l h item i e k = tt
-only_set conj told t count a s y z pred ps ends (Some gaps) v one first same l h item i e k =
-    subst (λ (few : Few). IsOnlySet conj told few gaps) v
+only_set conj told t count a s y z pred ps ends None v one few same l h item i e k = tt
+only_set conj told t count a s y z pred ps ends (Some gaps) v one few same l h item i e k =
+    subst (λ (tests : Few). IsOnlySet conj told tests gaps) v
     (record {
       pred = pred;
       only = sym same ∙ one_pred ps pred l h item;
-      first = first;
+      few = few;
       one = one_test count (a, s) y z one;
       tells = subst (λ (r : Slot). TellSet pred (a, r) (a, gaps.0) (a, gaps.1)) (ap slot_of e ∙ slot_again s i) k;
     })

@@ -36,5 +36,5 @@ pub mod Choices
 pub mod GapSets
 pub mod TestCounts
 pub mod HeldRows
-pub mod NotedSets
+pub mod SetNotes
 pub mod Depths

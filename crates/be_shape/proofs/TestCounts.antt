@@ -12,7 +12,7 @@ use Rattle.be_shape.specs.declared.glances.Bounds.{Bounds}
 use Rattle.be_shape.specs.declared.glances.Extent.{Extent}
 use Rattle.be_shape.specs.declared.glances.Extent.TheVariants.{Whole, Few, Part}
 use Rattle.be_shape.specs.declared.small_sets.Told.{Told}
-use Rattle.be_shape.specs.declared.small_sets.Told.TheVariants.{AsWhole, AsFew, AsPart, IsSet, FirstIsSet, SecondIsSet}
+use Rattle.be_shape.specs.declared.small_sets.Told.TheVariants.{AsWhole, AsFew, AsPart, IsSet}
 use Rattle.be_shape.specs.declared.test_counts.Count.{Count}
 use Rattle.be_shape.specs.declared.test_counts.Count.TheVariants.{Zero, One, Two, Three}
 use Rattle.be_shape.specs.FewTests.{test_of, few_of, few_told}
@@ -110,8 +110,6 @@ not_set AsWhole n = refl
 not_set AsFew n = refl
 not_set AsPart n = refl
 not_set IsSet n = absurd (n refl)
-not_set FirstIsSet n = refl
-not_set SecondIsSet n = refl
 
 abbrev counted_by : Bool → Bool → Bool → Bool → Count
 counted_by s a b c = cond s One (cond a Zero (cond b One (cond c Two Three)))

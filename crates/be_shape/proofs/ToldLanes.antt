@@ -14,7 +14,7 @@ use Rattle.be_shape.specs.FewTests.{test_of, few_of}
 use Rattle.be_shape.specs.Glances.{least, greatest, is_in, has_in, Test, passes, may_meet, is_whole, glance, glance_of}
 use Rattle.be_shape.specs.Lanes.{raised, lets, slot_of, ends_of, free, seen, Lane, lets_event, passes_lanes, is_single, are_single, AreFree, HoldLanes}
 use Rattle.be_shape.specs.declared.small_sets.Told.{Told}
-use Rattle.be_shape.specs.declared.small_sets.Told.TheVariants.{AsWhole, AsFew, AsPart, IsSet, FirstIsSet, SecondIsSet}
+use Rattle.be_shape.specs.declared.small_sets.Told.TheVariants.{AsWhole, AsFew, AsPart, IsSet}
 use Rattle.be_shape.specs.SmallSets.{extent_of, is_sure}
 use Rattle.be_shape.proofs.BoundedTests.{is_sound, are_sound, whole_sound}
 use Rattle.be_shape.proofs.Slots.{IsSmall, IsSlot, raised_is, lets_if_in, in_if_lets, lets_free, slot_again, ends_small}
@@ -152,8 +152,6 @@ sure_whole AsWhole h n = refl
 sure_whole AsFew h n = absurd cc
 sure_whole AsPart h n = absurd cc
 sure_whole IsSet h n = absurd (n refl)
-sure_whole FirstIsSet h n = absurd cc
-sure_whole SecondIsSet h n = absurd cc
 
 meets_tests : (s m w : Bool) → s ≡ true → s ≡ (m && (w || s)) → m ≡ true
 meets_tests s true w h e = refl

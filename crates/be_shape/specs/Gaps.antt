@@ -3,7 +3,7 @@ use Rattle.std.specs.Prelude.{◌≡◌, ◌<ℤ◌, ℤ, ◌&&◌, true, List, 
 use Rattle.be_model.specs.declared.preds.Pred.{Pred}
 use Rattle.be_model.specs.Matching.{Assignments, is_met, values_of}
 use Rattle.be_shape.specs.declared.small_sets.Told.{Told}
-use Rattle.be_shape.specs.declared.small_sets.Told.TheVariants.{FirstIsSet}
+use Rattle.be_shape.specs.declared.small_sets.Told.TheVariants.{AsFew}
 use Rattle.be_shape.specs.Glances.{greatest}
 use Rattle.be_shape.specs.Lanes.{Slot, Lane, Few, slot_of, free, are_single, lets_event}
 
@@ -38,6 +38,6 @@ pub record TellSet (pred : Pred) (first second third : Lane) : Type 0 where
 pub record IsOnlySet (conj : List Pred) (told : Told) (t : Few) (gaps : Slot × Slot) : Type 0 where
   pub pred : Pred
   pub only : conj ≡ pred ∷ []
-  pub first : told ≡ FirstIsSet
+  pub few : told ≡ AsFew
   pub one : length t.tests ≡ 1
   pub tells : TellSet pred t.first (t.first.0, gaps.0) (t.first.0, gaps.1)

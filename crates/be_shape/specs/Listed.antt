@@ -38,6 +38,6 @@ attrs_told g = if is_part g.extent then Many else listed g.tests
 abbrev pub attrs_of : List Pred → RowAttrs
 attrs_of conj = attrs_told (glance_of conj)
 
--- the lower 8 bits of a number, by which most others are told apart
+-- the lower 6 bits of a number, by which most others are told apart
 abbrev pub low_part : ℕ → ℕ
-low_part n = n % 256
+low_part n = n % 64

@@ -7,16 +7,13 @@ ghost use Rattle.be_model.specs.Lies.{conj_lies};
 ghost use Rattle.be_model.specs.Matching.{Assignments, is_met, satisfies, values_of};
 ghost use Rattle.be_model.specs.Rows.{has};
 ghost use Rattle.be_model.specs.Schemas.{numbered};
-ghost use Rattle.be_shape.specs.declared.glances.Extent.TheVariants.{Few};
 ghost use Rattle.be_shape.specs.declared.small_sets.Told.TheVariants.{IsSet};
 ghost use Rattle.be_shape.specs.FewTests.{few_told};
 ghost use Rattle.be_shape.specs.Gaps.{IsOnlySet};
 ghost use Rattle.be_shape.specs.Glances.{may_meet, test_on, is_whole, glance, glance_of};
 ghost use Rattle.be_shape.specs.Listed.{attrs_told};
-ghost use Rattle.be_model.specs.declared.preds.Pred.{Pred};
-ghost use Rattle.be_shape.specs.declared.small_sets.Told.{Told};
 ghost use Rattle.be_shape.specs.Lanes.{AreFree, HoldLanes};
-ghost use Rattle.be_shape.specs.SmallSets.{extent_of, passes_set, passes_told, LosesNone};
+ghost use Rattle.be_shape.specs.SmallSets.{extent_of, passes_set, passes_at, passes_note, LosesNone};
 
 use crate::gaps::gaps_of;
 use crate::glances::{Ends, Extent, hull_in};
@@ -32,9 +29,7 @@ use be_base::AttrNo;
 use be_model::{Conj, Op, Pred, Row, Schema};
 use std::marker::Model;
 
-/// At most three tests, of attributes below 256, and three lanes, of which the first are of the tests. Where there are fewer than
-/// three tests, the third attribute may be what is told of the number between the ends of a set: a free slot lets every event pass,
-/// whatever its attribute.
+/// At most three tests, of attributes below 256, and three lanes, of which the first are of the tests.
 #[derive(Drop)]
 pub(crate) struct FewTests {
     count: Count,
@@ -109,34 +104,15 @@ impl FewTests {
         }
     }
 
-    /// With what is told of the number between the ends of a set, where there is room for it.
-    pub(crate) fn noting(self, middle: u8) -> FewTests
-        requires free { AreFree self }
-        ensures tests { result.tests ≡ self.tests }
-        ensures free { AreFree result }
-        ensures set { (conj : List Pred) (told : Told) → LosesNone conj told middle self.tests → LosesNone conj told result.third.0 result.tests }
-    {
-        if self.count.has_third() {
-            self
-        } else {
-            FewTests {
-                third_attr: middle,
-                ..self
-            }
-        }
-    }
-
     /// With what is told, as a place has it.
     pub(crate) fn settled(self, told: Told, conj: &Conj) -> (Told, FewTests)
         requires told { glance self.tests (extent_of told) ≡ glance_of conj.now }
         requires form { IsConj conj.now }
         requires free { AreFree self }
         requires plain { told ≡ IsSet → ⊥ }
-        requires set { LosesNone conj.now told self.third.0 self.tests }
         ensures tests { result.1.tests ≡ self.tests }
         ensures extent { extent_of result.0 ≡ extent_of told }
         ensures lanes { HoldLanes conj.now result.0 result.1 }
-        ensures set { LosesNone conj.now result.0 result.1.third.0 result.1.tests }
         ensures counted { result.1 ≡ few_told result.0 result.1.first result.1.second result.1.third }
     {
         slot_fits(self.first);
@@ -195,7 +171,7 @@ impl FewTests {
     fn gaps(&self, told: Told, conj: &Conj) -> Option<(Slot, Slot)>
         ensures { IfSome result (λ gaps. IsOnlySet conj.now told self.now gaps) }
     {
-        if !told.is_first() {
+        if !told.is_few() {
             return None;
         }
         if !self.count.is_one() {
@@ -208,68 +184,63 @@ impl FewTests {
         }
     }
 
-    // Whether the event may have a number of the set that is told.
-    fn may_have_set(&self, told: Told, e: &Sight) -> bool
-        ensures { passes_told told self.now.third.0 self.now.tests e.now ≡ true → result ≡ true }
+    // Whether the event may have a number of the set that the note tells.
+    fn may_have_set(&self, set_note: u8, e: &Sight) -> bool
+        ensures { passes_note set_note self.now.tests e.now ≡ true → result ≡ true }
     {
-        let middle = self.third_attr;
-        match (told, self.count) {
-            (Told::FirstIsSet, Count::One) => {
-                e.may_be(ends_of(self.first), middle, numbered(self.first_attr))
-            }
-            (Told::FirstIsSet, Count::Two) => {
-                e.may_be(ends_of(self.first), middle, numbered(self.first_attr))
-            }
-            (Told::SecondIsSet, Count::Two) => {
-                e.may_be(ends_of(self.second), middle, numbered(self.second_attr))
-            }
-            _ => true,
+        let at = set_note / 64;
+        let middle = set_note % 64;
+        if at == 1 && self.count.has_first() {
+            e.may_be(ends_of(self.first), middle, numbered(self.first_attr))
+        } else if at == 2 && self.count.has_second() {
+            e.may_be(ends_of(self.second), middle, numbered(self.second_attr))
+        } else if at == 3 && self.count.has_third() {
+            e.may_be(ends_of(self.third), middle, numbered(self.third_attr))
+        } else {
+            true
         }
     }
 
-    /// What is told where the first or second test is on the attribute, of a set of these ends.
-    pub(crate) fn set_at(&self, a: AttrNo, ends: (i64, i64)) -> Option<Told>
-        ensures few { IfSome result (λ told. extent_of told ≡ Few) }
-        ensures plain { IfSome result (λ told. told ≡ IsSet → ⊥) }
-        ensures passes { IfSome result (λ told. (e : Assignments) (m : ℕ) → passes_set e m (a, ends) ≡ true → passes_told told m self.now.tests e ≡ true) }
+    // Which test, counted from one, is on the attribute, of a set of these ends.
+    fn set_at(&self, a: AttrNo, ends: (i64, i64)) -> Option<u8>
+        ensures low { IfSome result (λ at. at < 4) }
+        ensures passes { IfSome result (λ at. (e : Assignments) (m : ℕ) → passes_set e m (a, ends) ≡ true → passes_at at m self.now.tests e ≡ true) }
     {
         if self.count.has_first() && is_test(self.first_attr, ends_of(self.first), a, ends) {
-            Some(Told::FirstIsSet)
+            Some(1)
         } else if self.count.has_second()
             && is_test(self.second_attr, ends_of(self.second), a, ends)
         {
-            Some(Told::SecondIsSet)
+            Some(2)
+        } else if self.count.has_third() && is_test(self.third_attr, ends_of(self.third), a, ends) {
+            Some(3)
         } else {
             None
         }
     }
 
-    // What is told where the predicate is of a small set, and the first or second test is on it.
-    fn set_told(&self, pred: &Pred) -> Option<(Told, u8)>
-        ensures few { IfSome result (λ set. extent_of set.0 ≡ Few) }
-        ensures plain { IfSome result (λ set. set.0 ≡ IsSet → ⊥) }
-        ensures passes { IfSome result (λ set. (e : Assignments) → is_met (values_of e pred.now.attr) pred.now.op ≡ true → passes_told set.0 set.1 self.now.tests e ≡ true) }
+    // What is told where the predicate is of a small set, and a test is on it.
+    fn set_told(&self, pred: &Pred) -> Option<u8>
+        ensures { IfSome result (λ note. (e : Assignments) → is_met (values_of e pred.now.attr) pred.now.op ≡ true → passes_note note self.now.tests e ≡ true) }
     {
         let Op::OneOf(xs) = &pred.op else {
             return None;
         };
         let middle = middle_of(xs)?;
-        let told = self.set_at(pred.attr, xs.ends())?;
-        Some((told, middle))
+        let at = self.set_at(pred.attr, xs.ends())?;
+        Some(at * 64 + middle)
     }
 
-    /// What is told of the first small set of the condition on which the first or second test is.
-    pub(crate) fn set_among(&self, conj: &Conj) -> (Told, u8)
-        ensures few { extent_of result.0 ≡ Few }
-        ensures plain { result.0 ≡ IsSet → ⊥ }
-        ensures set { LosesNone conj.now result.0 result.1 self.now.tests }
+    /// The set note: what is told of the first small set of the condition that a test is of, and 0 where there is none.
+    pub(crate) fn set_among(&self, conj: &Conj) -> u8
+        ensures { LosesNone conj.now result self.now.tests }
     {
         for pred in conj.preds() {
-            if let Some(set) = self.set_told(pred) {
-                return set;
+            if let Some(set_note) = self.set_told(pred) {
+                return set_note;
             }
         }
-        (Told::AsFew, 0)
+        0
     }
 
     // Whether the event passes.
@@ -298,23 +269,23 @@ impl FewTests {
     }
 
     // Whether an event of single values satisfies the condition. What is told of a set may say no before the row is read.
-    fn is_met_by_one(&self, told: Told, conj: &Conj, e: &Sight) -> bool
-        requires set { LosesNone conj.now told self.now.third.0 self.now.tests }
+    fn is_met_by_one(&self, set_note: u8, conj: &Conj, e: &Sight) -> bool
+        requires { LosesNone conj.now set_note self.now.tests }
         ensures { result ≡ satisfies e.now conj.now }
     {
-        self.may_have_set(told, e) && conj.satisfied_by(e.event())
+        self.may_have_set(set_note, e) && conj.satisfied_by(e.event())
     }
 
     /// Whether the event satisfies the condition of which this is told. A search asks it only of events that passed the lanes, where
     /// these have single values, so they aren't asked again.
-    pub(crate) fn is_met(&self, told: Told, conj: &Conj, e: &Sight) -> bool
+    pub(crate) fn is_met(&self, told: Told, set_note: u8, conj: &Conj, e: &Sight) -> bool
         requires told { glance self.now.tests (extent_of told) ≡ glance_of conj.now }
         requires form { IsConj conj.now }
-        requires set { LosesNone conj.now told self.now.third.0 self.now.tests }
+        requires set { LosesNone conj.now set_note self.now.tests }
         ensures { result ≡ satisfies e.now conj.now }
     {
         if e.is_exact() {
-            self.is_met_by_one(told, conj, e)
+            self.is_met_by_one(set_note, conj, e)
         } else {
             self.is_met_by_values(told.extent(), conj, e)
         }

@@ -330,16 +330,22 @@ impl Glance {
         glance
     }
 
-    /// Of which set something is told, and the lower bits of the number between its ends.
-    pub(crate) fn set_of(&self, conj: &Conj) -> (Told, u8)
-        ensures extent { extent_of result.0 ≡ self.now.extent }
-        ensures plain { result.0 ≡ IsSet → ⊥ }
-        ensures set { LosesNone conj.now result.0 result.1 self.now.tests }
+    /// What is told by the extent alone.
+    pub(crate) fn told(&self) -> Told
+        ensures extent { extent_of result ≡ self.now.extent }
+        ensures plain { result ≡ IsSet → ⊥ }
     {
         match self.extent {
-            Extent::Whole => (Told::AsWhole, 0),
-            Extent::Few => self.tests.set_among(conj),
-            Extent::Part => (Told::AsPart, 0),
+            Extent::Whole => Told::AsWhole,
+            Extent::Few => Told::AsFew,
+            Extent::Part => Told::AsPart,
         }
+    }
+
+    /// Which test is of a small set, and the lower bits of the number between its ends.
+    pub(crate) fn set_note(&self, conj: &Conj) -> u8
+        ensures { LosesNone conj.now result self.now.tests }
+    {
+        self.tests.set_among(conj)
     }
 }

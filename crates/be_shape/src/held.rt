@@ -1,12 +1,12 @@
 //! What a place of a leaf has.
 
-ghost use Rattle.std.specs.Prelude.{◌≡◌, ◌↔◌, true, false, List, Some, IsSome};
+ghost use Rattle.std.specs.Prelude.{◌≡◌, ◌↔◌, ◌≤◌, ◌/◌, ◌%◌, true, false, List, Some, IsSome};
 ghost use Rattle.std.specs.Arc.{arc_value};
 ghost use Rattle.be_model.specs.declared.preds.Pred.{Pred};
 ghost use Rattle.be_model.specs.Matching.{satisfies};
 ghost use Rattle.be_model.specs.Rows.{id_of};
 ghost use Rattle.be_shape.specs.FewTests.{few_told};
-ghost use Rattle.be_shape.specs.Held.{short_id, row_of, short_of, told_of, few_in, few_with};
+ghost use Rattle.be_shape.specs.Held.{short_id, row_of, note_of, short_of, set_note_of, told_of, few_in, few_with};
 ghost use Rattle.be_shape.specs.Lanes.{passes_lanes, are_single, HoldLanes};
 
 use crate::few_tests::FewTests;
@@ -17,47 +17,36 @@ use be_base::Id;
 use be_model::Row;
 use std::sync::Arc;
 
-/// Stands for an id that 32 bits don't tell.
-pub(crate) const WIDE: u32 = u32::MAX;
+/// Stands for an id that 24 bits don't tell.
+pub(crate) const WIDE: u32 = 16777215;
 
-/// What a place has: a blank, or a row with its id and lanes. How much these are of the row is told by the variant, as then a place
-/// takes 40 bytes; the fields stand in this order for the same.
+/// What a place has: a blank, or a row with its id, its set note and its lanes. The id takes 24 bits of `note`, and the set note 8.
+/// How much the lanes are of the row is told by the variant, as then a place takes 40 bytes; the fields stand in this order for the
+/// same.
 #[derive(Drop)]
 pub(crate) enum Held {
     Blank,
     ToldWhole {
         attrs: LaneAttrs,
-        short: u32,
+        note: u32,
         slots: LaneSlots,
         row: Arc<Row>,
     },
     ToldSet {
         attrs: LaneAttrs,
-        short: u32,
+        note: u32,
         slots: LaneSlots,
         row: Arc<Row>,
     },
     ToldFew {
         attrs: LaneAttrs,
-        short: u32,
+        note: u32,
         slots: LaneSlots,
         row: Arc<Row>,
     },
     ToldPart {
         attrs: LaneAttrs,
-        short: u32,
-        slots: LaneSlots,
-        row: Arc<Row>,
-    },
-    ToldFirstSet {
-        attrs: LaneAttrs,
-        short: u32,
-        slots: LaneSlots,
-        row: Arc<Row>,
-    },
-    ToldSecondSet {
-        attrs: LaneAttrs,
-        short: u32,
+        note: u32,
         slots: LaneSlots,
         row: Arc<Row>,
     },
@@ -67,7 +56,8 @@ const _: () = prove!(size_of::<Held>() == 40);
 
 // The id as a place has it.
 fn short_id(id: Id) -> u32
-    ensures { result ≡ short_id id.0 }
+    ensures id { result ≡ short_id id.0 }
+    ensures fits { result ≤ 16777215 }
 {
     if id.0 < WIDE as u64 {
         id.0 as u32
@@ -76,51 +66,48 @@ fn short_id(id: Id) -> u32
     }
 }
 
+// The id and the set note in one number.
+fn note_of(id: Id, set_note: u8) -> u32
+    ensures short { result / 256 ≡ short_id id.0 }
+    ensures set { result % 256 ≡ set_note }
+{
+    short_id(id) * 256 + u32::from(set_note)
+}
+
 impl Held {
     /// A row, and what is told of it.
-    pub(crate) fn of(told: Told, tests: FewTests, row: Arc<Row>) -> Held
+    pub(crate) fn of(told: Told, set_note: u8, tests: FewTests, row: Arc<Row>) -> Held
         requires { tests ≡ few_told told tests.first tests.second tests.third }
         ensures row { row_of result ≡ Some (arc_value row) }
         ensures short { short_of result ≡ short_id (id_of (arc_value row)) }
+        ensures set { set_note_of result ≡ set_note }
         ensures told { told_of result ≡ told }
         ensures few { few_in result ≡ tests }
     {
         let (attrs, slots) = tests.lanes();
-        let short = short_id(row.id);
+        let note = note_of(row.id, set_note);
         match told {
             Told::AsWhole => Held::ToldWhole {
                 attrs,
-                short,
+                note,
                 slots,
                 row,
             },
             Told::IsSet => Held::ToldSet {
                 attrs,
-                short,
+                note,
                 slots,
                 row,
             },
             Told::AsFew => Held::ToldFew {
                 attrs,
-                short,
+                note,
                 slots,
                 row,
             },
             Told::AsPart => Held::ToldPart {
                 attrs,
-                short,
-                slots,
-                row,
-            },
-            Told::FirstIsSet => Held::ToldFirstSet {
-                attrs,
-                short,
-                slots,
-                row,
-            },
-            Told::SecondIsSet => Held::ToldSecondSet {
-                attrs,
-                short,
+                note,
                 slots,
                 row,
             },
@@ -136,8 +123,6 @@ impl Held {
             Held::ToldSet { row, .. } => row,
             Held::ToldFew { row, .. } => row,
             Held::ToldPart { row, .. } => row,
-            Held::ToldFirstSet { row, .. } => row,
-            Held::ToldSecondSet { row, .. } => row,
             Held::Blank => unreachable!(),
         }
     }
@@ -151,8 +136,20 @@ impl Held {
             Held::ToldSet { row, .. } => row,
             Held::ToldFew { row, .. } => row,
             Held::ToldPart { row, .. } => row,
-            Held::ToldFirstSet { row, .. } => row,
-            Held::ToldSecondSet { row, .. } => row,
+            Held::Blank => unreachable!(),
+        }
+    }
+
+    // All variants have it at one place, so this needs no jump.
+    fn note(&self) -> u32
+        requires { IsSome (row_of self.now) }
+        ensures { result ≡ note_of self.now }
+    {
+        match self {
+            Held::ToldWhole { note, .. } => *note,
+            Held::ToldSet { note, .. } => *note,
+            Held::ToldFew { note, .. } => *note,
+            Held::ToldPart { note, .. } => *note,
             Held::Blank => unreachable!(),
         }
     }
@@ -162,15 +159,15 @@ impl Held {
         requires { IsSome (row_of self.now) }
         ensures { result ≡ short_of self.now }
     {
-        match self {
-            Held::ToldWhole { short, .. } => *short,
-            Held::ToldSet { short, .. } => *short,
-            Held::ToldFew { short, .. } => *short,
-            Held::ToldPart { short, .. } => *short,
-            Held::ToldFirstSet { short, .. } => *short,
-            Held::ToldSecondSet { short, .. } => *short,
-            Held::Blank => unreachable!(),
-        }
+        self.note() / 256
+    }
+
+    /// Which test is of a small set, and the lower bits of the number between its ends.
+    pub(crate) fn set_note(&self) -> u8
+        requires { IsSome (row_of self.now) }
+        ensures { result ≡ set_note_of self.now }
+    {
+        (self.note() % 256) as u8
     }
 
     pub(crate) fn told(&self) -> Told
@@ -182,8 +179,6 @@ impl Held {
             Held::ToldSet { .. } => Told::IsSet,
             Held::ToldFew { .. } => Told::AsFew,
             Held::ToldPart { .. } => Told::AsPart,
-            Held::ToldFirstSet { .. } => Told::FirstIsSet,
-            Held::ToldSecondSet { .. } => Told::SecondIsSet,
             Held::Blank => unreachable!(),
         }
     }
@@ -198,8 +193,6 @@ impl Held {
             Held::ToldSet { attrs, slots, .. } => (attrs, slots),
             Held::ToldFew { attrs, slots, .. } => (attrs, slots),
             Held::ToldPart { attrs, slots, .. } => (attrs, slots),
-            Held::ToldFirstSet { attrs, slots, .. } => (attrs, slots),
-            Held::ToldSecondSet { attrs, slots, .. } => (attrs, slots),
             Held::Blank => unreachable!(),
         }
     }
@@ -232,8 +225,6 @@ impl Held {
             Held::ToldSet { .. } => false,
             Held::ToldFew { .. } => false,
             Held::ToldPart { .. } => false,
-            Held::ToldFirstSet { .. } => false,
-            Held::ToldSecondSet { .. } => false,
         }
     }
 

@@ -102,7 +102,7 @@ impl Leaf {
         self.kept(place).row()
     }
 
-    /// The id of the row at a place. The row isn't looked at, but where its id is 2^32 - 1 or more.
+    /// The id of the row at a place. The row isn't looked at, but where its id is 2^24 - 1 or more.
     pub fn id(&self, place: usize) -> Id
         requires { place < length self.now }
         ensures { option_map id_of (slice_get self.now place) ≡ Some result.0 }
@@ -185,7 +185,7 @@ impl Leaf {
         self.id(place).0 == row.id.0 && self.row(place).same_as(row)
     }
 
-    /// Where the row stands. A row of another id isn't looked at, but where its id is 2^32 - 1 or more.
+    /// Where the row stands. A row of another id isn't looked at, but where its id is 2^24 - 1 or more.
     pub fn place_of(&self, row: &Row) -> Option<usize>
         ensures found { IfSome result (λ place. slice_get self.now place ≡ Some row.now) }
         ensures none { IfNone result (Contains self.now row.now → ⊥) }

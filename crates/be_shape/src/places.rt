@@ -24,7 +24,7 @@ use std::marker::Model;
 use std::sync::Arc;
 
 /// A place of a leaf: a row, or a blank where the leaf ends. It tells at most three tests of the row and its id, so that a row whose
-/// attributes are told isn't looked at for these, nor for its spans, and no row for an id below 2^32 - 1.
+/// attributes are told isn't looked at for these, nor for its spans, and no row for an id below 2^24 - 1.
 #[derive(Drop)]
 pub(crate) struct Kept {
     held: Held,
@@ -56,10 +56,11 @@ impl Kept {
         ensures { result ≡ Some (arc_value row) }
     {
         let glance = Glance::of(&row.conj);
-        let (set, middle) = glance.set_of(&row.conj);
-        let (told, tests) = glance.tests.noting(middle).settled(set, &row.conj);
+        let set_note = glance.set_note(&row.conj);
+        let told = glance.told();
+        let (told, tests) = glance.tests.settled(told, &row.conj);
         Kept {
-            held: Held::of(told, tests, row),
+            held: Held::of(told, set_note, tests, row),
         }
     }
 
@@ -77,7 +78,7 @@ impl Kept {
         self.held.row()
     }
 
-    /// The row's id. The row is looked at only where 32 bits don't tell it.
+    /// The row's id. The row is looked at only where 24 bits don't tell it.
     pub(crate) fn id(&self) -> Id
         requires { IsSome self.now }
         ensures { option_map id_of self.now ≡ Some result.0 }
@@ -100,14 +101,19 @@ impl Kept {
     }
 
     // The row, and what is told of it.
-    fn told(&self) -> (&Arc<Row>, Told, FewTests)
+    fn told(&self) -> (&Arc<Row>, Told, u8, FewTests)
         requires { IsSome self.now }
         ensures row { self.now ≡ Some (arc_value result.0.now) }
-        ensures tests { glance result.2.tests (extent_of result.1) ≡ glance_of (arc_value result.0.now).conj }
+        ensures tests { glance result.3.tests (extent_of result.1) ≡ glance_of (arc_value result.0.now).conj }
         ensures form { IsConj (arc_value result.0.now).conj }
-        ensures set { LosesNone (arc_value result.0.now).conj result.1 result.2.third.0 result.2.tests }
+        ensures set { LosesNone (arc_value result.0.now).conj result.2 result.3.tests }
     {
-        (self.held.row(), self.held.told(), self.held.tests())
+        (
+            self.held.row(),
+            self.held.told(),
+            self.held.set_note(),
+            self.held.tests(),
+        )
     }
 
     /// The row's attributes.
@@ -115,7 +121,7 @@ impl Kept {
         requires { IsSome self.now }
         ensures { option_map (λ row. attrs_of row.conj) self.now ≡ Some result }
     {
-        let (_, told, tests) = self.told();
+        let (_, told, _, tests) = self.told();
         tests.attrs(told.extent())
     }
 
@@ -124,7 +130,7 @@ impl Kept {
         requires { IsSome self.now }
         ensures { option_map (λ row. has a row) self.now ≡ Some result }
     {
-        let (row, told, tests) = self.told();
+        let (row, told, _, tests) = self.told();
         tests.has_attr(told.extent(), row, a)
     }
 
@@ -144,8 +150,8 @@ impl Kept {
         requires { IsSome self.now }
         ensures { option_map (λ row. satisfies e.now row.conj) self.now ≡ Some result }
     {
-        let (row, told, tests) = self.told();
-        tests.is_met(told, &row.conj, e)
+        let (row, told, set_note, tests) = self.told();
+        tests.is_met(told, set_note, &row.conj, e)
     }
 
     /// The row's span on the attribute.
@@ -154,7 +160,7 @@ impl Kept {
         requires lies { option_map (row_lies s.now) self.now ≡ Some true }
         ensures { option_map (λ row. span_in s.now a row.conj) self.now ≡ Some result }
     {
-        let (row, told, tests) = self.told();
+        let (row, told, _, tests) = self.told();
         tests.span(told.extent(), &row.conj, s, a)
     }
 }

@@ -1,27 +1,24 @@
 //! What is told of a small set of numbers, one of which a row wants of an attribute, so that an event can be refused without a
 //! look at the row.
 
-ghost use Rattle.std.specs.Prelude.{◌≡◌, ℤ, true, IfSome, unsigned_abs};
+ghost use Rattle.std.specs.Prelude.{◌≡◌, ◌<◌, ℤ, true, IfSome, unsigned_abs};
 ghost use Rattle.be_model.specs.Hulls.{first_of_values, last_of_values};
 ghost use Rattle.be_model.specs.Matching.{is_among};
 ghost use Rattle.be_shape.specs.Listed.{low_part};
-ghost use Rattle.be_shape.specs.declared.small_sets.Told.TheVariants.{FirstIsSet};
+ghost use Rattle.be_shape.specs.declared.small_sets.Told.TheVariants.{AsFew};
 ghost use Rattle.be_shape.specs.SmallSets.{extent_of, is_set, is_sure, may_be};
 
 use crate::glances::{Ends, Extent};
 use be_model::Values;
 
-/// How much of a row its tests are, and which of them is of a set of at most three numbers, where one is told. With three tests
-/// nothing is told of its numbers, as there is no room.
+/// How much of a row its tests are.
 #[derive(Clone, Copy)]
 pub(crate) enum Told {
     AsWhole,
     AsFew,
     AsPart,
-    /// All of it is such a set, and its lanes pass the numbers of the set alone.
+    /// All of it is a set of two or three numbers, and its lanes pass these alone.
     IsSet,
-    FirstIsSet,
-    SecondIsSet,
 }
 
 impl Told {
@@ -31,14 +28,14 @@ impl Told {
         match self {
             Told::AsWhole => Extent::Whole,
             Told::AsPart => Extent::Part,
-            Told::AsFew | Told::IsSet | Told::FirstIsSet | Told::SecondIsSet => Extent::Few,
+            Told::AsFew | Told::IsSet => Extent::Few,
         }
     }
 
-    pub(crate) fn is_first(self) -> bool
-        ensures { result ≡ true → self ≡ FirstIsSet }
+    pub(crate) fn is_few(self) -> bool
+        ensures { result ≡ true → self ≡ AsFew }
     {
-        matches!(self, Told::FirstIsSet)
+        matches!(self, Told::AsFew)
     }
 
     /// Whether the lanes behind the first are of the gaps of a set, and of no test.
@@ -56,11 +53,11 @@ impl Told {
     }
 }
 
-/// The lower 8 bits. Most other numbers have others.
+/// The lower 6 bits. Most other numbers have others.
 pub(crate) fn low_part(n: u64) -> u8
     ensures { result ≡ low_part n }
 {
-    (n % 256) as u8
+    (n % 64) as u8
 }
 
 /// Whether the number may be in the set of these ends, whose number between them has these lower bits.
@@ -72,7 +69,8 @@ pub(crate) fn may_be(ends: Ends, middle: u8, v: i64) -> bool
 
 /// The lower bits of the middle one of three numbers, or of the first of fewer. None of a larger set.
 pub(crate) fn middle_of(xs: &Values) -> Option<u8>
-    ensures { IfSome result (λ m. (v : ℤ) → is_among xs.now v ≡ true → may_be (first_of_values xs.now, last_of_values xs.now) m v ≡ true) }
+    ensures low { IfSome result (λ m. m < 64) }
+    ensures set { IfSome result (λ m. (v : ℤ) → is_among xs.now v ≡ true → may_be (first_of_values xs.now, last_of_values xs.now) m v ≡ true) }
 {
     match xs.as_slice() {
         [x] => Some(low_part(x.unsigned_abs())),

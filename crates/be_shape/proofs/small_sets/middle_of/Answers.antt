@@ -4,8 +4,8 @@ use Rattle.be_shape.specs.Listed.{low_part}
 use Rattle.be_shape.proofs.SetTests.{list_told}
 use Rattle.be_shape.proofs.small_sets.middle_of.Goals as goal
 
-pub returns-in-len3 : goal.returns-in-len3
-returns-in-len3 c = λ v h.
+pub returns-in-len3-clause-set : goal.returns-in-len3-clause-set
+returns-in-len3-clause-set c = λ v h.
     let ys = c.as_slice.result.now in
     let x = get_or ys 1 (pos 0) in
     let fits : FitsSigned w64 x = search rules in

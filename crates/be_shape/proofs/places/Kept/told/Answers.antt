@@ -23,4 +23,4 @@ returns-clause-set c =
     let held = c.self.inside.held in
     let row = arc_value c.row.result.now in
     let t = (of_row held row c.self.invariant c.row.ensures).1 in
-    subst (λ (few : Few). LosesNone row.conj c.told.result few.third.0 few.tests) (sym c.tests.ensures) (subst (λ (told : Told). LosesNone row.conj told (few_in held).third.0 (few_in held).tests) (sym c.told.ensures) t.set)
+    subst (λ (few : Few). LosesNone row.conj c.set_note.result few.tests) (sym c.tests.ensures) (subst (λ note. LosesNone row.conj note (few_in held).tests) (sym c.set_note.ensures) t.set)
