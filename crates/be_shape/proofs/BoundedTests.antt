@@ -1,5 +1,5 @@
 -- The tests that are all of a condition have ends that aren't turned.
-use Rattle.std.proofs.Common.{◌≡◌, ℤ, pos, ◌+ℤ◌, ◌-ℤ◌, ◌≤ℤ◌, ◌<ℤ◌, leb, Bool, true, false, ◌&&◌, ◌||◌, List, [], ◌∷◌, ◌++◌, length, is_some, Option, Some, None, option_map, option_and_then, cond, refl, sym, subst, arith}
+use Rattle.std.proofs.Common.{◌≡◌, ℤ, pos, ◌+ℤ◌, ◌-ℤ◌, ◌≤ℤ◌, ◌<ℤ◌, ◌+◌, leb, Bool, true, false, ◌&&◌, ◌||◌, List, [], ◌∷◌, ◌++◌, length, is_some, Option, Some, None, option_map, option_and_then, cond, refl, sym, subst, arith}
 use Rattle.be_model.specs.declared.ops.Op.{Op}
 use Rattle.be_model.specs.declared.ops.Op.TheVariants.{Lt, Le, Eq, Ne, Ge, Gt, Between, OneOf, NoneOf}
 use Rattle.be_model.specs.declared.preds.Pred.{Pred}
@@ -7,7 +7,7 @@ use Rattle.be_model.specs.Hulls.{first_of_values, last_of_values}
 use Rattle.be_shape.specs.declared.glances.Bounds.{Bounds}
 use Rattle.be_shape.specs.declared.glances.Extent.{Extent}
 use Rattle.be_shape.specs.declared.glances.Extent.TheVariants.{Whole, Few, Part}
-use Rattle.be_shape.specs.Glances.{Glance, least, greatest, small, bounds, bounds_of, Test, test_on, is_whole, is_part, glance, with_test, with_bounds, with_further, with_pred, with_preds, are_few, glance_of}
+use Rattle.be_shape.specs.Glances.{Glance, least, greatest, small, bounds, bounds_of, Test, test_on, is_whole, is_part, glance, with_test, with_bounds, with_further, with_pred, with_preds, glance_of}
 use Rattle.std.specs.Int.Signed.{le_z}
 use Rattle.std.proofs.lemmas.Int.{ints}
 use Rattle.std.specs.List.{list_all}
@@ -95,10 +95,10 @@ bounded_pred few p g t = by_tests (is_part g.extent) (is_some (test_on p.attr g.
     by_tests false true = bounded_further few p (bounds_of p.op) g t (exact_bound p.op)
     by_tests false false = bounded_bounds Part refl p (bounds_of p.op) g t (exact_bound p.op)
 
-bounded_preds : (few : Bool) (ps : List Pred) (g : Glance) → HasSound g → HasSound (with_preds few ps g)
-bounded_preds few [] g t = t
-bounded_preds few (p ∷ ps) g t = bounded_preds few ps (with_pred few p g) (bounded_pred few p g t)
+bounded_preds : (ps : List Pred) (g : Glance) → HasSound g → HasSound (with_preds ps g)
+bounded_preds [] g t = t
+bounded_preds (p ∷ ps) g t = let few = leb (length g.tests + length (p ∷ ps)) 3 in bounded_preds ps (with_pred few p g) (bounded_pred few p g t)
 
 -- where the tests are all of the condition, none has turned ends
 pub whole_sound : (conj : List Pred) (tests : List Test) (extent : Extent) → glance tests extent ≡ glance_of conj → is_whole extent ≡ true → are_sound tests ≡ true
-whole_sound conj tests extent same = subst HasSound (sym same) (bounded_preds (are_few conj) conj (glance [] Whole) (λ w. refl))
+whole_sound conj tests extent same = subst HasSound (sym same) (bounded_preds conj (glance [] Whole) (λ w. refl))

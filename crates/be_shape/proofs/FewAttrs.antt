@@ -1,5 +1,5 @@
 -- What a place tells of its row's attributes is true of the row.
-use Rattle.std.proofs.Common.{◌≡◌, ◌==◌, leb, Bool, true, false, ◌||◌, List, [], ◌∷◌, ◌++◌, length, is_some, Option, Some, None, cond, refl, sym, ap, subst, ◌∙◌}
+use Rattle.std.proofs.Common.{◌≡◌, ◌==◌, ◌+◌, leb, Bool, true, false, ◌||◌, List, [], ◌∷◌, ◌++◌, length, is_some, Option, Some, None, cond, refl, sym, ap, subst, ◌∙◌}
 use Rattle.std.specs.List.{list_any}
 use Rattle.std.proofs.lemmas.List.{append-nil, append_assoc}
 use Rattle.std.proofs.lemmas.List.Folds.{list_any-append}
@@ -12,7 +12,7 @@ use Rattle.be_shape.specs.declared.glances.Bounds.{Bounds}
 use Rattle.be_shape.specs.declared.glances.Extent.{Extent}
 use Rattle.be_shape.specs.declared.glances.Extent.TheVariants.{Whole, Few, Part}
 use Rattle.be_shape.specs.declared.listings.RowAttrs.TheVariants.{Many}
-use Rattle.be_shape.specs.Glances.{Glance, Test, test_on, is_part, bounds_of, glance, with_test, with_bounds, with_further, with_pred, with_preds, are_few, glance_of}
+use Rattle.be_shape.specs.Glances.{Glance, Test, test_on, is_part, bounds_of, glance, with_test, with_bounds, with_further, with_pred, with_preds, glance_of}
 use Rattle.be_shape.specs.Listed.{is_many, any_listed, listed, attrs_told, attrs_of}
 
 -- a test of attributes, of predicates and of tests of values
@@ -92,13 +92,14 @@ lists_pred few xs p g l = by_tests (is_part g.extent) (is_some (test_on p.attr g
     by_tests false true e d = lists_further few xs p (bounds_of p.op) g e (lists_again xs p g Few e d l) l
     by_tests false false e d = lists_bounds Part xs p (bounds_of p.op) g e (lists_part (xs ++ p ∷ []) g.tests) l
 
-lists_preds : (few : Bool) (xs ps : List Pred) (g : Glance) → Lists xs g → Lists (xs ++ ps) (with_preds few ps g)
-lists_preds few xs [] g l = subst (λ c. Lists c g) (sym (append-nil xs)) l
-lists_preds few xs (p ∷ ps) g l =
-    subst (λ c. Lists c (with_preds few ps (with_pred few p g))) (append_assoc xs (p ∷ []) ps) (lists_preds few (xs ++ p ∷ []) ps (with_pred few p g) (lists_pred few xs p g l))
+lists_preds : (xs ps : List Pred) (g : Glance) → Lists xs g → Lists (xs ++ ps) (with_preds ps g)
+lists_preds xs [] g l = subst (λ c. Lists c g) (sym (append-nil xs)) l
+lists_preds xs (p ∷ ps) g l =
+    let few = leb (length g.tests + length (p ∷ ps)) 3 in
+    subst (λ c. Lists c (with_preds ps (with_pred few p g))) (append_assoc xs (p ∷ []) ps) (lists_preds (xs ++ p ∷ []) ps (with_pred few p g) (lists_pred few xs p g l))
 
 pub lists : (conj : List Pred) → Lists conj (glance_of conj)
-lists conj = lists_preds (are_few conj) [] conj (glance [] Whole) (λ _ _. refl)
+lists conj = lists_preds [] conj (glance [] Whole) (λ _ _. refl)
 
 -- as many tests as can be listed are
 listed_is : (ts : List Test) (test : AttrNo → Bool) → is_many (listed ts) ≡ false → list_any (of_test test) ts ≡ any_listed test (listed ts)

@@ -16,7 +16,7 @@ use Rattle.be_shape.specs.declared.small_sets.Told.TheVariants.{AsWhole, AsFew, 
 use Rattle.be_shape.specs.declared.test_counts.Count.{Count}
 use Rattle.be_shape.specs.declared.test_counts.Count.TheVariants.{Zero, One, Two, Three}
 use Rattle.be_shape.specs.FewTests.{test_of, few_of, few_told}
-use Rattle.be_shape.specs.Glances.{Glance, least, greatest, small, bounds, bounds_of, Test, test_on, is_part, glance, with_test, with_bounds, with_further, with_pred, with_preds, are_few, glance_of}
+use Rattle.be_shape.specs.Glances.{Glance, least, greatest, small, bounds, bounds_of, Test, test_on, is_part, glance, with_test, with_bounds, with_further, with_pred, with_preds, glance_of}
 use Rattle.be_shape.specs.Lanes.{Slot, Lane, lowered, free, is_free, AreFree}
 use Rattle.be_shape.specs.SmallSets.{is_set}
 use Rattle.be_shape.proofs.BoundedTests.{below_to, less_eq, same_le}
@@ -82,12 +82,12 @@ below_pred few p g t = by_tests (is_part g.extent) (is_some (test_on p.attr g.te
     by_tests false true = below_further few p (bounds_of p.op) g t (below_bound p.op)
     by_tests false false = below_bounds Part p (bounds_of p.op) g t (below_bound p.op)
 
-below_preds : (few : Bool) (ps : List Pred) (g : Glance) → HasBelow g → HasBelow (with_preds few ps g)
-below_preds few [] g t = t
-below_preds few (p ∷ ps) g t = below_preds few ps (with_pred few p g) (below_pred few p g t)
+below_preds : (ps : List Pred) (g : Glance) → HasBelow g → HasBelow (with_preds ps g)
+below_preds [] g t = t
+below_preds (p ∷ ps) g t = let few = leb (length g.tests + length (p ∷ ps)) 3 in below_preds ps (with_pred few p g) (below_pred few p g t)
 
 pub tests_below : (conj : List Pred) (tests : List Test) (extent : Extent) → glance tests extent ≡ glance_of conj → are_below tests ≡ true
-tests_below conj tests extent same = subst HasBelow (sym same) (below_preds (are_few conj) conj (glance [] Whole) refl)
+tests_below conj tests extent same = subst HasBelow (sym same) (below_preds conj (glance [] Whole) refl)
 
 -- the lane of such a test isn't free
 not_free : (l : Lane) → is_below (test_of l) ≡ true → is_free l.1 ≡ false

@@ -1,5 +1,5 @@
 -- What a place tells of spans and attributes is true of its row.
-use Rattle.std.proofs.Common.{◌≡◌, ℤ, pos, ◌+ℤ◌, ◌-ℤ◌, ◌≤ℤ◌, ◌<ℤ◌, ◌<◌, ◌==◌, leb, Bool, true, false, ◌&&◌, ◌||◌, List, [], ◌∷◌, ◌++◌, length, find, is_some, Option, Some, None, option_map, option_and_then, cond, refl, sym, ap, ap₂, subst, ◌∙◌, arith}
+use Rattle.std.proofs.Common.{◌≡◌, ℤ, pos, ◌+ℤ◌, ◌-ℤ◌, ◌≤ℤ◌, ◌<ℤ◌, ◌<◌, ◌==◌, ◌+◌, leb, Bool, true, false, ◌&&◌, ◌||◌, List, [], ◌∷◌, ◌++◌, length, find, is_some, Option, Some, None, option_map, option_and_then, cond, refl, sym, ap, ap₂, subst, ◌∙◌, arith}
 use Rattle.std.specs.Int.{int_max, int_min}
 use Rattle.std.specs.Int.Signed.{le_z}
 use Rattle.std.specs.Ordering.{int_eq}
@@ -26,7 +26,7 @@ use Rattle.be_model.proofs.Spans.{pred_found}
 use Rattle.be_shape.specs.declared.glances.Bounds.{Bounds}
 use Rattle.be_shape.specs.declared.glances.Extent.{Extent}
 use Rattle.be_shape.specs.declared.glances.Extent.TheVariants.{Whole, Few, Part}
-use Rattle.be_shape.specs.Glances.{Glance, least, greatest, small, bounds, bounds_of, Test, test_on, is_part, glance, with_bounds, with_further, with_pred, with_preds, are_few, glance_of, hull_low, hull_high, hull_in}
+use Rattle.be_shape.specs.Glances.{Glance, least, greatest, small, bounds, bounds_of, Test, test_on, is_part, glance, with_bounds, with_further, with_pred, with_preds, glance_of, hull_low, hull_high, hull_in}
 use Rattle.be_shape.proofs.FewAttrs.{Lists, lists_pred, on_is, has_is_told}
 use Rattle.be_shape.proofs.ToldTests.{by_small}
 
@@ -132,14 +132,15 @@ first_pred few xs p g f = by_tests (is_part g.extent) (is_some (test_on p.attr g
     by_tests false false e d =
         first_bounds Part xs p (bounds_of p.op) g f.first (λ b k. joined xs p b.ends g.tests f.first (first_new xs p b (f.listed e (λ c. c.0 == p.attr.0) ∙ on_is p.attr g.tests ∙ d) k))
 
-firsts_preds : (few : Bool) (xs ps : List Pred) (g : Glance) → Firsts xs g → Firsts (xs ++ ps) (with_preds few ps g)
-firsts_preds few xs [] g f = subst (λ c. Firsts c g) (sym (append-nil xs)) f
-firsts_preds few xs (p ∷ ps) g f =
-    subst (λ c. Firsts c (with_preds few ps (with_pred few p g))) (append_assoc xs (p ∷ []) ps)
-    (firsts_preds few (xs ++ p ∷ []) ps (with_pred few p g) (record { listed = lists_pred few xs p g f.listed; first = first_pred few xs p g f }))
+firsts_preds : (xs ps : List Pred) (g : Glance) → Firsts xs g → Firsts (xs ++ ps) (with_preds ps g)
+firsts_preds xs [] g f = subst (λ c. Firsts c g) (sym (append-nil xs)) f
+firsts_preds xs (p ∷ ps) g f =
+    let few = leb (length g.tests + length (p ∷ ps)) 3 in
+    subst (λ c. Firsts c (with_preds ps (with_pred few p g))) (append_assoc xs (p ∷ []) ps)
+    (firsts_preds (xs ++ p ∷ []) ps (with_pred few p g) (record { listed = lists_pred few xs p g f.listed; first = first_pred few xs p g f }))
 
 firsts : (conj : List Pred) → Firsts conj (glance_of conj)
-firsts conj = firsts_preds (are_few conj) [] conj (glance [] Whole) (record { listed = λ _ _. refl; first = λ a ends h. absurd (cc) })
+firsts conj = firsts_preds [] conj (glance [] Whole) (record { listed = λ _ _. refl; first = λ a ends h. absurd (cc) })
 
 not_equal : (x y : ℤ) → x <ℤ y → int_eq x y ≡ false
 not_equal x y h = by_test (int_eq x y) refl

@@ -1,5 +1,5 @@
 -- What a place tells of its row is true of the row.
-use Rattle.std.proofs.Common.{◌≡◌, ⊎_elim, ℤ, pos, ◌+ℤ◌, ◌-ℤ◌, ◌≤ℤ◌, ◌<ℤ◌, leb, Bool, true, false, ◌&&◌, ◌||◌, List, [], ◌∷◌, ◌++◌, length, All, is_some, Option, Some, None, option_map, option_and_then, cond, refl, sym, ap, subst, ◌∙◌, arith}
+use Rattle.std.proofs.Common.{◌≡◌, ⊎_elim, ℤ, pos, ◌+ℤ◌, ◌-ℤ◌, ◌≤ℤ◌, ◌<ℤ◌, ◌+◌, leb, Bool, true, false, ◌&&◌, ◌||◌, List, [], ◌∷◌, ◌++◌, length, All, is_some, Option, Some, None, option_map, option_and_then, cond, refl, sym, ap, subst, ◌∙◌, arith}
 use Rattle.std.specs.Int.Signed.{le_z, lt_z}
 use Rattle.std.specs.Ordering.{int_eq}
 use Rattle.std.specs.List.{list_any, list_all}
@@ -20,7 +20,7 @@ use Rattle.be_model.proofs.Ranges.{within_parts, within_from, hulls_hold}
 use Rattle.be_shape.specs.declared.glances.Bounds.{Bounds}
 use Rattle.be_shape.specs.declared.glances.Extent.{Extent}
 use Rattle.be_shape.specs.declared.glances.Extent.TheVariants.{Whole, Few, Part}
-use Rattle.be_shape.specs.Glances.{Glance, least, greatest, is_in, has_in, small, bounds, bounds_of, Test, passes, may_meet, test_on, is_whole, is_part, glance, with_test, with_bounds, with_further, with_pred, with_preds, are_few, glance_of}
+use Rattle.be_shape.specs.Glances.{Glance, least, greatest, is_in, has_in, small, bounds, bounds_of, Test, passes, may_meet, test_on, is_whole, is_part, glance, with_test, with_bounds, with_further, with_pred, with_preds, glance_of}
 
 pub both : (a b : Bool) → a ≡ true → b ≡ true → (a && b) ≡ true
 both a b h k = ap (λ c. c && b) h ∙ k
@@ -229,14 +229,15 @@ tells_pred few xs p g f t = by_tests (is_part g.extent) (is_some (test_on p.attr
     by_tests false true e = tells_further few xs p (bounds_of p.op) g t (bounds_hold p.op f)
     by_tests false false e = tells_bounds Part refl xs p (bounds_of p.op) g t (bounds_hold p.op f)
 
-tells_preds : (few : Bool) (xs ps : List Pred) (g : Glance) → All (λ (p : Pred). OpForm p.op) ps → Tells xs g → Tells (xs ++ ps) (with_preds few ps g)
-tells_preds few xs [] g f t = subst (λ c. Tells c g) (sym (append-nil xs)) t
-tells_preds few xs (p ∷ ps) g f t =
-    subst (λ c. Tells c (with_preds few ps (with_pred few p g))) (append_assoc xs (p ∷ []) ps)
-    (tells_preds few (xs ++ p ∷ []) ps (with_pred few p g) (All-tail (λ (q : Pred). OpForm q.op) p ps f) (tells_pred few xs p g (All-head (λ (q : Pred). OpForm q.op) p ps f) t))
+tells_preds : (xs ps : List Pred) (g : Glance) → All (λ (p : Pred). OpForm p.op) ps → Tells xs g → Tells (xs ++ ps) (with_preds ps g)
+tells_preds xs [] g f t = subst (λ c. Tells c g) (sym (append-nil xs)) t
+tells_preds xs (p ∷ ps) g f t =
+    let few = leb (length g.tests + length (p ∷ ps)) 3 in
+    subst (λ c. Tells c (with_preds ps (with_pred few p g))) (append_assoc xs (p ∷ []) ps)
+    (tells_preds (xs ++ p ∷ []) ps (with_pred few p g) (All-tail (λ (q : Pred). OpForm q.op) p ps f) (tells_pred few xs p g (All-head (λ (q : Pred). OpForm q.op) p ps f) t))
 
 tells : (conj : List Pred) → IsConj conj → Tells conj (glance_of conj)
-tells conj f = tells_preds (are_few conj) [] conj (glance [] Whole) f.forms (record { lost = λ e h. refl; all = λ w e h. refl })
+tells conj f = tells_preds [] conj (glance [] Whole) f.forms (record { lost = λ e h. refl; all = λ w e h. refl })
 
 -- an event satisfies a condition exactly where it passes the tests, and these are all or it satisfies the condition
 pub told : (e : Assignments) (conj : List Pred) (tests : List Test) (extent : Extent) → glance tests extent ≡ glance_of conj → IsConj conj

@@ -1,5 +1,5 @@
 -- What a place of a leaf tells of its row without a look at the row: at most three tests, and how much of the row these are.
-use Rattle.std.specs.Prelude.{ℤ, pos, negsuc, ◌+ℤ◌, ◌-ℤ◌, ◌&&◌, ◌||◌, Bool, true, false, ◌==◌, List, [], ◌∷◌, ◌++◌, length, nat_le, Option, Some, None, option_map, option_and_then, int_lt, int_le, if◌then◌else◌}
+use Rattle.std.specs.Prelude.{ℤ, pos, negsuc, ◌+ℤ◌, ◌-ℤ◌, ◌&&◌, ◌||◌, Bool, true, false, ◌==◌, ◌+◌, List, [], ◌∷◌, ◌++◌, length, nat_le, Option, Some, None, option_map, option_and_then, int_lt, int_le, if◌then◌else◌}
 use Rattle.std.specs.List.{list_any, list_all}
 use Rattle.std.specs.Option.{is_some}
 use Rattle.std.specs.Ordering.{int_eq}
@@ -95,7 +95,7 @@ abbrev pub with_bounds : Extent → AttrNo → Option Bounds → Glance → Glan
 with_bounds x a None g = glance g.tests x
 with_bounds x a (Some b) g = with_test x a b g
 
--- with a further predicate on an attribute that has a test. It gives one only where the predicates are few
+-- with a further predicate on an attribute that has a test. It gives one only where few are still to come
 abbrev pub with_further : Bool → AttrNo → Option Bounds → Glance → Glance
 with_further few a o g = if few then with_bounds Few a o g else glance g.tests Few
 
@@ -105,17 +105,14 @@ with_pred few p g =
     if is_part g.extent then g
     else (if is_some (test_on p.attr g.tests) then with_further few p.attr (bounds_of p.op) g else with_bounds Part p.attr (bounds_of p.op) g)
 
-abbrev pub with_preds : Bool → List Pred → Glance → Glance
-with_preds few [] g = g
-with_preds few (p ∷ ps) g = with_preds few ps (with_pred few p g)
-
--- there are no more predicates than tests
-abbrev pub are_few : List Pred → Bool
-are_few conj = nat_le (length conj) 3
+-- few are still to come where there is room for a test of each
+abbrev pub with_preds : List Pred → Glance → Glance
+with_preds [] g = g
+with_preds (p ∷ ps) g = with_preds ps (with_pred (nat_le (length g.tests + length (p ∷ ps)) 3) p g)
 
 -- what is told of a condition
 abbrev pub glance_of : List Pred → Glance
-glance_of conj = with_preds (are_few conj) conj (glance [] Whole)
+glance_of conj = with_preds conj (glance [] Whole)
 
 -- the hull that a test stands for, over a domain
 abbrev pub hull_low : Range → ℤ → ℤ

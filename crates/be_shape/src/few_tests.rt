@@ -1,6 +1,6 @@
 //! At most three tests of a row.
 
-ghost use Rattle.std.specs.Prelude.{◌≡◌, ◌<◌, ℕ, true, List, [], ◌∷◌, ◌++◌, length, nat_le, IfSome};
+ghost use Rattle.std.specs.Prelude.{◌≡◌, ◌<◌, ◌+◌, ℕ, true, List, [], ◌∷◌, ◌++◌, length, nat_le, IfSome};
 ghost use Rattle.be_model.specs.Forms.{IsConj};
 ghost use Rattle.be_model.specs.Hulls.{span_in};
 ghost use Rattle.be_model.specs.Lies.{conj_lies};
@@ -71,6 +71,13 @@ impl FewTests {
         ensures { result ≡ nat_le 3 (length self.now.tests) }
     {
         self.count.has_third()
+    }
+
+    /// Whether there is room for so many tests more.
+    pub(crate) fn has_room(&self, wanted: usize) -> bool
+        ensures { result ≡ nat_le (length self.now.tests + wanted) 3 }
+    {
+        self.count.has_room(wanted)
     }
 
     /// With a test more, behind the others.

@@ -6,7 +6,7 @@ ghost use Rattle.std.specs.Ordering.{int_eq};
 ghost use Rattle.be_model.specs.declared.ops.Op.{Op};
 ghost use Rattle.be_model.specs.Forms.{IsConj};
 ghost use Rattle.be_model.specs.Matching.{values_of};
-ghost use Rattle.be_shape.specs.Glances.{least, greatest, is_in, has_in, small, bounds_of, is_whole, is_part, glance, with_test, with_bounds, with_further, with_pred, are_few, glance_of, hull_low, hull_high, hull_in};
+ghost use Rattle.be_shape.specs.Glances.{least, greatest, is_in, has_in, small, bounds_of, is_whole, is_part, glance, with_test, with_bounds, with_further, with_pred, glance_of, hull_low, hull_high, hull_in};
 ghost use Rattle.be_shape.specs.declared.small_sets.Told.TheVariants.{IsSet};
 ghost use Rattle.be_shape.specs.SmallSets.{extent_of, LosesNone};
 
@@ -190,13 +190,6 @@ pub(crate) fn has_in(ends: Ends, a: AttrNo, e: &Event) -> bool
     }
 }
 
-// Whether each predicate may have a test.
-fn are_few(conj: &Conj) -> bool
-    ensures { result ≡ are_few conj.now }
-{
-    conj.preds().len() <= 3
-}
-
 impl Extent {
     pub(crate) fn is_whole(self) -> bool
         ensures { result ≡ is_whole self }
@@ -291,8 +284,8 @@ impl Glance {
         }
     }
 
-    // With a further predicate on an attribute that has a test. Where there are more predicates than tests, it leaves the room
-    // to other attributes.
+    // With a further predicate on an attribute that has a test. Unless few are still to come, it leaves the room to other
+    // attributes.
     fn with_further(self, few: bool, a: AttrNo, bounds: Option<Bounds>) -> Glance
         ensures { result ≡ with_further few a bounds self }
     {
@@ -322,10 +315,12 @@ impl Glance {
         ensures told { result ≡ glance_of conj.now }
         ensures form { IsConj conj.now }
     {
-        let few = are_few(conj);
         let mut glance = Glance::of_none();
-        for pred in conj.preds() {
+        let mut left = conj.preds();
+        while let Some((pred, rest)) = left.split_first() {
+            let few = glance.tests.has_room(left.len());
             glance = glance.with_pred(few, pred);
+            left = rest;
         }
         glance
     }

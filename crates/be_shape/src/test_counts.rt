@@ -1,8 +1,9 @@
 //! How many tests a row has.
 
-ghost use Rattle.std.specs.Prelude.{◌≡◌, true};
+ghost use Rattle.std.specs.Prelude.{◌≡◌, ◌+◌, true, length, nat_le};
 ghost use Rattle.be_shape.specs.declared.test_counts.Count.TheVariants.{One};
-ghost use Rattle.be_shape.specs.FewTests.{count_told, has_first, has_second, has_third};
+ghost use Rattle.be_shape.specs.FewTests.{count_told, has_first, has_second, has_third, tests_of};
+ghost use Rattle.be_shape.specs.Glances.{Test};
 
 use crate::lanes::{LaneSlots, is_free};
 use crate::small_sets::Told;
@@ -56,5 +57,17 @@ impl Count {
         ensures { result ≡ has_third self }
     {
         matches!(self, Count::Three)
+    }
+
+    /// Whether there is room for so many tests more.
+    pub(crate) fn has_room(self, wanted: usize) -> bool
+        ensures { (x y z : Test) → result ≡ nat_le (length (tests_of self x y z) + wanted) 3 }
+    {
+        match self {
+            Count::Zero => wanted <= 3,
+            Count::One => wanted <= 2,
+            Count::Two => wanted <= 1,
+            Count::Three => wanted == 0,
+        }
     }
 }
