@@ -18,17 +18,12 @@ EXAMPLES = re.compile(r"/proofs/\w*Example\w*\.antt$")
 
 # What a crate has for now, and is to lose when it is next worked on.
 FOR_NOW = {
-    "be_base": "take-BeginsWith no_value_first",
     "be_demand": "StillCounts IsCounting says_hit",
     "be_desk": "AreApart",
     "be_io": "IsReading",
-    "be_mail": "AllPut-new_passes hands_new any_at AreRowsUpTo entry_at IsSum AreSums",
-    "be_model": "among_names place_among_names and_end AreValues-full assigned_one Given all_assigned values_within values_form "
-    "first_within whole_holds prefix_len-map position-map finds_kept taken_out place_step place_within of_attribute "
-    "value_lies value_in_range some_is_next FindsIn",
+    "be_mail": "AreRowsUpTo entry_at IsSum AreSums",
     "be_protocol": "new_reader LinesGoOn IsGoingOn",
     "be_session": "note_lines Draws FetchesSo IsLegalSoFar RunsOver BoardServes Serves",
-    "be_command_line": "settles",
 }
 
 WORD = re.compile(r"[^\s(){}\[\],;«»]+")

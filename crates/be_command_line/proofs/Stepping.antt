@@ -1,7 +1,7 @@
 -- One word: what these definitions and the kit's parser make of it.
 use Rattle.std.proofs.Common.{◌≡◌, ◌⊎◌, inl, inr, refl, sym, ap, ◌∙◌, List, [], ◌∷◌, ◌++◌, Option, Some, None, true, false, Bool, codes}
 use Rattle.be_base.specs.Text.{Text}
-use Rattle.clap.specs.Faults.{settle_fault, turn_fault}
+use Rattle.clap.specs.Faults.{turn_fault}
 use Rattle.clap.specs.Walk.{Row, Waiting, idle, option, positional, Walk, reading_by, settled_rows, walked}
 use Rattle.clap.specs.Kinds.{Kinds}
 use Rattle.clap.specs.declared.error.kind.ErrorKind.TheVariants as kind
@@ -101,12 +101,6 @@ load_seen rows value = seen_more load_id (reading_by load_rule) CommandLine (val
 
 words_stay : (rows : List Row) (value : Text) → seen word_id (settled_rows rules (raw (of_load value)) rows) ≡ seen word_id rows
 words_stay rows value = seen_other load_id word_id (reading_by load_rule) CommandLine (value ∷ []) rows refl
-
--- a use that waits is whole
-pub settles : (again : Bool) (rows : List Row) (p : Pending) → settle_fault rules again (record { rows = rows; pending = raw p; skip = 0 }) ≡ []
-settles again rows none = refl
-settles again rows (of_word v) = refl
-settles again rows (of_load v) = refl
 
 plain_passes : (rows : List Row) (p : Pending) (behind : Bool) (word : Text) → turn_fault shape [] (walk_at (plain_at rows p behind)) word ≡ []
 plain_passes rows none behind word = refl

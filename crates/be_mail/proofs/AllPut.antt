@@ -1,18 +1,14 @@
 -- What holds of each letter that a seat put.
-use Rattle.std.proofs.Common.{◌≡◌, ℕ, zero, suc, List, [], ◌∷◌, ◌++◌, length, subst}
+use Rattle.std.proofs.Common.{◌≡◌, ℕ, zero, suc, List, [], ◌∷◌, ◌++◌, subst}
 use Rattle.std.specs.Prelude.{All, Any, Contains}
-use Rattle.std.proofs.lemmas.List.Elements.{All-nil, All-head, All-tail, All-push, All-set, All-replicate, All-contains}
+use Rattle.std.proofs.lemmas.List.Elements.{All-nil, All-head, All-tail, All-push, All-set, All-contains}
 use lib.ListN.{get_or}
-use Rattle.atomic_table.specs.Seated.{TableId}
 use Rattle.be_model.specs.Letters.{PlainLetter}
 use Rattle.be_mail.specs.Letters.{Posting}
-use Rattle.be_mail.specs.Passes.{Passes, AllPut, put_into, new_passes, after_put}
+use Rattle.be_mail.specs.Passes.{Passes, AllPut, put_into, after_put}
 use Rattle.be_mail.specs.Settled.{WasPut, TakenWerePut}
 
 module _ (P : PlainLetter → Type 0) where
-  pub AllPut-new_passes : (boxes : List TableId) (seat : ℕ) → AllPut P (new_passes boxes seat)
-  AllPut-new_passes boxes seat = All-replicate (λ (letters : List PlainLetter). All P letters) (length boxes) [] (All-nil P)
-
   each_of : (puts : List (List PlainLetter)) (mailbox : ℕ) → All (λ letters. All P letters) puts → All P (get_or puts mailbox [])
   each_of [] mailbox all = All-nil P
   each_of (letters ∷ puts) zero all = All-head (λ letters. All P letters) letters puts all

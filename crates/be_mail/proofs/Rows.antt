@@ -14,10 +14,9 @@ use Rattle.be_mail.specs.Letters.{Posting}
 use Rattle.be_mail.specs.Mailbox.{BoxId, box_id, Mailbox}
 use Rattle.be_mail.specs.Rule.{HandState, SeatPuts, hand, no_puts, one_seat, later_seats, Delivers}
 use Rattle.be_mail.specs.Boxes.{IsNewHand, IsNewRow, AreRows, AreRowsUpTo}
-use Rattle.be_mail.specs.Passes.{BoxPass, put_of, box_of, first_put, taken_of, passes_of, new_passes, AreHandsOf}
+use Rattle.be_mail.specs.Passes.{BoxPass, put_of, box_of, first_put, taken_of, passes_of, new_passes}
 use Rattle.be_mail.proofs.Places.{within, at_end}
 use Rattle.be_mail.proofs.Moves as moves
-use Rattle.be_mail.proofs.Hands.{is_hand}
 
 repeated : {A : Type 0} (n i : ℕ) (x a : A) → get_elem? (replicate n x) i ≡ some a → x ≡ a
 repeated zero i x a e = absurd (some-ne-none a (sym e))
@@ -115,6 +114,3 @@ seats_new seat ps h row =
     let q = map_alike put_of [] ps (λ w p e. ap (λ (v : HandState). first_put v.puts) (row.each w p e).shows) ∙ ap (λ n. replicate n []) (sym (length-map ps box_of)) in
     let t = ap (λ l. get_or l seat no_postings) (map_alike taken_of [] ps (λ w p e. ap (λ (v : HandState). v.taken) (row.each w p e).shows)) ∙ get_or-replicate (length ps) seat no_postings no_postings h in
     λ i. record { boxes = map box_of ps; seat = seat; puts = q i; taken = t i; fulls = 0; empties = 0 }
-
-pub hands_new : (seat : ℕ) (ps : List BoxPass) → seat < length ps → IsNewRow seat (map box_of ps) ps → AreHandsOf seat ps
-hands_new seat ps h row = record { own = h; each = λ w p e. let t = row.each w p e in is_hand seat w p (box_of p) [] [] refl t.home t.shows }

@@ -145,9 +145,6 @@ kept schema seats found mail qs w p here sum (queued, h) =
     All-unmap : {A B : Type 0} (P : B → Type 0) (f : A → B) (l : List A) → All P (map f l) → All (λ a. P (f a)) l
     All-unmap P f l all i d h = subst P (get_or-map f l i d) (all i (f d) (let n = length-map l f in omega arith))
 
-any_at : (qs : List Passes) (P Q : Passes → Type 0) → ((q : Passes) → P q → Q q) → Any P qs → Any Q qs
-any_at qs P Q step (k, q, h, is, p) = (k, q, h, is, step q p)
-
 pub taken_were_put : (schema : Attributes) (seats : ℕ) (found : BoxId → Mailbox → Type 0) (mail : List TableId) (qs : List Passes) → length mail ≡ seats → AreAll mail qs → All (λ (q : Passes). q.seat < length mail) qs → AreKept schema seats found mail qs → TakenWerePut qs
 taken_were_put schema seats found mail qs n all less kept =
     All-weaker (λ (q : Passes). (q.seat < length mail) × Contains qs q) (λ (q : Passes). All (WasPut qs q.seat) q.taken) one qs

@@ -1,6 +1,6 @@
 -- Schemas: attributes by name and by place, and which attributes may be put.
 use Rattle.std.proofs.Common.{◌≡◌, ℕ, pos, negsuc, ◌≤ℤ◌, ◌+◌, ◌≤◌, suc, zero, Bool, true, false, leb, not, ◌&&◌, ◌||◌, List, [], ◌∷◌, ◌++◌, length, slice_get, Some, refl, sym, ap, ◌∙◌, arith}
-use Rattle.std.specs.List.{list_any, list_all, position}
+use Rattle.std.specs.List.{list_all}
 use Rattle.std.specs.Int.Signed.{le_z}
 use Rattle.std.specs.Bool.{Decides}
 use Rattle.std.proofs.lemmas.Bool.{and_from, and_parts}
@@ -13,9 +13,8 @@ use Rattle.be_base.proofs.SameText.{same_text-Decides}
 use Rattle.be_model.specs.declared.schemas.Domain.{Domain}
 use Rattle.be_model.specs.declared.schemas.Domain.TheVariants.{Int, Sym}
 use Rattle.be_model.specs.declared.schemas.Attribute.{Attribute}
-use Rattle.be_model.specs.Domains.{bounds_of, place_of}
+use Rattle.be_model.specs.Domains.{bounds_of}
 use Rattle.be_model.specs.Schemas.{Attributes, IsSchema, attribute_of, names_of_attributes, is_among_texts, all_differ, is_domain, takes, reserved_words}
-use Rattle.be_model.proofs.Lists.{list_any-map, position-map}
 
 pub and_left : (a b : Bool) → (a && b) ≡ true → a ≡ true
 and_left a b h = (and_parts a b h).0
@@ -25,13 +24,6 @@ and_right a b h = (and_parts a b h).1
 
 pub and_both : (a b : Bool) → a ≡ true → b ≡ true → (a && b) ≡ true
 and_both a b h k = and_from a b h k
-
--- the attribute of a name, by the attributes themselves
-pub among_names : (s : Attributes) (name : Text) → is_among_texts name (names_of_attributes s) ≡ list_any (λ (x : Attribute). same_text x.name name) s
-among_names s name = list_any-map (λ (x : Attribute). x.name) (λ other. same_text other name) s
-
-pub place_among_names : (s : Attributes) (name : Text) → place_of name (names_of_attributes s) ≡ position (λ (x : Attribute). same_text x.name name) s
-place_among_names s name = position-map (λ (x : Attribute). x.name) (λ other. same_text other name) s
 
 -- what a test says of each element, at a place
 pub all_at : {X : Type 0} (p : X → Bool) (xs : List X) (i : ℕ) (x : X) → list_all p xs ≡ true → slice_get xs i ≡ Some x → p x ≡ true
@@ -90,10 +82,6 @@ not_full n h = grind (arith, nat_tests)
 
 room_left : (n : ℕ) → n + 1 ≤ 256 → not (leb 256 n) ≡ true
 room_left n h = grind (arith, nat_tests)
-
-and_end : (a : Bool) → (a && (true && true)) ≡ a
-and_end true = refl
-and_end false = refl
 
 last_of_all : {X : Type 0} (p : X → Bool) (xs : List X) (x : X) → list_all p (xs ++ x ∷ []) ≡ (list_all p xs && (p x && true))
 last_of_all p xs x = list_all-append p xs (x ∷ [])

@@ -1,5 +1,5 @@
 -- Rising lists with one more element, and with fewer.
-use Rattle.std.proofs.Common.{◌≡◌, ◌↔◌, ℕ, zero, suc, ℤ, ◌-◌, ◌<◌, ◌≤◌, true, ltb, ◌&&◌, List, [], ◌∷◌, ◌++◌, length, get_or, drop, refl, sym, ap, ◌∙◌, arith}
+use Rattle.std.proofs.Common.{◌≡◌, ◌↔◌, ℕ, zero, suc, ℤ, ◌-◌, ◌<◌, true, ltb, ◌&&◌, List, [], ◌∷◌, ◌++◌, length, get_or, drop, refl, sym, ap, ◌∙◌, arith}
 use Rattle.std.specs.Int.Signed.{lt_z}
 use Rattle.std.proofs.lemmas.Bool.{and_from, and_parts}
 use Rattle.std.proofs.lemmas.List.{length_push, map_push, length-map, get_or-map}
@@ -34,10 +34,6 @@ AreValues-push xs v d f h =
       },
       λ g. (and_parts (rises xs) (lt_z (get_or xs (length xs - 1) d) v) (sym e ∙ g.rising)).1,
     )
-
--- a full set takes no value
-pub AreValues-full : (xs : List ℤ) (v : ℤ) → 64 ≤ length xs → ¬ (AreValues (xs ++ v ∷ []))
-AreValues-full xs v h f = let few = f.few in omega (arith, length_push xs v)
 
 -- attributes with one more
 pub attrs_rise-push : (xs : List AttrNo) (a d : AttrNo) → attrs_rise xs ≡ true → 0 < length xs → attrs_rise (xs ++ a ∷ []) ≡ ltb (get_or xs (length xs - 1) d).0 a.0

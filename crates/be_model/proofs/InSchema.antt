@@ -1,17 +1,15 @@
 -- What layers above cite: attributes that a schema has, values of an event, predicates on one attribute.
-use Rattle.std.proofs.Common.{◌≡◌, ℤ, pos, negsuc, ◌≤ℤ◌, ◌<◌, Bool, true, false, eqb, cond, List, [], ◌∷◌, length, All, Option, Some, None, option_map, refl, ap, subst, arith}
-use Rattle.std.proofs.lemmas.Bool.{eqb-true, and_parts, or_left}
+use Rattle.std.proofs.Common.{◌≡◌, ℤ, pos, negsuc, ◌≤ℤ◌, ◌<◌, Bool, true, false, eqb, cond, List, [], ◌∷◌, length, All, Option, Some, None, option_map, refl, ap, subst}
+use Rattle.std.proofs.lemmas.Bool.{eqb-true}
 use Rattle.std.proofs.lemmas.Option.{slice_get_within}
-use Rattle.std.proofs.lemmas.List.Elements.{All-cons, All-nil, All-head, All-tail}
+use Rattle.std.proofs.lemmas.List.Elements.{All-head, All-tail}
 use Rattle.std.proofs.lemmas.List.Sums.{AllPass-from_list_all}
 use Rattle.be_base.specs.declared.names.AttrNo.{AttrNo}
-use Rattle.be_model.specs.declared.ops.Op.{Op}
 use Rattle.be_model.specs.declared.preds.Pred.{Pred}
 use Rattle.be_model.specs.declared.schemas.Attribute.{Attribute}
-use Rattle.be_model.specs.Domains.{Range, bounds_of, is_within, is_some_within}
+use Rattle.be_model.specs.Domains.{Range, bounds_of}
 use Rattle.be_model.specs.Schemas.{Attributes, IsSchema, attribute_at, range_of, numbered, is_domain}
-use Rattle.be_model.specs.Forms.{AreValues, IsEvent}
-use Rattle.be_model.specs.Matching.{Assignments, values_of, is_met, satisfies}
+use Rattle.be_model.specs.Matching.{Assignments, values_of}
 use Rattle.be_model.specs.Lies.{values_in, lies_within, lies_in, pred_lies, item_lies, event_lies}
 use Rattle.be_model.proofs.Attributes.{all_at, rising_bounds, low_bounds, high_bounds}
 
@@ -50,20 +48,6 @@ range_of_pred s p h = by_option (range_of s p.attr) refl h
 pub same_attribute : (a b : AttrNo) → eqb a.0 b.0 ≡ true → a ≡ b
 same_attribute a b h = ap numbered (eqb-true a.0 b.0 h)
 
--- a condition that is satisfied has values for all its attributes
-assigned_one : (o : Option (List ℤ)) (op : Op) → is_met o op ≡ true → (vs : List ℤ) × (o ≡ Some vs)
-assigned_one None op h = absurd (cc)
-assigned_one (Some vs) op h = (vs, refl)
-
-abbrev Given : Assignments → Pred → Type 0
-Given e p = (vs : List ℤ) × (values_of e p.attr ≡ Some vs)
-
-pub all_assigned : (e : Assignments) (conj : List Pred) → satisfies e conj ≡ true → All (λ (p : Pred). (vs : List ℤ) × (values_of e p.attr ≡ Some vs)) conj
-all_assigned e [] h = All-nil (Given e)
-all_assigned e (p ∷ ps) h =
-    let parts = and_parts (is_met (values_of e p.attr) p.op) (satisfies e ps) h in
-    All-cons (Given e) p ps (assigned_one (values_of e p.attr) p.op parts.0) (all_assigned e ps parts.1)
-
 -- the values of an attribute have what all sets of the event have
 values_step : (P : AttrNo → List ℤ → Type 0) (item : AttrNo × List ℤ) (a : AttrNo) (vs : List ℤ) (o : Option (List ℤ)) (b : Bool) → eqb item.0.0 a.0 ≡ b → P item.0 item.1 → (o ≡ Some vs → P a vs)
     → cond b (Some item.1) o ≡ Some vs → P a vs
@@ -87,24 +71,3 @@ range_of_values s e a vs h k =
     by_range : (o : Option Range) → range_of s a ≡ o → lies_in o vs ≡ true → (r : Range) × (range_of s a ≡ Some r) × (lies_within r vs ≡ true)
     by_range None e l = absurd (cc)
     by_range (Some r) e l = (r, e, l)
-
--- the values that an event gives an attribute are in its range, where the event lies in the schema
-pub values_within : (s : Attributes) (e : Assignments) (a : AttrNo) (vs : List ℤ) (r : Range) → event_lies s e ≡ true → values_of e a ≡ Some vs → range_of s a ≡ Some r → lies_within r vs ≡ true
-values_within s e a vs r h k l =
-    let d = range_of_values s e a vs h k in
-    let same : d.0 ≡ r = cc (d.1, l) in subst (λ x. lies_within x vs ≡ true) same d.2
-
--- and they have the form of a set
-pub values_form : (e : Assignments) (a : AttrNo) (vs : List ℤ) → IsEvent e → values_of e a ≡ Some vs → AreValues vs
-values_form e a vs f k = values_have (λ _ ws. AreValues ws) e a vs f.sets k
-
-first_within : (r : Range) (vs : List ℤ) → 0 < length vs → lies_within r vs ≡ true → is_some_within r vs ≡ true
-first_within r [] some h = absurd (omega arith)
-first_within r (v ∷ vs) some h =
-    or_left (is_within r v) (is_some_within r vs) (and_parts (is_within r v) (lies_within r vs) h).0
-
--- so the whole range of the attribute holds one of them
-pub whole_holds : (s : Attributes) (e : Assignments) (a : AttrNo) (vs : List ℤ) (r : Range) → IsEvent e → event_lies s e ≡ true → values_of e a ≡ Some vs → range_of s a ≡ Some r
-    → is_some_within r vs ≡ true
-whole_holds s e a vs r f h k l =
-    first_within r vs (values_form e a vs f k).some (values_within s e a vs r h k l)

@@ -1,14 +1,11 @@
 -- The places of names in a list, and in the list with one more name.
-use Rattle.std.proofs.Common.{◌≡◌, ℕ, ◌+◌, ◌<◌, suc, Bool, true, false, cond, not, ltb, ◌&&◌, List, [], ◌∷◌, ◌++◌, length, All, IfSome, Option, Some, None, option_map, is_some, take, refl, sym, ap, subst, ◌∙◌, arith}
+use Rattle.std.proofs.Common.{◌≡◌, ℕ, ◌+◌, suc, Bool, true, false, cond, not, ltb, ◌&&◌, List, [], ◌∷◌, ◌++◌, length, All, Option, Some, None, option_map, is_some, refl, sym, ap, subst, ◌∙◌, arith}
 use Rattle.std.specs.declared.hash.FoldHasher.{FoldHasher}
 use Rattle.std.specs.declared.hash.BuildHasherDefault.{BuildHasherDefault}
-use Rattle.std.specs.HashMap.{HashMap, Updates, IsUnchanged}
+use Rattle.std.specs.HashMap.{HashMap, Updates}
 use Rattle.std.specs.List.{position, position_or_len}
 use Rattle.std.proofs.lemmas.Bool.Decides.{nat_tests}
 use Rattle.std.proofs.lemmas.List.Elements.{All-head, All-tail, All-push}
-use Rattle.std.proofs.lemmas.List.Quantifiers.{position-Some}
-use Rattle.std.proofs.lemmas.List.{take-append-le}
-use Rattle.std.proofs.Math.Seq.{take-length}
 use Rattle.be_base.specs.Text.{Text, IsName, same_text}
 use Rattle.be_base.proofs.SameText.{equal_from_same_text}
 use Rattle.be_base.specs.TextLists.{place_of, is_among_texts, all_differ}
@@ -109,16 +106,6 @@ finds_new places places' differ names name f h k u =
       flag = f.flag ∙ and_all (all_differ names) ∙ ap (λ b. all_differ names && not b) (sym ((position-none (λ other. same_text other name) names).0 k)) ∙ sym (all_differ_push names name);
     }
 
--- a map that was left as it was
-pub finds_kept : (places places' : HashMap Text ℕ (BuildHasherDefault FoldHasher)) (differ : Bool) (names : List Text)
-    → FindsPlaces places differ names → IsUnchanged places places' → FindsPlaces places' differ names
-finds_kept places places' differ names f u =
-    record {
-      form = f.form;
-      found = λ text. rw u (f.found text);
-      flag = f.flag;
-    }
-
 known_by : (o : Option ℕ) (places : HashMap Text ℕ (BuildHasherDefault FoldHasher)) (differ : Bool) (names : List Text) (name : Text)
     → FindsPlaces places differ names → IsName name → o ≡ place_of name names → true ≡ is_some o → FindsPlaces places false (names ++ name ∷ [])
 known_by (Some i) places differ names name f h k s = finds_known places differ names name i f h (sym k)
@@ -143,20 +130,6 @@ pub put_new : (o : Option ℕ) (place : ℕ) (places places' : HashMap Text ℕ 
 put_new o place places places' differ names new name f h k s n u e =
     subst (λ (x : List Text). FindsPlaces places' differ x) (sym e)
     (new_by o places places' differ names name f h k s (subst (λ (m : ℕ). Updates same_text places places' name (Some m)) n u))
-
--- the name was taken out again
-pub taken_out : (place : ℕ) (names new cut : List Text) (name : Text) → place ≡ length names → new ≡ names ++ name ∷ [] → cut ≡ take place new → cut ≡ names
-taken_out place names new cut name n e k =
-    k ∙ ap (λ (x : List Text). take place x) e ∙ ap (λ (m : ℕ). take m (names ++ name ∷ [])) n
-    ∙ take-append-le (length names) names (name ∷ []) (omega arith) ∙ take-length names
-
-place_step : (o : Option ℕ) (names : List Text) (text : Text) → o ≡ place_of text names → IfSome o (λ place. place < length names)
-place_step None names text h = tt
-place_step (Some i) names text h = (position-Some (λ other. same_text other text) names i [] (sym h)).0
-
--- a place is within the list
-pub place_within : (o : Option ℕ) (names now : List Text) (text : Text) → o ≡ place_of text names → names ≡ now → IfSome o (λ place. place < length now)
-place_within o names now text h e = place_step o now text (h ∙ ap (place_of text) e)
 
 among_or_not : (b : Bool) (o : Option ℕ) (names : List Text) (text : Text) → is_among_texts text names ≡ b → place_of text names ≡ o → is_some o ≡ b
 among_or_not true (Some i) names text e h = refl

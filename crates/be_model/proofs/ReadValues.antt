@@ -1,18 +1,13 @@
 -- The value of a word lies in the domain in which it was read.
-use Rattle.std.proofs.Common.{◌≡◌, ℕ, ℤ, pos, ◌-◌, ◌<◌, Bool, true, false, cond, List, [], ◌∷◌, length, Option, Some, None, option_map, option_and_then, refl, sym, ap, ◌∙◌, arith}
-use Rattle.std.proofs.lemmas.Bool.{and_from, and_parts}
+use Rattle.std.proofs.Common.{◌≡◌, ℕ, ℤ, pos, ◌-◌, ◌<◌, Bool, true, false, cond, List, [], length, Option, Some, None, option_map, refl, ap, ◌∙◌, arith}
 use Rattle.std.proofs.lemmas.Bool.Decides.{nat_tests}
 use Rattle.std.proofs.lemmas.Int.{ints}
 use Rattle.std.proofs.lemmas.List.Quantifiers.{position-Some}
 use Rattle.be_base.specs.Text.{Text, same_text}
-use Rattle.be_base.specs.declared.names.AttrNo.{AttrNo}
 use Rattle.be_base.specs.Numbers.{int_of}
 use Rattle.be_model.specs.declared.schemas.Domain.{Domain}
 use Rattle.be_model.specs.declared.schemas.Domain.TheVariants.{Int, Sym}
-use Rattle.be_model.specs.declared.schemas.Attribute.{Attribute}
 use Rattle.be_model.specs.Domains.{Range, bounds_of, is_within, within, value_of_word, place_of}
-use Rattle.be_model.specs.Schemas.{Attributes, attribute_at, range_of, value_at}
-use Rattle.be_model.specs.Lies.{lies_in}
 
 kept : (r : Range) (b : Bool) (w v : ℤ) → is_within r w ≡ b → cond b (Some w) None ≡ Some v → is_within r v ≡ true
 kept r true w v e h = let k : v ≡ w = cc in ap (is_within r) k ∙ e
@@ -37,17 +32,3 @@ in_listing text words (Some place) v e h =
 pub value_within : (d : Domain) (text : Text) (v : ℤ) → value_of_word d text ≡ Some v → is_within (bounds_of d) v ≡ true
 value_within (Int lo hi) text v h = in_range (lo, hi) (int_of text) v h
 value_within (Sym words) text v h = in_listing text words (place_of text words) v refl h
-
-of_attribute : (o : Option Attribute) (text : Text) (v : ℤ) → option_and_then (λ (x : Attribute). value_of_word x.domain text) o ≡ Some v
-    → lies_in (option_map (λ (x : Attribute). bounds_of x.domain) o) (v ∷ []) ≡ true
-of_attribute None text v h = absurd (cc)
-of_attribute (Some x) text v h = and_from (is_within (bounds_of x.domain) v) true (value_within x.domain text v h) refl
-
--- the value that a word has in an attribute's domain lies there
-pub value_lies : (s : Attributes) (a : AttrNo) (text : Text) (v : ℤ) → value_at s a text ≡ Some v → lies_in (range_of s a) (v ∷ []) ≡ true
-value_lies s a text v h = of_attribute (attribute_at s a) text v h
-
-pub value_in_range : (s : Attributes) (a : AttrNo) (text : Text) (v : ℤ) (r : Range) → value_at s a text ≡ Some v → range_of s a ≡ Some r → is_within r v ≡ true
-value_in_range s a text v r h e =
-    let l : lies_in (Some r) (v ∷ []) ≡ true = ap (λ o. lies_in o (v ∷ [])) (sym e) ∙ value_lies s a text v h in
-    (and_parts (is_within r v) true l).0

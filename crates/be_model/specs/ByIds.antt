@@ -4,7 +4,6 @@ use Rattle.std.specs.List.{list_any}
 use Rattle.std.specs.Arc.{arc_value}
 use Rattle.std.specs.declared.sync.Arc.{Arc}
 use Rattle.be_model.specs.declared.changes.Row.{Row}
-use Rattle.be_model.specs.Matching.{Assignments, satisfied}
 use Rattle.be_model.specs.Rows.{id_of}
 
 -- ids, and the row of each
@@ -76,7 +75,3 @@ pub record PutsEach (rows before after : List Row) : Type 0 where
   pub found : List Row
   pub put : after ≡ before ++ found
   pub exact : IsPermutation rows found
-
--- a search puts the rows that the event satisfies
-abbrev pub FindsIn : Assignments → ByIds → (before after : List Row) → Type 0
-FindsIn e m before after = PutsEach (satisfied e (rows_of m)) before after
