@@ -1,5 +1,5 @@
 -- The tests that are all of a condition have ends that aren't turned.
-use Rattle.std.proofs.Common.{◌≡◌, ℤ, pos, ◌+ℤ◌, ◌-ℤ◌, ◌≤ℤ◌, ◌<ℤ◌, ◌+◌, leb, Bool, true, false, ◌&&◌, ◌||◌, List, [], ◌∷◌, ◌++◌, length, is_some, Option, Some, None, option_map, option_and_then, cond, refl, sym, subst, arith}
+use Rattle.std.proofs.Common.{◌≡◌, ℕ, ℤ, pos, ◌+ℤ◌, ◌-ℤ◌, ◌≤ℤ◌, ◌<ℤ◌, ◌+◌, leb, Bool, true, false, ◌&&◌, ◌||◌, List, [], ◌∷◌, ◌++◌, length, is_some, Option, Some, None, option_map, option_and_then, cond, refl, sym, subst, arith}
 use Rattle.be_model.specs.declared.ops.Op.{Op}
 use Rattle.be_model.specs.declared.ops.Op.TheVariants.{Lt, Le, Eq, Ne, Ge, Gt, Between, OneOf, NoneOf}
 use Rattle.be_model.specs.declared.preds.Pred.{Pred}
@@ -7,11 +7,12 @@ use Rattle.be_model.specs.Hulls.{first_of_values, last_of_values}
 use Rattle.be_shape.specs.declared.glances.Bounds.{Bounds}
 use Rattle.be_shape.specs.declared.glances.Extent.{Extent}
 use Rattle.be_shape.specs.declared.glances.Extent.TheVariants.{Whole, Few, Part}
-use Rattle.be_shape.specs.Glances.{Glance, least, greatest, small, bounds, bounds_of, Test, test_on, is_whole, is_part, glance, with_test, with_bounds, with_further, with_pred, with_preds, glance_of}
+use Rattle.be_shape.specs.Glances.{Glance, least, greatest, small, bounds, bounds_of, Test, test_on, is_whole, is_part, glance, with_extent, with_test, with_bounds, new_bounds, narrow, further_bounds, with_pred, with_preds, limit_of, glance_of}
 use Rattle.std.specs.Int.Signed.{le_z}
 use Rattle.std.proofs.lemmas.Int.{ints}
 use Rattle.std.specs.List.{list_all}
-use Rattle.be_shape.proofs.ToldTests.{by_small, both, le_test, more_of_parts}
+use Rattle.be_shape.proofs.FirstBounds.{of_first, of_further}
+use Rattle.be_shape.proofs.ToldTests.{by_small, both, le_test, more_of_parts, wholly}
 
 -- the ends aren't turned, and no value is beyond the second one
 abbrev pub is_sound : ℤ × ℤ → Bool
@@ -65,40 +66,40 @@ exact_bound (NoneOf xs) = λ e. absurd cc
 abbrev HasSound : Glance → Type 0
 HasSound g = is_whole g.extent ≡ true → are_sound g.tests ≡ true
 
+bounded_extent : (x : Extent) → is_whole x ≡ false → (g : Glance) → HasSound g → HasSound (with_extent x g)
+bounded_extent x n g t = by_part (is_part g.extent)
+  where
+    by_part : (c : Bool) → HasSound (cond c g (glance g.tests x))
+    by_part true = t
+    by_part false = λ w. absurd cc
+
 bounded_test : (x : Extent) → is_whole x ≡ false → (p : Pred) (b : Bounds) (g : Glance) → HasSound g → IsSound (Some b) → HasSound (with_test x p.attr b g)
 bounded_test full n p b g t k = by_room (leb 256 p.attr.0 || leb 3 (length g.tests))
   where
     new : Test
     new = (p.attr, b.ends)
 
-    wholly : (c : Bool) (x : Extent) → is_whole (cond c x Few) ≡ true → (c ≡ true) × (is_whole x ≡ true)
-    wholly true x h = (refl, h)
-    wholly false x h = absurd cc
-
-    by_room : (c : Bool) → HasSound (cond c (glance g.tests full) (glance (g.tests ++ new ∷ []) (cond b.exact g.extent Few)))
-    by_room true = λ w. absurd cc
+    by_room : (c : Bool) → HasSound (cond c (with_extent full g) (glance (g.tests ++ new ∷ []) (cond (b.exact || is_part g.extent) g.extent Few)))
+    by_room true = bounded_extent full n g t
     by_room false = λ w. let y = wholly b.exact g.extent w in more_of_parts (λ (s : Test). is_sound s.1) g.tests new (t y.1) (k y.0)
 
 bounded_bounds : (x : Extent) → is_whole x ≡ false → (p : Pred) (o : Option Bounds) (g : Glance) → HasSound g → IsSound o → HasSound (with_bounds x p.attr o g)
-bounded_bounds x n p None g t k = λ w. absurd cc
+bounded_bounds x n p None g t k = bounded_extent x n g t
 bounded_bounds x n p (Some b) g t k = bounded_test x n p b g t k
 
-bounded_further : (few : Bool) (p : Pred) (o : Option Bounds) (g : Glance) → HasSound g → IsSound o → HasSound (with_further few p.attr o g)
-bounded_further true p o g t k = bounded_bounds Few refl p o g t k
-bounded_further false p o g t k = λ w. absurd cc
-
-bounded_pred : (few : Bool) (p : Pred) (g : Glance) → HasSound g → HasSound (with_pred few p g)
-bounded_pred few p g t = by_tests (is_part g.extent) (is_some (test_on p.attr g.tests))
+bounded_pred : (limit : ℕ) (few : Bool) (xs : List Pred) (p : Pred) (g : Glance) → HasSound g → HasSound (with_pred limit few xs p g)
+bounded_pred limit few xs p g t = by_test (is_some (test_on p.attr g.tests))
   where
-    by_tests : (b c : Bool) → HasSound (cond b g (cond c (with_further few p.attr (bounds_of p.op) g) (with_bounds Part p.attr (bounds_of p.op) g)))
-    by_tests true c = t
-    by_tests false true = bounded_further few p (bounds_of p.op) g t (exact_bound p.op)
-    by_tests false false = bounded_bounds Part refl p (bounds_of p.op) g t (exact_bound p.op)
+    by_test : (c : Bool) → HasSound (cond c (with_bounds Few p.attr (further_bounds few p) g) (with_bounds Part p.attr (narrow limit (new_bounds xs p)) g))
+    by_test true = bounded_bounds Few refl p (further_bounds few p) g t (of_further IsSound tt few p (exact_bound p.op))
+    by_test false = bounded_bounds Part refl p (narrow limit (new_bounds xs p)) g t (of_first IsSound tt limit xs p (exact_bound p.op))
 
-bounded_preds : (ps : List Pred) (g : Glance) → HasSound g → HasSound (with_preds ps g)
-bounded_preds [] g t = t
-bounded_preds (p ∷ ps) g t = let few = leb (length g.tests + length (p ∷ ps)) 3 in bounded_preds ps (with_pred few p g) (bounded_pred few p g t)
+bounded_preds : (limit : ℕ) (xs ps : List Pred) (g : Glance) → HasSound g → HasSound (with_preds limit xs ps g)
+bounded_preds limit xs [] g t = t
+bounded_preds limit xs (p ∷ ps) g t =
+    let few = leb (length g.tests + length (p ∷ ps)) 3 in
+    bounded_preds limit (xs ++ p ∷ []) ps (with_pred limit few xs p g) (bounded_pred limit few xs p g t)
 
 -- where the tests are all of the condition, none has turned ends
 pub whole_sound : (conj : List Pred) (tests : List Test) (extent : Extent) → glance tests extent ≡ glance_of conj → is_whole extent ≡ true → are_sound tests ≡ true
-whole_sound conj tests extent same = subst HasSound (sym same) (bounded_preds conj (glance [] Whole) (λ w. refl))
+whole_sound conj tests extent same = subst HasSound (sym same) (bounded_preds (limit_of conj) [] conj (glance [] Whole) (λ w. refl))

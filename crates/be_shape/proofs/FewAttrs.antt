@@ -1,5 +1,5 @@
 -- What a place tells of its row's attributes is true of the row.
-use Rattle.std.proofs.Common.{◌≡◌, ◌==◌, ◌+◌, leb, Bool, true, false, ◌||◌, List, [], ◌∷◌, ◌++◌, length, is_some, Option, Some, None, cond, refl, sym, ap, subst, ◌∙◌}
+use Rattle.std.proofs.Common.{◌≡◌, ℕ, ◌==◌, ◌+◌, leb, Bool, true, false, ◌||◌, List, [], ◌∷◌, ◌++◌, length, is_some, Option, Some, None, cond, refl, sym, ap, subst, ◌∙◌}
 use Rattle.std.specs.List.{list_any}
 use Rattle.std.proofs.lemmas.List.{append-nil, append_assoc}
 use Rattle.std.proofs.lemmas.List.Folds.{list_any-append}
@@ -12,7 +12,7 @@ use Rattle.be_shape.specs.declared.glances.Bounds.{Bounds}
 use Rattle.be_shape.specs.declared.glances.Extent.{Extent}
 use Rattle.be_shape.specs.declared.glances.Extent.TheVariants.{Whole, Few, Part}
 use Rattle.be_shape.specs.declared.listings.RowAttrs.TheVariants.{Many}
-use Rattle.be_shape.specs.Glances.{Glance, Test, test_on, is_part, bounds_of, glance, with_test, with_bounds, with_further, with_pred, with_preds, glance_of}
+use Rattle.be_shape.specs.Glances.{Glance, Test, test_on, is_part, glance, with_extent, with_test, with_bounds, new_bounds, narrow, further_bounds, with_pred, with_preds, limit_of, glance_of}
 use Rattle.be_shape.specs.Listed.{is_many, any_listed, listed, attrs_told, attrs_of}
 
 -- a test of attributes, of predicates and of tests of values
@@ -65,41 +65,51 @@ lists_again : (xs : List Pred) (p : Pred) (g : Glance) (x : Extent) → is_part 
 lists_again xs p g x n s l = λ m test.
     more test xs p ∙ ap (λ b. b || test p.attr) (l n test) ∙ absorb (list_any (of_test test) g.tests) (test p.attr) (on_told p.attr g.tests test s)
 
-lists_test : (x : Extent) (xs : List Pred) (p : Pred) (b : Bounds) (g : Glance) → is_part g.extent ≡ false → Lists (xs ++ p ∷ []) (glance g.tests x) → Lists xs g → Lists (xs ++ p ∷ []) (with_test x p.attr b g)
-lists_test full xs p b g n r l = by_room (leb 256 p.attr.0 || leb 3 (length g.tests))
+-- with the same tests
+lists_extent : (x : Extent) (xs : List Pred) (p : Pred) (g : Glance) → (is_part g.extent ≡ false → Lists (xs ++ p ∷ []) (glance g.tests x)) → Lists (xs ++ p ∷ []) (with_extent x g)
+lists_extent x xs p g r = by_part (is_part g.extent) refl
+  where
+    by_part : (c : Bool) → is_part g.extent ≡ c → Lists (xs ++ p ∷ []) (cond c g (glance g.tests x))
+    by_part true e = λ m test. absurd (cc)
+    by_part false e = r e
+
+not_part : (exact : Bool) (x : Extent) → is_part (cond (exact || is_part x) x Few) ≡ false → is_part x ≡ false
+not_part exact Whole h = refl
+not_part exact Few h = refl
+not_part true Part h = h
+not_part false Part h = h
+
+lists_test : (x : Extent) (xs : List Pred) (p : Pred) (b : Bounds) (g : Glance) → (is_part g.extent ≡ false → Lists (xs ++ p ∷ []) (glance g.tests x)) → Lists xs g → Lists (xs ++ p ∷ []) (with_test x p.attr b g)
+lists_test full xs p b g r l = by_room (leb 256 p.attr.0 || leb 3 (length g.tests))
   where
     t : Test
     t = (p.attr, b.ends)
 
-    by_room : (c : Bool) → Lists (xs ++ p ∷ []) (cond c (glance g.tests full) (glance (g.tests ++ t ∷ []) (cond b.exact g.extent Few)))
-    by_room true = r
-    by_room false = λ m test. more test xs p ∙ ap (λ c. c || test p.attr) (l n test) ∙ sym (more_told test g.tests t)
+    by_room : (c : Bool) → Lists (xs ++ p ∷ []) (cond c (with_extent full g) (glance (g.tests ++ t ∷ []) (cond (b.exact || is_part g.extent) g.extent Few)))
+    by_room true = lists_extent full xs p g r
+    by_room false = λ m test. more test xs p ∙ ap (λ c. c || test p.attr) (l (not_part b.exact g.extent m) test) ∙ sym (more_told test g.tests t)
 
-lists_bounds : (x : Extent) (xs : List Pred) (p : Pred) (o : Option Bounds) (g : Glance) → is_part g.extent ≡ false → Lists (xs ++ p ∷ []) (glance g.tests x) → Lists xs g → Lists (xs ++ p ∷ []) (with_bounds x p.attr o g)
-lists_bounds x xs p None g n r l = r
-lists_bounds x xs p (Some b) g n r l = lists_test x xs p b g n r l
+lists_bounds : (x : Extent) (xs : List Pred) (p : Pred) (o : Option Bounds) (g : Glance) → (is_part g.extent ≡ false → Lists (xs ++ p ∷ []) (glance g.tests x)) → Lists xs g → Lists (xs ++ p ∷ []) (with_bounds x p.attr o g)
+lists_bounds x xs p None g r l = lists_extent x xs p g r
+lists_bounds x xs p (Some b) g r l = lists_test x xs p b g r l
 
-lists_further : (few : Bool) (xs : List Pred) (p : Pred) (o : Option Bounds) (g : Glance) → is_part g.extent ≡ false → Lists (xs ++ p ∷ []) (glance g.tests Few) → Lists xs g → Lists (xs ++ p ∷ []) (with_further few p.attr o g)
-lists_further true xs p o g n r l = lists_bounds Few xs p o g n r l
-lists_further false xs p o g n r l = r
-
-pub lists_pred : (few : Bool) (xs : List Pred) (p : Pred) (g : Glance) → Lists xs g → Lists (xs ++ p ∷ []) (with_pred few p g)
-lists_pred few xs p g l = by_tests (is_part g.extent) (is_some (test_on p.attr g.tests)) refl refl
+lists_pred : (limit : ℕ) (few : Bool) (xs : List Pred) (p : Pred) (g : Glance) → Lists xs g → Lists (xs ++ p ∷ []) (with_pred limit few xs p g)
+lists_pred limit few xs p g l = by_test (is_some (test_on p.attr g.tests)) refl
   where
-    by_tests : (b c : Bool) → is_part g.extent ≡ b → is_some (test_on p.attr g.tests) ≡ c
-        → Lists (xs ++ p ∷ []) (cond b g (cond c (with_further few p.attr (bounds_of p.op) g) (with_bounds Part p.attr (bounds_of p.op) g)))
-    by_tests true c e d = λ m test. absurd (cc)
-    by_tests false true e d = lists_further few xs p (bounds_of p.op) g e (lists_again xs p g Few e d l) l
-    by_tests false false e d = lists_bounds Part xs p (bounds_of p.op) g e (lists_part (xs ++ p ∷ []) g.tests) l
+    by_test : (c : Bool) → is_some (test_on p.attr g.tests) ≡ c
+        → Lists (xs ++ p ∷ []) (cond c (with_bounds Few p.attr (further_bounds few p) g) (with_bounds Part p.attr (narrow limit (new_bounds xs p)) g))
+    by_test true d = lists_bounds Few xs p (further_bounds few p) g (λ e. lists_again xs p g Few e d l) l
+    by_test false d = lists_bounds Part xs p (narrow limit (new_bounds xs p)) g (λ e. lists_part (xs ++ p ∷ []) g.tests) l
 
-lists_preds : (xs ps : List Pred) (g : Glance) → Lists xs g → Lists (xs ++ ps) (with_preds ps g)
-lists_preds xs [] g l = subst (λ c. Lists c g) (sym (append-nil xs)) l
-lists_preds xs (p ∷ ps) g l =
+lists_preds : (limit : ℕ) (xs ps : List Pred) (g : Glance) → Lists xs g → Lists (xs ++ ps) (with_preds limit xs ps g)
+lists_preds limit xs [] g l = subst (λ c. Lists c g) (sym (append-nil xs)) l
+lists_preds limit xs (p ∷ ps) g l =
     let few = leb (length g.tests + length (p ∷ ps)) 3 in
-    subst (λ c. Lists c (with_preds ps (with_pred few p g))) (append_assoc xs (p ∷ []) ps) (lists_preds (xs ++ p ∷ []) ps (with_pred few p g) (lists_pred few xs p g l))
+    let next = with_pred limit few xs p g in
+    subst (λ c. Lists c (with_preds limit (xs ++ p ∷ []) ps next)) (append_assoc xs (p ∷ []) ps) (lists_preds limit (xs ++ p ∷ []) ps next (lists_pred limit few xs p g l))
 
 pub lists : (conj : List Pred) → Lists conj (glance_of conj)
-lists conj = lists_preds [] conj (glance [] Whole) (λ _ _. refl)
+lists conj = lists_preds (limit_of conj) [] conj (glance [] Whole) (λ _ _. refl)
 
 -- as many tests as can be listed are
 listed_is : (ts : List Test) (test : AttrNo → Bool) → is_many (listed ts) ≡ false → list_any (of_test test) ts ≡ any_listed test (listed ts)

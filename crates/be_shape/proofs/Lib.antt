@@ -1,4 +1,5 @@
 pub mod Commons
+pub mod FirstBounds
 pub mod ToldTests
 pub mod ToldSpans
 pub mod SetTests

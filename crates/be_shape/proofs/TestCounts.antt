@@ -16,10 +16,11 @@ use Rattle.be_shape.specs.declared.small_sets.Told.TheVariants.{AsWhole, AsFew, 
 use Rattle.be_shape.specs.declared.test_counts.Count.{Count}
 use Rattle.be_shape.specs.declared.test_counts.Count.TheVariants.{Zero, One, Two, Three}
 use Rattle.be_shape.specs.FewTests.{test_of, few_of, few_told}
-use Rattle.be_shape.specs.Glances.{Glance, least, greatest, small, bounds, bounds_of, Test, test_on, is_part, glance, with_test, with_bounds, with_further, with_pred, with_preds, glance_of}
+use Rattle.be_shape.specs.Glances.{Glance, least, greatest, small, bounds, bounds_of, Test, test_on, is_part, glance, with_extent, with_test, with_bounds, new_bounds, narrow, further_bounds, with_pred, with_preds, limit_of, glance_of}
 use Rattle.be_shape.specs.Lanes.{Slot, Lane, lowered, free, is_free, AreFree}
 use Rattle.be_shape.specs.SmallSets.{is_set}
 use Rattle.be_shape.proofs.BoundedTests.{below_to, less_eq, same_le}
+use Rattle.be_shape.proofs.FirstBounds.{of_first, of_further}
 use Rattle.be_shape.proofs.ToldTests.{by_small, le_test, more_of_parts}
 
 -- no value is beyond the second end
@@ -56,38 +57,42 @@ below_bound (NoneOf xs) = below_all
 abbrev HasBelow : Glance → Type 0
 HasBelow g = are_below g.tests ≡ true
 
+below_extent : (x : Extent) (g : Glance) → HasBelow g → HasBelow (with_extent x g)
+below_extent x g t = by_part (is_part g.extent)
+  where
+    by_part : (c : Bool) → HasBelow (cond c g (glance g.tests x))
+    by_part true = t
+    by_part false = t
+
 below_test : (x : Extent) (p : Pred) (b : Bounds) (g : Glance) → HasBelow g → IsBelow (Some b) → HasBelow (with_test x p.attr b g)
 below_test full p b g t k = by_room (leb 256 p.attr.0 || leb 3 (length g.tests))
   where
     new : Test
     new = (p.attr, b.ends)
 
-    by_room : (c : Bool) → HasBelow (cond c (glance g.tests full) (glance (g.tests ++ new ∷ []) (cond b.exact g.extent Few)))
-    by_room true = t
+    by_room : (c : Bool) → HasBelow (cond c (with_extent full g) (glance (g.tests ++ new ∷ []) (cond (b.exact || is_part g.extent) g.extent Few)))
+    by_room true = below_extent full g t
     by_room false = more_of_parts is_below g.tests new t k
 
 below_bounds : (x : Extent) (p : Pred) (o : Option Bounds) (g : Glance) → HasBelow g → IsBelow o → HasBelow (with_bounds x p.attr o g)
-below_bounds x p None g t k = t
+below_bounds x p None g t k = below_extent x g t
 below_bounds x p (Some b) g t k = below_test x p b g t k
 
-below_further : (few : Bool) (p : Pred) (o : Option Bounds) (g : Glance) → HasBelow g → IsBelow o → HasBelow (with_further few p.attr o g)
-below_further true p o g t k = below_bounds Few p o g t k
-below_further false p o g t k = t
-
-below_pred : (few : Bool) (p : Pred) (g : Glance) → HasBelow g → HasBelow (with_pred few p g)
-below_pred few p g t = by_tests (is_part g.extent) (is_some (test_on p.attr g.tests))
+below_pred : (limit : ℕ) (few : Bool) (xs : List Pred) (p : Pred) (g : Glance) → HasBelow g → HasBelow (with_pred limit few xs p g)
+below_pred limit few xs p g t = by_test (is_some (test_on p.attr g.tests))
   where
-    by_tests : (b c : Bool) → HasBelow (cond b g (cond c (with_further few p.attr (bounds_of p.op) g) (with_bounds Part p.attr (bounds_of p.op) g)))
-    by_tests true c = t
-    by_tests false true = below_further few p (bounds_of p.op) g t (below_bound p.op)
-    by_tests false false = below_bounds Part p (bounds_of p.op) g t (below_bound p.op)
+    by_test : (c : Bool) → HasBelow (cond c (with_bounds Few p.attr (further_bounds few p) g) (with_bounds Part p.attr (narrow limit (new_bounds xs p)) g))
+    by_test true = below_bounds Few p (further_bounds few p) g t (of_further IsBelow tt few p (below_bound p.op))
+    by_test false = below_bounds Part p (narrow limit (new_bounds xs p)) g t (of_first IsBelow tt limit xs p (below_bound p.op))
 
-below_preds : (ps : List Pred) (g : Glance) → HasBelow g → HasBelow (with_preds ps g)
-below_preds [] g t = t
-below_preds (p ∷ ps) g t = let few = leb (length g.tests + length (p ∷ ps)) 3 in below_preds ps (with_pred few p g) (below_pred few p g t)
+below_preds : (limit : ℕ) (xs ps : List Pred) (g : Glance) → HasBelow g → HasBelow (with_preds limit xs ps g)
+below_preds limit xs [] g t = t
+below_preds limit xs (p ∷ ps) g t =
+    let few = leb (length g.tests + length (p ∷ ps)) 3 in
+    below_preds limit (xs ++ p ∷ []) ps (with_pred limit few xs p g) (below_pred limit few xs p g t)
 
 pub tests_below : (conj : List Pred) (tests : List Test) (extent : Extent) → glance tests extent ≡ glance_of conj → are_below tests ≡ true
-tests_below conj tests extent same = subst HasBelow (sym same) (below_preds conj (glance [] Whole) refl)
+tests_below conj tests extent same = subst HasBelow (sym same) (below_preds (limit_of conj) [] conj (glance [] Whole) refl)
 
 -- the lane of such a test isn't free
 not_free : (l : Lane) → is_below (test_of l) ≡ true → is_free l.1 ≡ false

@@ -1,5 +1,5 @@
 -- What a place tells of spans and attributes is true of its row.
-use Rattle.std.proofs.Common.{◌≡◌, ℤ, pos, ◌+ℤ◌, ◌-ℤ◌, ◌≤ℤ◌, ◌<ℤ◌, ◌<◌, ◌==◌, ◌+◌, leb, Bool, true, false, ◌&&◌, ◌||◌, List, [], ◌∷◌, ◌++◌, length, find, is_some, Option, Some, None, option_map, option_and_then, cond, refl, sym, ap, ap₂, subst, ◌∙◌, arith}
+use Rattle.std.proofs.Common.{◌≡◌, ℕ, ℤ, pos, ◌+ℤ◌, ◌-ℤ◌, ◌≤ℤ◌, ◌<ℤ◌, ◌<◌, ◌==◌, ◌+◌, leb, Bool, true, false, ◌&&◌, ◌||◌, List, [], ◌∷◌, ◌++◌, length, find, is_some, Option, Some, None, option_map, option_and_then, cond, refl, sym, ap, ap₂, subst, ◌∙◌, arith}
 use Rattle.std.specs.Int.{int_max, int_min}
 use Rattle.std.specs.Int.Signed.{le_z}
 use Rattle.std.specs.Ordering.{int_eq}
@@ -26,8 +26,9 @@ use Rattle.be_model.proofs.Spans.{pred_found}
 use Rattle.be_shape.specs.declared.glances.Bounds.{Bounds}
 use Rattle.be_shape.specs.declared.glances.Extent.{Extent}
 use Rattle.be_shape.specs.declared.glances.Extent.TheVariants.{Whole, Few, Part}
-use Rattle.be_shape.specs.Glances.{Glance, least, greatest, small, bounds, bounds_of, Test, test_on, is_part, glance, with_bounds, with_further, with_pred, with_preds, glance_of, hull_low, hull_high, hull_in}
-use Rattle.be_shape.proofs.FewAttrs.{Lists, lists_pred, on_is, has_is_told}
+use Rattle.be_shape.specs.Glances.{Glance, least, greatest, small, bounds, bounds_of, Test, test_on, is_part, glance, with_extent, with_bounds, new_bounds, narrow, further_bounds, with_pred, with_preds, limit_of, glance_of, hull_low, hull_high, hull_in}
+use Rattle.be_shape.proofs.FewAttrs.{has_is_told}
+use Rattle.be_shape.proofs.FirstBounds.{narrow_is}
 use Rattle.be_shape.proofs.ToldTests.{by_small}
 
 -- the ends are those of the first predicate on the attribute
@@ -41,10 +42,6 @@ record IsFirst (conj : List Pred) (a : AttrNo) (ends : ℤ × ℤ) : Type 0 wher
 -- each test is of the first predicate on its attribute
 abbrev AreFirst : List Pred → List Test → Type 0
 AreFirst conj ts = (a : AttrNo) (ends : ℤ × ℤ) → test_on a ts ≡ Some ends → IsFirst conj a ends
-
-record Firsts (conj : List Pred) (g : Glance) : Type 0 where
-  listed : Lists conj g
-  first : AreFirst conj g.tests
 
 first_more : (xs ys : List Pred) (a : AttrNo) (ends : ℤ × ℤ) → IsFirst xs a ends → IsFirst (xs ++ ys) a ends
 first_more xs ys a ends f =
@@ -111,36 +108,39 @@ joined_again xs p x ts f s = λ a ends h. by_old a ends (test_on a ts) refl (sym
 
 first_bounds : (x : Extent) (xs : List Pred) (p : Pred) (o : Option Bounds) (g : Glance) → AreFirst xs g.tests → ((b : Bounds) → o ≡ Some b → AreFirst (xs ++ p ∷ []) (g.tests ++ (p.attr, b.ends) ∷ []))
     → AreFirst (xs ++ p ∷ []) (with_bounds x p.attr o g).tests
-first_bounds full xs p None g f j = kept xs p g.tests f
-first_bounds full xs p (Some b) g f j = by_room (leb 256 p.attr.0 || leb 3 (length g.tests))
+first_bounds full xs p o g f j = by_bounds o j
   where
-    by_room : (c : Bool) → AreFirst (xs ++ p ∷ []) (cond c (glance g.tests full) (glance (g.tests ++ (p.attr, b.ends) ∷ []) (cond b.exact g.extent Few))).tests
-    by_room true = kept xs p g.tests f
-    by_room false = j b refl
+    by_part : (c : Bool) → AreFirst (xs ++ p ∷ []) (cond c g (glance g.tests full)).tests
+    by_part true = kept xs p g.tests f
+    by_part false = kept xs p g.tests f
 
-first_further : (few : Bool) (xs : List Pred) (p : Pred) (o : Option Bounds) (g : Glance) → is_some (test_on p.attr g.tests) ≡ true → AreFirst xs g.tests → AreFirst (xs ++ p ∷ []) (with_further few p.attr o g).tests
-first_further true xs p o g s f = first_bounds Few xs p o g f (λ b e. joined_again xs p b.ends g.tests f s)
-first_further false xs p o g s f = kept xs p g.tests f
+    by_room : (b : Bounds) (c : Bool) → AreFirst (xs ++ p ∷ []) (g.tests ++ (p.attr, b.ends) ∷ [])
+        → AreFirst (xs ++ p ∷ []) (cond c (with_extent full g) (glance (g.tests ++ (p.attr, b.ends) ∷ []) (cond (b.exact || is_part g.extent) g.extent Few))).tests
+    by_room b true k = by_part (is_part g.extent)
+    by_room b false k = k
 
-first_pred : (few : Bool) (xs : List Pred) (p : Pred) (g : Glance) → Firsts xs g → AreFirst (xs ++ p ∷ []) (with_pred few p g).tests
-first_pred few xs p g f = by_tests (is_part g.extent) (is_some (test_on p.attr g.tests)) refl refl
+    by_bounds : (o : Option Bounds) → ((b : Bounds) → o ≡ Some b → AreFirst (xs ++ p ∷ []) (g.tests ++ (p.attr, b.ends) ∷ [])) → AreFirst (xs ++ p ∷ []) (with_bounds full p.attr o g).tests
+    by_bounds None j = by_part (is_part g.extent)
+    by_bounds (Some b) j = by_room b (leb 256 p.attr.0 || leb 3 (length g.tests)) (j b refl)
+
+first_pred : (limit : ℕ) (few : Bool) (xs : List Pred) (p : Pred) (g : Glance) → AreFirst xs g.tests → AreFirst (xs ++ p ∷ []) (with_pred limit few xs p g).tests
+first_pred limit few xs p g f = by_test (is_some (test_on p.attr g.tests)) refl
   where
-    by_tests : (b c : Bool) → is_part g.extent ≡ b → is_some (test_on p.attr g.tests) ≡ c
-        → AreFirst (xs ++ p ∷ []) (cond b g (cond c (with_further few p.attr (bounds_of p.op) g) (with_bounds Part p.attr (bounds_of p.op) g))).tests
-    by_tests true c e d = kept xs p g.tests f.first
-    by_tests false true e d = first_further few xs p (bounds_of p.op) g d f.first
-    by_tests false false e d =
-        first_bounds Part xs p (bounds_of p.op) g f.first (λ b k. joined xs p b.ends g.tests f.first (first_new xs p b (f.listed e (λ c. c.0 == p.attr.0) ∙ on_is p.attr g.tests ∙ d) k))
+    by_test : (c : Bool) → is_some (test_on p.attr g.tests) ≡ c
+        → AreFirst (xs ++ p ∷ []) (cond c (with_bounds Few p.attr (further_bounds few p) g) (with_bounds Part p.attr (narrow limit (new_bounds xs p)) g)).tests
+    by_test true d = first_bounds Few xs p (further_bounds few p) g f (λ b e. joined_again xs p b.ends g.tests f d)
+    by_test false d =
+        first_bounds Part xs p (narrow limit (new_bounds xs p)) g f (λ b e. let n = narrow_is limit xs p b e in joined xs p b.ends g.tests f (first_new xs p b n.first n.told))
 
-firsts_preds : (xs ps : List Pred) (g : Glance) → Firsts xs g → Firsts (xs ++ ps) (with_preds ps g)
-firsts_preds xs [] g f = subst (λ c. Firsts c g) (sym (append-nil xs)) f
-firsts_preds xs (p ∷ ps) g f =
+first_preds : (limit : ℕ) (xs ps : List Pred) (g : Glance) → AreFirst xs g.tests → AreFirst (xs ++ ps) (with_preds limit xs ps g).tests
+first_preds limit xs [] g f = subst (λ c. AreFirst c g.tests) (sym (append-nil xs)) f
+first_preds limit xs (p ∷ ps) g f =
     let few = leb (length g.tests + length (p ∷ ps)) 3 in
-    subst (λ c. Firsts c (with_preds ps (with_pred few p g))) (append_assoc xs (p ∷ []) ps)
-    (firsts_preds (xs ++ p ∷ []) ps (with_pred few p g) (record { listed = lists_pred few xs p g f.listed; first = first_pred few xs p g f }))
+    let next = with_pred limit few xs p g in
+    subst (λ c. AreFirst c (with_preds limit (xs ++ p ∷ []) ps next).tests) (append_assoc xs (p ∷ []) ps) (first_preds limit (xs ++ p ∷ []) ps next (first_pred limit few xs p g f))
 
-firsts : (conj : List Pred) → Firsts conj (glance_of conj)
-firsts conj = firsts_preds [] conj (glance [] Whole) (record { listed = λ _ _. refl; first = λ a ends h. absurd (cc) })
+firsts : (conj : List Pred) → AreFirst conj (glance_of conj).tests
+firsts conj = first_preds (limit_of conj) [] conj (glance [] Whole) (λ a ends h. absurd (cc))
 
 not_equal : (x y : ℤ) → x <ℤ y → int_eq x y ≡ false
 not_equal x y h = by_test (int_eq x y) refl
@@ -249,7 +249,7 @@ pub told_span : (s : Attributes) (a : AttrNo) (conj : List Pred) (tests : List T
 told_span s a conj tests extent ends same f lies e = by_range (range_of s a) refl
   where
     i : IsFirst conj a ends
-    i = subst (λ (g : Glance). AreFirst conj g.tests) (sym same) (firsts conj).first a ends e
+    i = subst (λ (g : Glance). AreFirst conj g.tests) (sym same) (firsts conj) a ends e
 
     by_range : (o : Option Range) → range_of s a ≡ o → option_and_then (λ d. span d a conj) o ≡ option_map (λ d. hull_in d ends) o
     by_range None k = refl
@@ -276,7 +276,7 @@ has_told conj tests extent a same = by_part (is_part extent) refl
   where
     is_found : (ends : ℤ × ℤ) → test_on a tests ≡ Some ends → list_any (is_on a) conj ≡ true
     is_found ends e =
-        let i : IsFirst conj a ends = subst (λ (g : Glance). AreFirst conj g.tests) (sym same) (firsts conj).first a ends e in
+        let i : IsFirst conj a ends = subst (λ (g : Glance). AreFirst conj g.tests) (sym same) (firsts conj) a ends e in
         sym (is_some-find (is_on a) conj) ∙ ap is_some i.found
 
     by_test : (o : Option (ℤ × ℤ)) → test_on a tests ≡ o → list_any (is_on a) conj ≡ (is_some o || list_any (is_on a) conj)

@@ -1,5 +1,5 @@
 -- What a place tells of its row is true of the row.
-use Rattle.std.proofs.Common.{◌≡◌, ⊎_elim, ℤ, pos, ◌+ℤ◌, ◌-ℤ◌, ◌≤ℤ◌, ◌<ℤ◌, ◌+◌, leb, Bool, true, false, ◌&&◌, ◌||◌, List, [], ◌∷◌, ◌++◌, length, All, is_some, Option, Some, None, option_map, option_and_then, cond, refl, sym, ap, subst, ◌∙◌, arith}
+use Rattle.std.proofs.Common.{◌≡◌, ⊎_elim, ℕ, ℤ, pos, ◌+ℤ◌, ◌-ℤ◌, ◌≤ℤ◌, ◌<ℤ◌, ◌+◌, leb, Bool, true, false, ◌&&◌, ◌||◌, List, [], ◌∷◌, ◌++◌, length, All, is_some, Option, Some, None, option_map, option_and_then, cond, refl, sym, ap, subst, ◌∙◌, arith}
 use Rattle.std.specs.Int.Signed.{le_z, lt_z}
 use Rattle.std.specs.Ordering.{int_eq}
 use Rattle.std.specs.List.{list_any, list_all}
@@ -20,7 +20,8 @@ use Rattle.be_model.proofs.Ranges.{within_parts, within_from, hulls_hold}
 use Rattle.be_shape.specs.declared.glances.Bounds.{Bounds}
 use Rattle.be_shape.specs.declared.glances.Extent.{Extent}
 use Rattle.be_shape.specs.declared.glances.Extent.TheVariants.{Whole, Few, Part}
-use Rattle.be_shape.specs.Glances.{Glance, least, greatest, is_in, has_in, small, bounds, bounds_of, Test, passes, may_meet, test_on, is_whole, is_part, glance, with_test, with_bounds, with_further, with_pred, with_preds, glance_of}
+use Rattle.be_shape.specs.Glances.{Glance, least, greatest, is_in, has_in, small, bounds, bounds_of, Test, passes, may_meet, test_on, is_whole, is_part, glance, with_extent, with_test, with_bounds, new_bounds, narrow, further_bounds, with_pred, with_preds, limit_of, glance_of}
+use Rattle.be_shape.proofs.FirstBounds.{of_first, of_further}
 
 pub both : (a b : Bool) → a ≡ true → b ≡ true → (a && b) ≡ true
 both a b h k = ap (λ c. c && b) h ∙ k
@@ -185,18 +186,33 @@ meets_pred e p = is_met (values_of e p.attr) p.op
 tells_less : (xs : List Pred) (p : Pred) (g : Glance) (x : Extent) → is_whole x ≡ false → Tells xs g → Tells (xs ++ p ∷ []) (glance g.tests x)
 tells_less xs p g x n t = record { lost = λ e h. t.lost e (parts_of_more (meets_pred e) xs p h).0; all = λ w e h. absurd (cc) }
 
+part_of_whole : (x : Extent) → is_part x ≡ true → is_whole x ≡ false
+part_of_whole Whole h = absurd (cc)
+part_of_whole Few h = refl
+part_of_whole Part h = refl
+
+tells_extent : (x : Extent) → is_whole x ≡ false → (xs : List Pred) (p : Pred) (g : Glance) → Tells xs g → Tells (xs ++ p ∷ []) (with_extent x g)
+tells_extent x n xs p g t = by_part (is_part g.extent) refl
+  where
+    by_part : (c : Bool) → is_part g.extent ≡ c → Tells (xs ++ p ∷ []) (cond c g (glance g.tests x))
+    by_part true e = tells_less xs p g g.extent (part_of_whole g.extent e) t
+    by_part false e = tells_less xs p g x n t
+
+-- tests are all of a condition only where the last one is exact
+pub wholly : (exact : Bool) (x : Extent) → is_whole (cond (exact || is_part x) x Few) ≡ true → (exact ≡ true) × (is_whole x ≡ true)
+wholly true x h = (refl, h)
+wholly false Whole h = absurd (cc)
+wholly false Few h = absurd (cc)
+wholly false Part h = absurd (cc)
+
 tells_test : (x : Extent) → is_whole x ≡ false → (xs : List Pred) (p : Pred) (b : Bounds) (g : Glance) → Tells xs g → BoundsHold p.op b → Tells (xs ++ p ∷ []) (with_test x p.attr b g)
 tells_test full n xs p b g t k = by_room (leb 256 p.attr.0 || leb 3 (length g.tests))
   where
     new : Test
     new = (p.attr, b.ends)
 
-    wholly : (c : Bool) (x : Extent) → is_whole (cond c x Few) ≡ true → (c ≡ true) × (is_whole x ≡ true)
-    wholly true x h = (refl, h)
-    wholly false x h = absurd (cc)
-
-    by_room : (c : Bool) → Tells (xs ++ p ∷ []) (cond c (glance g.tests full) (glance (g.tests ++ new ∷ []) (cond b.exact g.extent Few)))
-    by_room true = tells_less xs p g full n t
+    by_room : (c : Bool) → Tells (xs ++ p ∷ []) (cond c (with_extent full g) (glance (g.tests ++ new ∷ []) (cond (b.exact || is_part g.extent) g.extent Few)))
+    by_room true = tells_extent full n xs p g t
     by_room false =
         record {
           lost = λ e h.
@@ -209,35 +225,26 @@ tells_test full n xs p b g t k = by_room (leb 256 p.attr.0 || leb 3 (length g.te
         }
 
 tells_bounds : (x : Extent) → is_whole x ≡ false → (xs : List Pred) (p : Pred) (o : Option Bounds) (g : Glance) → Tells xs g → Told p.op o → Tells (xs ++ p ∷ []) (with_bounds x p.attr o g)
-tells_bounds x n xs p None g t k = tells_less xs p g x n t
+tells_bounds x n xs p None g t k = tells_extent x n xs p g t
 tells_bounds x n xs p (Some b) g t k = tells_test x n xs p b g t k
 
-tells_further : (few : Bool) (xs : List Pred) (p : Pred) (o : Option Bounds) (g : Glance) → Tells xs g → Told p.op o → Tells (xs ++ p ∷ []) (with_further few p.attr o g)
-tells_further true xs p o g t k = tells_bounds Few refl xs p o g t k
-tells_further false xs p o g t k = tells_less xs p g Few refl t
-
-part_of_whole : (x : Extent) → is_part x ≡ true → is_whole x ≡ false
-part_of_whole Whole h = absurd (cc)
-part_of_whole Few h = refl
-part_of_whole Part h = refl
-
-tells_pred : (few : Bool) (xs : List Pred) (p : Pred) (g : Glance) → OpForm p.op → Tells xs g → Tells (xs ++ p ∷ []) (with_pred few p g)
-tells_pred few xs p g f t = by_tests (is_part g.extent) (is_some (test_on p.attr g.tests)) refl
+tells_pred : (limit : ℕ) (few : Bool) (xs : List Pred) (p : Pred) (g : Glance) → OpForm p.op → Tells xs g → Tells (xs ++ p ∷ []) (with_pred limit few xs p g)
+tells_pred limit few xs p g f t = by_test (is_some (test_on p.attr g.tests))
   where
-    by_tests : (b c : Bool) → is_part g.extent ≡ b → Tells (xs ++ p ∷ []) (cond b g (cond c (with_further few p.attr (bounds_of p.op) g) (with_bounds Part p.attr (bounds_of p.op) g)))
-    by_tests true c e = tells_less xs p g g.extent (part_of_whole g.extent e) t
-    by_tests false true e = tells_further few xs p (bounds_of p.op) g t (bounds_hold p.op f)
-    by_tests false false e = tells_bounds Part refl xs p (bounds_of p.op) g t (bounds_hold p.op f)
+    by_test : (c : Bool) → Tells (xs ++ p ∷ []) (cond c (with_bounds Few p.attr (further_bounds few p) g) (with_bounds Part p.attr (narrow limit (new_bounds xs p)) g))
+    by_test true = tells_bounds Few refl xs p (further_bounds few p) g t (of_further (Told p.op) tt few p (bounds_hold p.op f))
+    by_test false = tells_bounds Part refl xs p (narrow limit (new_bounds xs p)) g t (of_first (Told p.op) tt limit xs p (bounds_hold p.op f))
 
-tells_preds : (xs ps : List Pred) (g : Glance) → All (λ (p : Pred). OpForm p.op) ps → Tells xs g → Tells (xs ++ ps) (with_preds ps g)
-tells_preds xs [] g f t = subst (λ c. Tells c g) (sym (append-nil xs)) t
-tells_preds xs (p ∷ ps) g f t =
-    let few = leb (length g.tests + length (p ∷ ps)) 3 in
-    subst (λ c. Tells c (with_preds ps (with_pred few p g))) (append_assoc xs (p ∷ []) ps)
-    (tells_preds (xs ++ p ∷ []) ps (with_pred few p g) (All-tail (λ (q : Pred). OpForm q.op) p ps f) (tells_pred few xs p g (All-head (λ (q : Pred). OpForm q.op) p ps f) t))
+tells_preds : (limit : ℕ) (xs ps : List Pred) (g : Glance) → All (λ (p : Pred). OpForm p.op) ps → Tells xs g → Tells (xs ++ ps) (with_preds limit xs ps g)
+tells_preds limit xs [] g f t = subst (λ c. Tells c g) (sym (append-nil xs)) t
+tells_preds limit xs (p ∷ ps) g f t =
+    let next = with_pred limit (leb (length g.tests + length (p ∷ ps)) 3) xs p g in
+    subst (λ c. Tells c (with_preds limit (xs ++ p ∷ []) ps next)) (append_assoc xs (p ∷ []) ps)
+    (tells_preds limit (xs ++ p ∷ []) ps next (All-tail (λ (q : Pred). OpForm q.op) p ps f)
+    (tells_pred limit (leb (length g.tests + length (p ∷ ps)) 3) xs p g (All-head (λ (q : Pred). OpForm q.op) p ps f) t))
 
 tells : (conj : List Pred) → IsConj conj → Tells conj (glance_of conj)
-tells conj f = tells_preds [] conj (glance [] Whole) f.forms (record { lost = λ e h. refl; all = λ w e h. refl })
+tells conj f = tells_preds (limit_of conj) [] conj (glance [] Whole) f.forms (record { lost = λ e h. refl; all = λ w e h. refl })
 
 -- an event satisfies a condition exactly where it passes the tests, and these are all or it satisfies the condition
 pub told : (e : Assignments) (conj : List Pred) (tests : List Test) (extent : Extent) → glance tests extent ≡ glance_of conj → IsConj conj

@@ -1,5 +1,5 @@
 -- What a place of a leaf tells of its row without a look at the row: at most three tests, and how much of the row these are.
-use Rattle.std.specs.Prelude.{ℤ, pos, negsuc, ◌+ℤ◌, ◌-ℤ◌, ◌&&◌, ◌||◌, Bool, true, false, ◌==◌, ◌+◌, List, [], ◌∷◌, ◌++◌, length, nat_le, Option, Some, None, option_map, option_and_then, int_lt, int_le, if◌then◌else◌}
+use Rattle.std.specs.Prelude.{ℕ, ℤ, pos, negsuc, ◌+ℤ◌, ◌-ℤ◌, ◌&&◌, ◌||◌, Bool, true, false, ◌==◌, ◌+◌, List, [], ◌∷◌, ◌++◌, length, nat_le, Option, Some, None, option_map, option_and_then, int_lt, int_le, if◌then◌else◌}
 use Rattle.std.specs.List.{list_any, list_all}
 use Rattle.std.specs.Option.{is_some}
 use Rattle.std.specs.Ordering.{int_eq}
@@ -9,11 +9,13 @@ use Rattle.be_model.specs.declared.ops.Op.{Op}
 use Rattle.be_model.specs.declared.ops.Op.TheVariants.{Lt, Le, Eq, Ne, Ge, Gt, Between, OneOf, NoneOf}
 use Rattle.be_model.specs.declared.preds.Pred.{Pred}
 use Rattle.be_model.specs.Domains.{Range}
-use Rattle.be_model.specs.Hulls.{first_of_values, last_of_values}
+use Rattle.be_model.specs.Hulls.{first_of_values, last_of_values, is_on}
 use Rattle.be_model.specs.Matching.{Assignments, values_of}
 use Rattle.be_shape.specs.declared.glances.Bounds.{Bounds}
 use Rattle.be_shape.specs.declared.glances.Extent.{Extent}
 use Rattle.be_shape.specs.declared.glances.Extent.TheVariants.{Whole, Few, Part}
+use Rattle.be_shape.specs.declared.widths.Widths.{Widths}
+use Rattle.be_shape.specs.Widths.{width_of, any_widths, with_width}
 
 -- the least number of 32 bits and the last but one, which stand for no bound. The last stands for no value
 abbrev pub least : ℤ
@@ -85,34 +87,59 @@ pub record Glance : Type 0 where
 abbrev pub glance : List Test → Extent → Glance
 glance tests extent = record { tests = tests; extent = extent }
 
+-- with the same tests and this extent, but where attributes without a test are known of already
+abbrev pub with_extent : Extent → Glance → Glance
+with_extent x g = if is_part g.extent then g else glance g.tests x
+
 -- with a test more, or where there is no room for it, of this extent
 abbrev pub with_test : Extent → AttrNo → Bounds → Glance → Glance
 with_test x a b g =
-    if nat_le 256 a.0 || nat_le 3 (length g.tests) then glance g.tests x
-    else glance (g.tests ++ (a, b.ends) ∷ []) (if b.exact then g.extent else Few)
+    if nat_le 256 a.0 || nat_le 3 (length g.tests) then with_extent x g
+    else glance (g.tests ++ (a, b.ends) ∷ []) (if b.exact || is_part g.extent then g.extent else Few)
 
 abbrev pub with_bounds : Extent → AttrNo → Option Bounds → Glance → Glance
-with_bounds x a None g = glance g.tests x
+with_bounds x a None g = with_extent x g
 with_bounds x a (Some b) g = with_test x a b g
 
--- with a further predicate on an attribute that has a test. It gives one only where few are still to come
-abbrev pub with_further : Bool → AttrNo → Option Bounds → Glance → Glance
-with_further few a o g = if few then with_bounds Few a o g else glance g.tests Few
+-- the bounds of a predicate whose attribute none before it has
+abbrev pub new_bounds : List Pred → Pred → Option Bounds
+new_bounds before p = if list_any (is_on p.attr) before then None else bounds_of p.op
 
--- with a predicate more. The first on an attribute gives a test, and behind one that gave none no other does
-abbrev pub with_pred : Bool → Pred → Glance → Glance
-with_pred few p g =
-    if is_part g.extent then g
-    else (if is_some (test_on p.attr g.tests) then with_further few p.attr (bounds_of p.op) g else with_bounds Part p.attr (bounds_of p.op) g)
+-- none that are wider than the limit
+abbrev pub narrow : ℕ → Option Bounds → Option Bounds
+narrow limit None = None
+narrow limit (Some b) = if nat_le (width_of b.ends) limit then Some b else None
+
+-- with a predicate more. The first on an attribute gives a test where it isn't wider than the limit. A further one gives one only
+-- where the first did and few are still to come
+abbrev pub further_bounds : Bool → Pred → Option Bounds
+further_bounds few p = if few then bounds_of p.op else None
+
+abbrev pub with_pred : ℕ → Bool → List Pred → Pred → Glance → Glance
+with_pred limit few before p g =
+    if is_some (test_on p.attr g.tests) then with_bounds Few p.attr (further_bounds few p) g
+    else with_bounds Part p.attr (narrow limit (new_bounds before p)) g
 
 -- few are still to come where there is room for a test of each
-abbrev pub with_preds : List Pred → Glance → Glance
-with_preds [] g = g
-with_preds (p ∷ ps) g = with_preds ps (with_pred (nat_le (length g.tests + length (p ∷ ps)) 3) p g)
+abbrev pub with_preds : ℕ → List Pred → List Pred → Glance → Glance
+with_preds limit before [] g = g
+with_preds limit before (p ∷ ps) g = with_preds limit (before ++ p ∷ []) ps (with_pred limit (nat_le (length g.tests + length (p ∷ ps)) 3) before p g)
+
+abbrev pub with_width_of : Option Bounds → Widths → Widths
+with_width_of None t = t
+with_width_of (Some b) t = with_width (width_of b.ends) t
+
+abbrev pub with_widths : List Pred → List Pred → Widths → Widths
+with_widths before [] t = t
+with_widths before (p ∷ ps) t = with_widths (before ++ p ∷ []) ps (with_width_of (new_bounds before p) t)
+
+-- the third least width of the first predicates on attributes, so that the widest are left out
+abbrev pub limit_of : List Pred → ℕ
+limit_of conj = (with_widths [] conj any_widths).third
 
 -- what is told of a condition
 abbrev pub glance_of : List Pred → Glance
-glance_of conj = with_preds conj (glance [] Whole)
+glance_of conj = with_preds (limit_of conj) [] conj (glance [] Whole)
 
 -- the hull that a test stands for, over a domain
 abbrev pub hull_low : Range → ℤ → ℤ

@@ -1,5 +1,6 @@
 pub mod Common
 pub mod Leaves
+pub mod Widths
 pub mod Glances
 pub mod FewTests
 pub mod Listed

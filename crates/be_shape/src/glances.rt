@@ -6,12 +6,13 @@ ghost use Rattle.std.specs.Ordering.{int_eq};
 ghost use Rattle.be_model.specs.declared.ops.Op.{Op};
 ghost use Rattle.be_model.specs.Forms.{IsConj};
 ghost use Rattle.be_model.specs.Matching.{values_of};
-ghost use Rattle.be_shape.specs.Glances.{least, greatest, is_in, has_in, small, bounds_of, is_whole, is_part, glance, with_test, with_bounds, with_further, with_pred, glance_of, hull_low, hull_high, hull_in};
+ghost use Rattle.be_shape.specs.Glances.{least, greatest, is_in, has_in, small, bounds_of, is_whole, is_part, glance, with_extent, with_test, with_bounds, with_pred, glance_of, hull_low, hull_high, hull_in};
 ghost use Rattle.be_shape.specs.declared.small_sets.Told.TheVariants.{IsSet};
 ghost use Rattle.be_shape.specs.SmallSets.{extent_of, LosesNone};
 
 use crate::few_tests::FewTests;
 use crate::small_sets::Told;
+use crate::widths::{further_bounds, limit_of, narrow, new_bounds};
 use be_base::AttrNo;
 use be_model::{Conj, Event, Op, Pred, Values};
 use std::marker::Model;
@@ -25,7 +26,7 @@ pub(crate) const GREATEST: i32 = 2147483646;
 /// Beyond its ends a comparison holds of nothing.
 #[derive(Clone, Copy)]
 pub(crate) struct Bounds {
-    ends: Ends,
+    pub(crate) ends: Ends,
     /// The comparison holds of all between the ends.
     exact: bool,
 }
@@ -59,7 +60,8 @@ fn small(v: i64) -> Option<i32>
     }
 }
 
-fn bounds_of(op: &Op) -> Option<Bounds>
+/// The bounds that a comparison gives.
+pub(crate) fn bounds_of(op: &Op) -> Option<Bounds>
     ensures { result ≡ bounds_of op.now }
 {
     match op {
@@ -230,12 +232,17 @@ impl Glance {
         }
     }
 
+    // With the same tests and this extent, but where attributes without a test are known of already.
     fn with_extent(self, extent: Extent) -> Glance
-        ensures { result ≡ glance self.tests extent }
+        ensures { result ≡ with_extent extent self }
     {
-        Glance {
-            tests: self.tests,
-            extent,
+        if self.extent.is_part() {
+            self
+        } else {
+            Glance {
+                tests: self.tests,
+                extent,
+            }
         }
     }
 
@@ -246,16 +253,20 @@ impl Glance {
     }
 
     fn extent_with(&self, b: Bounds) -> Extent
-        ensures { result ≡ (if b.exact then self.now.extent else Few) }
+        ensures { result ≡ (if b.exact || is_part self.now.extent then self.now.extent else Few) }
     {
-        if b.exact { self.extent } else { Extent::Few }
+        if b.exact || self.extent.is_part() {
+            self.extent
+        } else {
+            Extent::Few
+        }
     }
 
     // With a test more, for which there is room.
     fn with_one(self, a: AttrNo, b: Bounds) -> Glance
         requires low { a.0 < 256 }
         requires room { length self.tests < 3 }
-        ensures { result ≡ glance (self.tests ++ (a, b.ends) ∷ []) (if b.exact then self.extent else Few) }
+        ensures { result ≡ glance (self.tests ++ (a, b.ends) ∷ []) (if b.exact || is_part self.extent then self.extent else Few) }
     {
         let extent = self.extent_with(b);
         Glance {
@@ -284,28 +295,13 @@ impl Glance {
         }
     }
 
-    // With a further predicate on an attribute that has a test. Unless few are still to come, it leaves the room to other
-    // attributes.
-    fn with_further(self, few: bool, a: AttrNo, bounds: Option<Bounds>) -> Glance
-        ensures { result ≡ with_further few a bounds self }
+    fn with_pred(self, limit: u64, few: bool, before: &[Pred], pred: &Pred) -> Glance
+        ensures { result ≡ with_pred limit few before.now pred.now self }
     {
-        if few {
-            self.with_bounds(Extent::Few, a, bounds)
-        } else {
-            self.with_extent(Extent::Few)
-        }
-    }
-
-    fn with_pred(self, few: bool, pred: &Pred) -> Glance
-        ensures { result ≡ with_pred few pred.now self }
-    {
-        if self.extent.is_part() {
-            return self;
-        }
-        let bounds = bounds_of(&pred.op);
         if self.tests.on(pred.attr).is_some() {
-            self.with_further(few, pred.attr, bounds)
+            self.with_bounds(Extent::Few, pred.attr, further_bounds(few, pred))
         } else {
+            let bounds = narrow(limit, new_bounds(before, pred));
             self.with_bounds(Extent::Part, pred.attr, bounds)
         }
     }
@@ -315,12 +311,12 @@ impl Glance {
         ensures told { result ≡ glance_of conj.now }
         ensures form { IsConj conj.now }
     {
+        let preds = conj.preds();
+        let limit = limit_of(preds);
         let mut glance = Glance::of_none();
-        let mut left = conj.preds();
-        while let Some((pred, rest)) = left.split_first() {
-            let few = glance.tests.has_room(left.len());
-            glance = glance.with_pred(few, pred);
-            left = rest;
+        for at in 0..preds.len() {
+            let few = glance.tests.has_room(preds.len() - at);
+            glance = glance.with_pred(limit, few, &preds[..at], &preds[at]);
         }
         glance
     }

@@ -27,6 +27,7 @@ mod tallies;
 mod test_counts;
 mod trees;
 mod walks;
+mod widths;
 
 pub use laws::{
     MAX_TREE_DEPTH, depth_is_bounded, ids_rise, new_ids_are_nowhere, nodes_are_everywhere,

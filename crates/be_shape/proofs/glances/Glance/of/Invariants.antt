@@ -1,10 +1,7 @@
-use Rattle.std.proofs.Common.{◌≡◌, length}
-use Rattle.be_shape.specs.Glances.{with_preds, glance_of}
+use Rattle.std.proofs.Common.{◌≡◌, take, drop}
+use Rattle.be_shape.specs.Glances.{with_preds, limit_of, glance_of}
 use Rattle.be_shape.proofs.glances.Glance.of.Given as goal
 
-abbrev pub decreases-loop-pred : goal.decreases-loop-pred
-decreases-loop-pred l = length l.left
-
--- what is told so far, and the predicates that are left
-abbrev pub invariant-loop-pred : goal.invariant-loop-pred
-invariant-loop-pred l = with_preds l.left l.glance ≡ glance_of l.conj
+-- what is told of the predicates before this one
+abbrev pub invariant-loop-at : goal.invariant-loop-at
+invariant-loop-at l = with_preds (limit_of l.conj) (take l.at l.preds) (drop l.at l.preds) l.glance ≡ glance_of l.conj
