@@ -4,31 +4,31 @@ use Rattle.std.specs.List.{list_any}
 use Rattle.be_model.specs.declared.preds.Pred.{Pred}
 use Rattle.be_model.specs.Hulls.{is_on}
 use Rattle.be_shape.specs.declared.glances.Bounds.{Bounds}
-use Rattle.be_shape.specs.Glances.{bounds_of, new_bounds, narrow, further_bounds}
+use Rattle.be_shape.specs.Glances.{bounds_of, new_bounds, narrow, are_widest, refusing, further_bounds}
 use Rattle.be_shape.specs.Widths.{width_of}
 
-by_choice : (P : Option Bounds → Type 0) → P None → (o : Option Bounds) → P o → (c : Bool) → P (cond c o None)
-by_choice P n o k true = k
-by_choice P n o k false = n
+by_leave : (P : Option Bounds → Type 0) → P None → (o : Option Bounds) → P o → (c : Bool) → P (cond c o None)
+by_leave P n o k true = k
+by_leave P n o k false = n
 
--- what holds of no bounds and of some holds of those that aren't too wide
+by_refusal : (P : Option Bounds → Type 0) → P None → (o : Option Bounds) → P o → (c : Bool) → P (cond c None o)
+by_refusal P n o k true = n
+by_refusal P n o k false = k
+
 kept_narrow : (P : Option Bounds → Type 0) → P None → (limit : ℕ) (o : Option Bounds) → P o → P (narrow limit o)
 kept_narrow P n limit None k = k
-kept_narrow P n limit (Some b) k = by_choice P n (Some b) k (leb (width_of b.ends) limit)
+kept_narrow P n limit (Some b) k = by_leave P n (Some b) k (leb (width_of b.ends) limit)
 
-kept_new : (P : Option Bounds → Type 0) → P None → (before : List Pred) (p : Pred) → P (bounds_of p.op) → P (new_bounds before p)
-kept_new P n before p k = by_test (list_any (is_on p.attr) before)
-  where
-    by_test : (c : Bool) → P (cond c None (bounds_of p.op))
-    by_test true = n
-    by_test false = k
+kept_refusing : (P : Option Bounds → Type 0) → P None → (o : Option Bounds) → P o → P (refusing o)
+kept_refusing P n None k = k
+kept_refusing P n (Some b) k = by_refusal P n (Some b) k (are_widest b.ends)
 
 -- what holds of no bounds and of a predicate's holds of those by which it gives a test
 pub of_first : (P : Option Bounds → Type 0) → P None → (limit : ℕ) (before : List Pred) (p : Pred) → P (bounds_of p.op) → P (narrow limit (new_bounds before p))
-of_first P n limit before p k = kept_narrow P n limit (new_bounds before p) (kept_new P n before p k)
+of_first P n limit before p k = kept_narrow P n limit (new_bounds before p) (by_refusal P n (bounds_of p.op) k (list_any (is_on p.attr) before))
 
 pub of_further : (P : Option Bounds → Type 0) → P None → (few : Bool) (p : Pred) → P (bounds_of p.op) → P (further_bounds few p)
-of_further P n few p k = by_choice P n (bounds_of p.op) k few
+of_further P n few p k = by_leave P n (refusing (bounds_of p.op)) (kept_refusing P n (bounds_of p.op) k) few
 
 -- a predicate that gives bounds is the first on its attribute, and they are its own
 pub record IsNew (before : List Pred) (p : Pred) (b : Bounds) : Type 0 where

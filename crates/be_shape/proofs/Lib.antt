@@ -11,6 +11,7 @@ pub mod RootPut
 pub mod RowCounts
 pub mod Placed
 pub mod ExampleTree
+pub mod ExampleGlance
 pub mod Children
 pub mod NodeList
 pub mod Visited

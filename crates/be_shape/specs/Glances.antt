@@ -87,7 +87,7 @@ pub record Glance : Type 0 where
 abbrev pub glance : List Test → Extent → Glance
 glance tests extent = record { tests = tests; extent = extent }
 
--- with the same tests and this extent, but where attributes without a test are known of already
+-- with the same tests and this extent. Where there may be attributes with no test, that stays so
 abbrev pub with_extent : Extent → Glance → Glance
 with_extent x g = if is_part g.extent then g else glance g.tests x
 
@@ -110,11 +110,22 @@ abbrev pub narrow : ℕ → Option Bounds → Option Bounds
 narrow limit None = None
 narrow limit (Some b) = if nat_le (width_of b.ends) limit then Some b else None
 
--- with a predicate more. The first on an attribute gives a test where it isn't wider than the limit. A further one gives one only
--- where the first did and few are still to come
-abbrev pub further_bounds : Bool → Pred → Option Bounds
-further_bounds few p = if few then bounds_of p.op else None
+-- the ends refuse no value
+abbrev pub are_widest : ℤ × ℤ → Bool
+are_widest ends = int_eq ends.0 least && int_eq ends.1 greatest
 
+-- none that refuse no value
+abbrev pub refusing : Option Bounds → Option Bounds
+refusing None = None
+refusing (Some b) = if are_widest b.ends then None else Some b
+
+-- the bounds by which a predicate on an attribute that has a test gives another, where few predicates are still to come
+abbrev pub further_bounds : Bool → Pred → Option Bounds
+further_bounds few p = if few then refusing (bounds_of p.op) else None
+
+-- with a predicate more, behind these. The first on an attribute gives a test where there is room and its bounds aren't wider than the
+-- limit. A further one gives one only where the attribute has a test, and may leave its room to others; so where the first gave none, no
+-- other on its attribute does
 abbrev pub with_pred : ℕ → Bool → List Pred → Pred → Glance → Glance
 with_pred limit few before p g =
     if is_some (test_on p.attr g.tests) then with_bounds Few p.attr (further_bounds few p) g
@@ -125,15 +136,17 @@ abbrev pub with_preds : ℕ → List Pred → List Pred → Glance → Glance
 with_preds limit before [] g = g
 with_preds limit before (p ∷ ps) g = with_preds limit (before ++ p ∷ []) ps (with_pred limit (nat_le (length g.tests + length (p ∷ ps)) 3) before p g)
 
+-- with the width of the bounds, where there are any
 abbrev pub with_width_of : Option Bounds → Widths → Widths
 with_width_of None t = t
 with_width_of (Some b) t = with_width (width_of b.ends) t
 
+-- with those of the first predicates on attributes
 abbrev pub with_widths : List Pred → List Pred → Widths → Widths
 with_widths before [] t = t
 with_widths before (p ∷ ps) t = with_widths (before ++ p ∷ []) ps (with_width_of (new_bounds before p) t)
 
--- the third least width of the first predicates on attributes, so that the widest are left out
+-- the third least of these widths, so that the widest tests are left out. By any other limit a glance would be as true
 abbrev pub limit_of : List Pred → ℕ
 limit_of conj = (with_widths [] conj any_widths).third
 

@@ -60,10 +60,10 @@ few_in (ToldPart attrs note slots row) = few_with AsPart attrs slots
 
 -- what is told of a row is right: the tests are its glance, its condition has the form of one, and neither the set note nor the lanes
 -- refuse an event that satisfies it
-pub record IsTold (row : Row) (told : Told) (note : ℕ) (few : Few) : Type 0 where
+pub record IsTold (row : Row) (told : Told) (set_note : ℕ) (few : Few) : Type 0 where
   pub tests : glance few.tests (extent_of told) ≡ glance_of row.conj
   pub form : IsConj row.conj
-  pub set : LosesNone row.conj note few.tests
+  pub set : LosesNone row.conj set_note few.tests
   pub lanes : HoldLanes row.conj told few
 
 -- a place tells these of its row, and its id

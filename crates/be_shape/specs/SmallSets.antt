@@ -49,10 +49,10 @@ abbrev pub passes_at : ℕ → ℕ → List Test → Assignments → Bool
 passes_at at middle [] e = true
 passes_at at middle (t ∷ ts) e = if at == 1 then passes_set e middle t else passes_at (at - 1) middle ts e
 
--- the same of what a note says: the place of a test, and the lower bits of the number between its ends
+-- the same of what a set note says: the place of a test, and the lower bits of the number between its ends
 abbrev pub passes_note : ℕ → List Test → Assignments → Bool
-passes_note note tests e = passes_at (note / 64) (note % 64) tests e
+passes_note set_note tests e = passes_at (set_note / 64) (set_note % 64) tests e
 
--- no event that satisfies the condition is refused by the note
+-- no event that satisfies the condition is refused by the set note
 abbrev pub LosesNone : List Pred → ℕ → List Test → Type 0
-LosesNone conj note tests = (e : Assignments) → satisfies e conj ≡ true → passes_note note tests e ≡ true
+LosesNone conj set_note tests = (e : Assignments) → satisfies e conj ≡ true → passes_note set_note tests e ≡ true

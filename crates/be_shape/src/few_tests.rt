@@ -228,7 +228,7 @@ impl FewTests {
 
     // What is told where the predicate is of a small set, and a test is on it.
     fn set_told(&self, pred: &Pred) -> Option<u8>
-        ensures { IfSome result (λ note. (e : Assignments) → is_met (values_of e pred.now.attr) pred.now.op ≡ true → passes_note note self.now.tests e ≡ true) }
+        ensures { IfSome result (λ set_note. (e : Assignments) → is_met (values_of e pred.now.attr) pred.now.op ≡ true → passes_note set_note self.now.tests e ≡ true) }
     {
         let Op::OneOf(xs) = &pred.op else {
             return None;

@@ -232,7 +232,7 @@ impl Glance {
         }
     }
 
-    // With the same tests and this extent, but where attributes without a test are known of already.
+    // With the same tests and this extent. Where there may be attributes with no test, that stays so.
     fn with_extent(self, extent: Extent) -> Glance
         ensures { result ≡ with_extent extent self }
     {

@@ -3,10 +3,10 @@
 ghost use Rattle.std.specs.Prelude.{◌≡◌};
 ghost use Rattle.std.specs.List.{list_any};
 ghost use Rattle.be_model.specs.Hulls.{is_on};
-ghost use Rattle.be_shape.specs.Glances.{new_bounds, narrow, further_bounds, with_width_of, limit_of};
+ghost use Rattle.be_shape.specs.Glances.{new_bounds, narrow, are_widest, refusing, further_bounds, with_width_of, limit_of};
 ghost use Rattle.be_shape.specs.Widths.{width_of, any_widths, with_width};
 
-use crate::glances::{Bounds, Ends, bounds_of};
+use crate::glances::{Bounds, Ends, GREATEST, bounds_of};
 use be_base::AttrNo;
 use be_model::Pred;
 
@@ -96,11 +96,32 @@ pub(crate) fn narrow(limit: u64, bounds: Option<Bounds>) -> Option<Bounds>
     }
 }
 
-/// The bounds of a predicate on an attribute that has a test. Unless few are still to come, it leaves the room to other attributes.
+fn are_widest(ends: Ends) -> bool
+    ensures { result ≡ are_widest ends }
+{
+    ends.0 == i32::MIN && ends.1 == GREATEST
+}
+
+// None that refuse no value. So a `!=` leaves its lane to others.
+fn refusing(bounds: Option<Bounds>) -> Option<Bounds>
+    ensures { result ≡ refusing bounds }
+{
+    match bounds {
+        Some(b) if !are_widest(b.ends) => Some(b),
+        _ => None,
+    }
+}
+
+/// The bounds by which a predicate on an attribute that has a test gives another. Unless few are still to come, it leaves the room to
+/// other attributes.
 pub(crate) fn further_bounds(few: bool, pred: &Pred) -> Option<Bounds>
     ensures { result ≡ further_bounds few pred.now }
 {
-    if few { bounds_of(&pred.op) } else { None }
+    if few {
+        refusing(bounds_of(&pred.op))
+    } else {
+        None
+    }
 }
 
 fn with_width_of(bounds: Option<Bounds>, widths: Widths) -> Widths
@@ -112,7 +133,8 @@ fn with_width_of(bounds: Option<Bounds>, widths: Widths) -> Widths
     }
 }
 
-/// The third least width of the first predicates on attributes. So the widest are left out, which refuse the fewest events.
+/// The third least width of the first predicates on attributes, so that the widest tests are left out, which refuse the fewest events.
+/// By any other limit what is told would be as true.
 pub(crate) fn limit_of(preds: &[Pred]) -> u64
     ensures { result ≡ limit_of preds.now }
 {

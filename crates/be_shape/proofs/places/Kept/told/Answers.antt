@@ -23,4 +23,4 @@ returns-clause-set c =
     let held = c.self.inside.held in
     let row = arc_value c.row.result.now in
     let t = (of_row held row c.self.invariant c.row.ensures).1 in
-    subst (λ (few : Few). LosesNone row.conj c.set_note.result few.tests) (sym c.tests.ensures) (subst (λ note. LosesNone row.conj note (few_in held).tests) (sym c.set_note.ensures) t.set)
+    subst (λ (few : Few). LosesNone row.conj c.set_note.result few.tests) (sym c.tests.ensures) (subst (λ set_note. LosesNone row.conj set_note (few_in held).tests) (sym c.set_note.ensures) t.set)
