@@ -15,7 +15,7 @@ use Rattle.be_shape.specs.declared.glances.Bounds.{Bounds}
 use Rattle.be_shape.specs.declared.glances.Extent.{Extent}
 use Rattle.be_shape.specs.declared.glances.Extent.TheVariants.{Whole, Few, Part}
 use Rattle.be_shape.specs.declared.widths.Widths.{Widths}
-use Rattle.be_shape.specs.Widths.{width_of, any_widths, with_width}
+use Rattle.be_shape.specs.Widths.{width_of, any_width, any_widths, with_width}
 
 -- the least number of 32 bits and the last but one, which stand for no bound. The last stands for no value
 abbrev pub least : ℤ
@@ -146,9 +146,10 @@ abbrev pub with_widths : List Pred → List Pred → Widths → Widths
 with_widths before [] t = t
 with_widths before (p ∷ ps) t = with_widths (before ++ p ∷ []) ps (with_width_of (new_bounds before p) t)
 
--- the third least of these widths, so that the widest tests are left out. By any other limit a glance would be as true
+-- the third least of these widths, so that the widest tests are left out. At most three predicates have no limit. By any other limit a
+-- glance would be as true
 abbrev pub limit_of : List Pred → ℕ
-limit_of conj = (with_widths [] conj any_widths).third
+limit_of conj = if nat_le (length conj) 3 then any_width else (with_widths [] conj any_widths).third
 
 -- what is told of a condition
 abbrev pub glance_of : List Pred → Glance

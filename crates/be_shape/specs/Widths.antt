@@ -9,9 +9,13 @@ width_of ends = unsigned_abs (ends.1 -ℤ ends.0)
 abbrev pub widths : ℕ → ℕ → ℕ → Widths
 widths first second third = record { first = first; second = second; third = third }
 
+-- no ends of 32 bits are further apart
+abbrev pub any_width : ℕ
+any_width = 4294967295
+
 -- none is known yet
 abbrev pub any_widths : Widths
-any_widths = widths 4294967295 4294967295 4294967295
+any_widths = widths any_width any_width any_width
 
 -- the three least of these and one more
 abbrev pub with_width : ℕ → Widths → Widths

@@ -18,7 +18,7 @@ struct Widths {
     third: u64,
 }
 
-// At least that of any ends.
+// No ends are further apart.
 const ANY: u64 = 4294967295;
 
 // How far the ends are apart.
@@ -134,10 +134,13 @@ fn with_width_of(bounds: Option<Bounds>, widths: Widths) -> Widths
 }
 
 /// The third least width of the first predicates on attributes, so that the widest tests are left out, which refuse the fewest events.
-/// By any other limit what is told would be as true.
+/// At most three predicates have no limit. By any other limit what is told would be as true.
 pub(crate) fn limit_of(preds: &[Pred]) -> u64
     ensures { result ≡ limit_of preds.now }
 {
+    if preds.len() <= 3 {
+        return ANY;
+    }
     let mut widths = Widths::any();
     for at in 0..preds.len() {
         widths = with_width_of(new_bounds(&preds[..at], &preds[at]), widths);
