@@ -15,7 +15,7 @@ use be_base::NoMemory;
 use be_index::Hits;
 use be_model::{Cost, Row, Schema};
 use be_shape::{
-    BLOCK, Chosen, Leaf, NONE_CHOSEN, Node, NodeRange, Part, Sight, lower_range, upper_range,
+    BLOCK, Chosen, Kept, Leaf, NONE_CHOSEN, Node, NodeRange, Part, Sight, lower_range, upper_range,
     whole_range,
 };
 use std::sync::Arc;
@@ -185,30 +185,28 @@ fn search_block<C: Hits>(leaf: &Leaf, from: usize, e: &Sight, found: &mut C) -> 
     let _ = leaf.len();
     for i in 0..count {
         let choice = chosen[i];
-        let place = from + usize::from(choice.at);
-        test(leaf, place, choice.sure, leaf.row(place), e, found)?;
+        let kept = leaf.kept(from + usize::from(choice.at));
+        test(kept, choice.sure, kept.row(), e, found)?;
     }
     Ok(())
 }
 
-// Appends the row at a place where the event satisfies it, as it does for sure where that is said.
-#[tactic(auto, using(std::proofs::lemmas::Option::slice_get_within))]
+// Appends the row of a place where the event satisfies it, as it does for sure where that is said.
 fn test<C: Hits>(
-    leaf: &Leaf,
-    place: usize,
+    kept: &Kept,
     sure: bool,
     row: &Arc<Row>,
     e: &Sight,
     found: &mut C,
 ) -> Result<(), NoMemory>
-    requires stands { slice_get leaf.now place ≡ Some (arc_value row.now) }
+    requires stands { kept.now ≡ Some (arc_value row.now) }
     requires sure { sure ≡ true → satisfies e.now (arc_value row.now).conj ≡ true }
     ensures put { OnOk result (Adds (C.held found.old) (C.held found.new) (hits_of C.item_of e.now (arc_value row.now ∷ []))) }
     ensures refused { OnErr result ((C.held found.old).sure < length (hits_of C.item_of e.now (arc_value row.now ∷ []))) }
     ensures grown { Grows (C.held found.old) (C.held found.new) }
 {
-    if sure || leaf.is_met(place, e) {
-        found.put(leaf.id(place), row)?;
+    if sure || kept.is_met(e) {
+        found.put(kept.id(), row)?;
     }
     Ok(())
 }

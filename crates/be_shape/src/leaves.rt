@@ -7,6 +7,7 @@ ghost use Rattle.be_model.specs.Lies.{row_lies};
 ghost use Rattle.be_model.specs.Rows.{has, id_of};
 ghost use Rattle.be_shape.specs.Chosen.{Covers};
 ghost use Rattle.be_shape.specs.Common.{AreCommon};
+ghost use Rattle.be_shape.specs.Leaves.{are_rows, rows_of_places};
 ghost use Rattle.be_shape.specs.Listed.{attrs_of};
 ghost use Rattle.std.specs.Arc.{arc_value};
 ghost use Rattle.be_model.specs.Matching.{satisfies};
@@ -64,6 +65,16 @@ impl Model for Leaf {
     ghost invariant = { λ l. IsLeaf l.count l.common l.places.items };
 }
 
+// What stands at a place, none of which is a blank.
+fn kept_at(places: &[Kept], place: usize) -> &Kept
+    requires rows { are_rows places.now ≡ true }
+    requires within { place < length places.now }
+    ensures at { slice_get (rows_of_places places.now) place ≡ result.now }
+    ensures row { IsSome result.now }
+{
+    &places[place]
+}
+
 impl Leaf {
     /// No rows. It takes no memory.
     pub fn make(alloc: Global) -> Leaf
@@ -84,14 +95,14 @@ impl Leaf {
         self.count
     }
 
-    // What stands at a place.
+    /// What stands at a place.
     #[tactic(auto, using(crate::proofs::LeafRows::rows_length))]
-    fn kept(&self, place: usize) -> &Kept
+    pub fn kept(&self, place: usize) -> &Kept
         requires { place < length self.now }
         ensures at { slice_get self.now place ≡ result.now }
         ensures row { IsSome result.now }
     {
-        &self.places.as_slice()[place]
+        kept_at(self.places.as_slice(), place)
     }
 
     /// The row at a place, from 0.
@@ -127,11 +138,14 @@ impl Leaf {
         ensures few { result ≤ 32 }
         ensures places { Covers e.now self.now from 32 (take result chosen.new) }
     {
+        // Neither changes here, so they are read once.
+        let places = self.places.as_slice();
+        let sight = e.again();
         let many = (self.len() - from).min(BLOCK);
-        let exact = e.is_exact();
+        let exact = sight.is_exact();
         let mut kept = 0;
         for at in 0..many {
-            let (may, sure) = self.kept(from + at).ask(exact, e);
+            let (may, sure) = kept_at(places, from + at).ask(exact, &sight);
             chosen[kept] = Choice { at: at as u8, sure };
             kept += usize::from(may);
         }

@@ -40,6 +40,7 @@ pub use looks::{
     may_pass, may_pass_at, takes,
 };
 pub use nodes::{Node, Part};
+pub use places::Kept;
 pub use ranges::{NodeRange, holds_value, lower_range, upper_range, whole_range};
 pub use sights::{NOTHING_SEEN, Seen, Sight, fill_seen};
 pub use spots::Spot;

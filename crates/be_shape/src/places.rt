@@ -26,7 +26,7 @@ use std::sync::Arc;
 /// A place of a leaf: a row, or a blank where the leaf ends. It tells at most three tests of the row and its id, so that a row whose
 /// attributes are told isn't looked at for these, nor for its spans, and no row for an id below 2^24 - 1.
 #[derive(Drop)]
-pub(crate) struct Kept {
+pub struct Kept {
     held: Held,
 }
 
@@ -71,7 +71,8 @@ impl Kept {
         self.held.into_row()
     }
 
-    pub(crate) fn row(&self) -> &Arc<Row>
+    /// The row.
+    pub fn row(&self) -> &Arc<Row>
         requires { IsSome self.now }
         ensures { self.now ≡ Some (arc_value result.now) }
     {
@@ -79,7 +80,7 @@ impl Kept {
     }
 
     /// The row's id. The row is looked at only where 24 bits don't tell it.
-    pub(crate) fn id(&self) -> Id
+    pub fn id(&self) -> Id
         requires { IsSome self.now }
         ensures { option_map id_of self.now ≡ Some result.0 }
     {
@@ -146,7 +147,7 @@ impl Kept {
     }
 
     /// Whether the event satisfies the row.
-    pub(crate) fn is_met(&self, e: &Sight) -> bool
+    pub fn is_met(&self, e: &Sight) -> bool
         requires { IsSome self.now }
         ensures { option_map (λ row. satisfies e.now row.conj) self.now ≡ Some result }
     {

@@ -142,6 +142,17 @@ impl<'a> Sight<'a> {
         }
     }
 
+    /// The same once more. In a loop that writes, one of its own needn't be read again and again.
+    pub(crate) fn again(&self) -> Sight<'a>
+        ensures { result ≡ self.now }
+    {
+        Sight {
+            event: self.event,
+            seen: self.seen,
+            exact: self.exact,
+        }
+    }
+
     /// Whether the event has single values alone, which the table tells.
     pub(crate) fn is_exact(&self) -> bool
         ensures { result ≡ are_single self.now }
