@@ -6,8 +6,8 @@ use Rattle.be_index.proofs.Adding.{on_refusal, underway_next, underway_refused}
 use Rattle.be_match.proofs.Blocks.{in_range, next_at, sure_at, none_left, finished, underway, one_then, none_then, hits_covered}
 use Rattle.be_match.proofs.searches.search_block.Goals as goal
 
-pub overflow_add-place : goal.overflow_add-place
-overflow_add-place g c =
+pub overflow_add-from : goal.overflow_add-from
+overflow_add-from g c =
     let of = g.C.Hits.item_of in
     let e = c.args.e.now in
     let rows = c.args.leaf.now in
@@ -22,8 +22,8 @@ overflow_add-place g c =
     let within : from + (get_or places i none).at < length rows = in_range rows from count i none places covers.found room few covers.at in
     omega (arith, within, c.from.ensures, c.len.ensures)
 
-pub row-requires : goal.row-requires
-row-requires g c =
+pub kept-kept-requires : goal.kept-kept-requires
+kept-kept-requires g c =
     let of = g.C.Hits.item_of in
     let e = c.args.e.now in
     let rows = c.args.leaf.now in
@@ -50,7 +50,7 @@ test-requires-clause-sure g c = λ sure.
     let room : count ≤ length places = omega (arith, c.choose-count.ensures.few, c.choose-count.array_long) in
     let few : i < count = omega (arith, c.loop-i-test.true, c.loop-i.auto.i-end) in
     let x = arc_value c.row.result.now in
-    let stands : slice_get rows (from + (get_or places i none).at) ≡ Some x = ap (λ p. slice_get rows (from + p)) (sym c.from.ensures) ∙ c.row.ensures in
+    let stands : slice_get rows (from + (get_or places i none).at) ≡ Some x = ap (λ p. slice_get rows (from + p)) (sym c.from.ensures) ∙ c.kept-kept.ensures.at ∙ c.row.ensures in
     sure_at e rows from count i none places x room few c.choose-count.ensures.places stands sure
 
 pub loop-i-init : goal.loop-i-init
@@ -69,7 +69,7 @@ loop-i-preserved g c = λ cands at.
     let room : count ≤ length places = omega (arith, c.choose-count.ensures.few, c.choose-count.array_long) in
     let few : i < count = omega (arith, c.loop-i-test.true, c.loop-i.auto.i-end) in
     let x = arc_value c.row.result.now in
-    let stands : slice_get rows (from + (get_or places i none).at) ≡ Some x = ap (λ p. slice_get rows (from + p)) (sym c.from.ensures) ∙ c.row.ensures in
+    let stands : slice_get rows (from + (get_or places i none).at) ≡ Some x = ap (λ p. slice_get rows (from + p)) (sym c.from.ensures) ∙ c.kept-kept.ensures.at ∙ c.row.ensures in
     let next = one_then of e cands i x (next_at rows from count i none places cands x room few at stands) in
     underway_next _ _ (g.C.Hits.held c.test.new.found) (hits_of of e (drop i cands)) (hits_of of e (x ∷ [])) (hits_of of e (drop (i + 1) cands)) (hits_of of e cands) next (c.loop-i.invariant cands at) c.in_ok-test.ensures.put c.in_ok-test.ensures.grown
 
@@ -87,7 +87,7 @@ returns-in_err-test-clause-refused g c =
     let few : i < count = omega (arith, c.loop-i-test.true, c.loop-i.auto.i-end) in
     let covers = c.choose-count.ensures.places in
     let x = arc_value c.row.result.now in
-    let stands : slice_get rows (from + (get_or places i none).at) ≡ Some x = ap (λ p. slice_get rows (from + p)) (sym c.from.ensures) ∙ c.row.ensures in
+    let stands : slice_get rows (from + (get_or places i none).at) ≡ Some x = ap (λ p. slice_get rows (from + p)) (sym c.from.ensures) ∙ c.kept-kept.ensures.at ∙ c.row.ensures in
     let cands = covers.found in
     let next = one_then of e cands i x (next_at rows from count i none places cands x room few covers.at stands) in
     let refused = underway_refused _ _ (hits_of of e (drop i cands)) (hits_of of e (x ∷ [])) (hits_of of e (drop (i + 1) cands)) (hits_of of e cands) next (c.loop-i.invariant cands covers.at) c.in_err-test.ensures.refused in
