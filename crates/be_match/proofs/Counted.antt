@@ -13,7 +13,6 @@ use Rattle.be_shape.specs.Shape.{NodeRange, whole, lower, upper}
 use Rattle.be_shape.specs.Search.{visited, visited_in_parts, visited_in_half, all_of}
 use Rattle.be_match.specs.Leaves.{AreCountable, AreCountableWith, cost_with}
 use Rattle.be_match.proofs.Sizes.{node_sizes, part_visited, rows_append}
-use Rattle.be_match.proofs.Halves.{visited_in_halves}
 
 -- how much is visited of each level
 record Levels (s : Attributes) (e : Assignments) (r : NodeRange) (n : Node) (c : Cost) (ps : List Part) (v t : ℕ) : Type 0 where
@@ -39,17 +38,6 @@ parts_countable_with s e r n c c1 ps k are h1 =
     let z = levels s e r n c ps k are in
     record { few = omega (arith, z.visits, z.few, ap (λ q. q.visits) h1); few_rows = omega (arith, z.tested, z.few_rows, ap (λ q. q.tested) h1) }
 
-pub halves_countable_with : (s : Attributes) (e : Assignments) (r : NodeRange) (n : Node) (c c1 c2 : Cost) (ps : List Part) → AreCountableWith c (visited s e r (plain n)) → ps ≡ (out-Node n).parts.items
-    → c1 ≡ cost (c.visits + 1) (c.tested + length (out-Node n).leaf) → c2 ≡ cost_with c1 (visited_in_parts s e (parts_as ps)) → AreCountableWith c2 (visited_in_halves s e r n)
-halves_countable_with s e r n c c1 c2 ps k are h1 h2 =
-    let z = levels s e r n c ps k are in
-    let l = visited_in_half s e (lower r) (half_as (out-Node n).low) in
-    let h = visited_in_half s e (upper r) (half_as (out-Node n).high) in
-    record {
-      few = omega (arith, z.visits, z.few, length-append l h, ap (λ q. q.visits) h1, ap (λ q. q.visits) h2);
-      few_rows = omega (arith, z.tested, z.few_rows, rows_append l h, ap (λ q. q.tested) h1, ap (λ q. q.tested) h2);
-    }
-
 -- what is counted of two lists is counted of the first, and then of the second
 pub first_countable : (c : Cost) (xs ys : List (List Row)) → AreCountableWith c (xs ++ ys) → AreCountableWith c xs
 first_countable c xs ys k = record { few = omega (arith, k.few, length-append xs ys); few_rows = omega (arith, k.few_rows, rows_append xs ys) }
@@ -70,17 +58,6 @@ both_counted c d f xs ys e k =
 -- nothing more was counted
 pub none_counted : (c : Cost) → c ≡ cost_with c []
 none_counted c = ap₂ cost (omega arith) (omega arith)
-
--- the leaf, the parts and the halves were counted: the node was
-pub node_counted : (s : Attributes) (e : Assignments) (r : NodeRange) (n : Node) (c c1 c2 c3 : Cost) (ps : List Part) → AreCountableWith c (visited s e r (plain n)) → ps ≡ (out-Node n).parts.items
-    → c1 ≡ cost (c.visits + 1) (c.tested + length (out-Node n).leaf) → c2 ≡ cost_with c1 (visited_in_parts s e (parts_as ps)) → c3 ≡ cost_with c2 (visited_in_halves s e r n) → c3 ≡ cost_with c (visited s e r (plain n))
-node_counted s e r n c c1 c2 c3 ps k are h1 h2 h3 =
-    let z = levels s e r n c ps k are in
-    let l = visited_in_half s e (lower r) (half_as (out-Node n).low) in
-    let h = visited_in_half s e (upper r) (half_as (out-Node n).high) in
-    let v : c2.visits + length (l ++ h) ≡ c.visits + length (visited s e r (plain n)) = omega (arith, z.visits, length-append l h, ap (λ q. q.visits) h1, ap (λ q. q.visits) h2) in
-    let t : c2.tested + length (all_of (l ++ h)) ≡ c.tested + length (all_of (visited s e r (plain n))) = omega (arith, z.tested, rows_append l h, ap (λ q. q.tested) h1, ap (λ q. q.tested) h2) in
-    h3 ∙ ap₂ cost v t
 
 -- what is counted in a part
 pub part_countable_with : (s : Attributes) (e : Assignments) (p : Part) (c : Cost) → is_assigned e (out-Part p).attr ≡ true → AreCountableWith c (visited_in_parts s e (parts_of (part_as p ∷ [])))

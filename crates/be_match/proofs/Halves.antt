@@ -1,5 +1,5 @@
 -- What a search visits in the halves of a node: both, one or neither.
-use Rattle.std.proofs.Common.{◌≡◌, Bool, true, false, not, cond, List, [], ◌∷◌, ◌++◌, Option, refl, sym, ap, ap₂, ◌∙◌}
+use Rattle.std.proofs.Common.{◌≡◌, Bool, true, false, cond, List, [], ◌∷◌, ◌++◌, Option, refl, sym, ap, ap₂, ◌∙◌}
 use Rattle.std.specs.Bool.{beq}
 use Rattle.std.specs.Global.{Box}
 use Rattle.std.proofs.lemmas.List.{append_assoc, append-nil}
@@ -34,20 +34,20 @@ of_either P true x y h k = h
 of_either P false x y h k = k
 
 -- of two that differ in a test, the one that passes is chosen
-pub one_passes : {A : Type 0} (P : A → Type 0) (b c : Bool) (x y : A) → not (beq b c) ≡ true → (b ≡ true → P x) → (c ≡ true → P y) → P (cond b x y)
+pub one_passes : {A : Type 0} (P : A → Type 0) (b c : Bool) (x y : A) → beq b c ≡ false → (b ≡ true → P x) → (c ≡ true → P y) → P (cond b x y)
 one_passes P true c x y d h k = h refl
 one_passes P false true x y d h k = k refl
 one_passes P false false x y d h k = absurd (cc)
 
 -- two that don't differ
-pub same : (b c : Bool) → not (beq b c) ≡ false → c ≡ b
+pub same : (b c : Bool) → beq b c ≡ true → c ≡ b
 same true true d = refl
 same false false d = refl
 same true false d = absurd (cc)
 same false true d = absurd (cc)
 
 -- where just one half holds a value
-one_half : (s : Attributes) (e : Assignments) (r : NodeRange) (n : Node) (b c : Bool) → b ≡ holds_value e (lower r) → c ≡ holds_value e (upper r) → not (beq b c) ≡ true
+one_half : (s : Attributes) (e : Assignments) (r : NodeRange) (n : Node) (b c : Bool) → b ≡ holds_value e (lower r) → c ≡ holds_value e (upper r) → beq b c ≡ false
     → visited_in_halves s e r n ≡ visited_in_half s e (cond b (lower r) (upper r)) (half_as (cond b (out-Node n).low (out-Node n).high))
 one_half s e r n true true bl ch d = absurd (cc)
 one_half s e r n false false bl ch d = absurd (cc)
@@ -65,12 +65,12 @@ neither s e r n l h =
 
 -- a search of the chosen half is one of the halves
 pub in_chosen : (s : Attributes) (e : Assignments) (r : NodeRange) (n : Node) (b c : Bool) (lo hi q : NodeRange) (h : Option (Box Node)) → lo ≡ lower r → hi ≡ upper r → b ≡ holds_value e lo → c ≡ holds_value e hi
-    → not (beq b c) ≡ true → q ≡ cond b lo hi → h ≡ cond b (out-Node n).low (out-Node n).high → visited_in_half s e q (half_as h) ≡ visited_in_halves s e r n
+    → beq b c ≡ false → q ≡ cond b lo hi → h ≡ cond b (out-Node n).low (out-Node n).high → visited_in_half s e q (half_as h) ≡ visited_in_halves s e r n
 in_chosen s e r n b c lo hi q h el eh bl ch d eq er =
     ap₂ (λ x y. visited_in_half s e x (half_as y)) (eq ∙ ap₂ (cond b) el eh) er ∙ sym (one_half s e r n b c (bl ∙ ap (holds_value e) el) (ch ∙ ap (holds_value e) eh) d)
 
 -- where neither half of these ranges holds a value
 pub in_neither : (s : Attributes) (e : Assignments) (r : NodeRange) (n : Node) (b c : Bool) (lo hi : NodeRange) → lo ≡ lower r → hi ≡ upper r → b ≡ holds_value e lo → c ≡ holds_value e hi
-    → not (beq b c) ≡ false → b ≡ false → visited_in_halves s e r n ≡ []
+    → beq b c ≡ true → b ≡ false → visited_in_halves s e r n ≡ []
 in_neither s e r n b c lo hi el eh bl ch d f =
     neither s e r n (sym (bl ∙ ap (holds_value e) el) ∙ f) (sym (ch ∙ ap (holds_value e) eh) ∙ same b c d ∙ f)

@@ -20,7 +20,8 @@ use be_shape::{
 };
 use std::sync::Arc;
 
-// Appends what the event satisfies in a node and in all below it.
+// Appends what the event satisfies in a node and in all below it. Where one half alone holds a value of the event, the search goes
+// on there, without a call.
 #[cycle(searches)]
 pub(crate) fn search_node<C: Hits>(
     n: &Node,
@@ -38,22 +39,29 @@ pub(crate) fn search_node<C: Hits>(
     ensures cost { OnOk result (cost.new ≡ cost_with cost.old (visited s.now e.now range (plain n.now))) }
     ensures grown { Grows (C.held found.old) (C.held found.new) }
 {
-    *cost = cost.plus(leaf_cost(&n.leaf));
-    search_leaf(&n.leaf, e, found)?;
-    search_parts(n.parts.as_slice(), s, e, found, cost)?;
-    let lower = lower_range(range);
-    let upper = upper_range(range);
-    let in_low = e.holds_value(lower);
-    let in_high = e.holds_value(upper);
-    if in_low != in_high {
-        let half = chosen(in_low, &n.low, &n.high);
-        return search_half(half, s, e, chosen_range(in_low, range), found, cost);
+    let mut here = n;
+    let mut within = range;
+    loop {
+        *cost = cost.plus(leaf_cost(&here.leaf));
+        search_leaf(&here.leaf, e, found)?;
+        search_parts(here.parts.as_slice(), s, e, found, cost)?;
+        let lower = lower_range(within);
+        let upper = upper_range(within);
+        let in_low = e.holds_value(lower);
+        let in_high = e.holds_value(upper);
+        if in_low == in_high {
+            if in_low {
+                search_half(&here.low, s, e, lower, found, cost)?;
+                search_half(&here.high, s, e, upper, found, cost)?;
+            }
+            return Ok(());
+        }
+        match chosen(in_low, &here.low, &here.high) {
+            Some(half) => here = half,
+            None => return Ok(()),
+        }
+        within = chosen_range(in_low, within);
     }
-    if in_low {
-        search_half(&n.low, s, e, lower, found, cost)?;
-        search_half(&n.high, s, e, upper, found, cost)?;
-    }
-    Ok(())
 }
 
 #[cycle(searches)]

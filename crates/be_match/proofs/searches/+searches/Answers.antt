@@ -1,5 +1,4 @@
-use Rattle.std.proofs.Common.{rules, drop, length, ◌≡◌, ℕ, Option, true, ◌∷◌, [], ◌+◌, ◌*◌, ◌<◌, cond, sym, ap, ap₂, ◌∙◌, subst, arith}
-use Rattle.std.proofs.lemmas.Result.{on_ok_weaker, on_err_weaker}
+use Rattle.std.proofs.Common.{rules, drop, length, ◌≡◌, ℕ, List, true, ◌∷◌, [], ◌+◌, ◌*◌, ◌<◌, cond, sym, ap, ap₂, ◌∙◌, subst, arith, refl, ◌++◌}
 use Rattle.be_shape.specs.declared.nodes.Node.TheViews.{out-Node, out-Part, the_lemmas}
 use Rattle.be_shape.specs.Plain.{plain, parts_as, half_as, part_as, parts_of}
 use Rattle.be_shape.specs.Shape.{NodeRange, whole, lower, upper}
@@ -9,297 +8,488 @@ use Rattle.be_model.specs.Matching.{is_assigned}
 use Rattle.be_model.specs.Costs.{cost}
 use Rattle.be_match.specs.Leaves.{AreCountableWith, cost_with}
 use Rattle.be_index.specs.Puts.{Adds, hits_of}
-use Rattle.be_index.proofs.Adding.{adds_none, on_refusal, underway_next, underway_refused}
-use Rattle.be_match.proofs.Fronts.{hits_leaves, no_room_in_first, no_room_in_node, no_room_in_second, put_both, put_levels}
+use Rattle.be_index.proofs.Adding.{on_refusal, grows_both, underway_next, underway_refused}
+use Rattle.be_match.proofs.Fronts.{hits_leaves, no_room_in_first, no_room_in_node, no_room_in_second, put_both}
 use Rattle.be_match.proofs.Halves.{visited_in_halves, leaf_and_below, of_either, one_passes, same, in_chosen, in_neither}
-use Rattle.be_match.proofs.Sizes.{visited_from, parts_sizes}
-use Rattle.be_match.proofs.Counted.{parts_countable_with, halves_countable_with, first_countable, second_countable, both_counted, none_counted, node_counted, part_countable_with}
-use Rattle.std.specs.Global.{Box}
-use denote.Param.Weighed.{or_weight, w_const, w_or, w_pair}
-use Rattle.be_shape.specs.declared.nodes.Node.{Node}
-use Rattle.be_shape.specs.declared.nodes.Node.TheShapes.{weighed-Node-low-at-1, split-Node-low-at-2}
+use Rattle.be_match.proofs.Sizes.{node_sizes, visited_from, parts_sizes}
+use Rattle.be_match.proofs.Descents.{IsDescending, descent_begins, rest_countable, rest_put, rest_counted, rest_refused, halves_left, nothing_put, nothing_counted}
+use Rattle.be_match.proofs.Counted.{parts_countable_with, first_countable, second_countable, both_counted, part_countable_with}
+use denote.Param.Weighed.{most}
+use Rattle.be_shape.specs.declared.nodes.Part.{Part}
+use Rattle.be_shape.proofs.nodes.Part.TheLaws.{the_size as part_size}
 use Rattle.be_shape.proofs.nodes.Node.TheLaws.{the_size}
 use Rattle.be_match.proofs.searches.+searches.Goals as goal
 
--- the measure of a search of a half
-abbrev half_size : Option (Box Node) → ℕ
-half_size h = 2 * or_weight (w_const (Unit {0})) (w_or (w_pair weighed-Node-low-at-1 (w_const (Unit {0}))) (w_const ⊥)) Node the_size (split-Node-low-at-2 Node h) + 1
+-- the measure of the deepest of some parts
+abbrev parts_size : List Part → ℕ
+parts_size ps = most (λ p. part_size p) ps
+
+pub search_node-loop-found-init : goal.search_node-loop-found-init
+search_node-loop-found-init g t c =
+    let s = c.args.s.now in
+    let e = c.args.e.now in
+    let all = visited s e c.args.range (plain c.args.n.now) in (
+      omega arith,
+      c.requires.bounded,
+      c.requires.rising,
+      descent_begins g.C.Hits.item_of e (g.C.Hits.held c.args.found.now) c.args.cost.now all,
+    )
+
+pub search_node-plus-requires-clause-visits : goal.search_node-plus-requires-clause-visits
+search_node-plus-requires-clause-visits g t c =
+    let s = c.args.s.now in
+    let e = c.args.e.now in
+    let r = c.loop-found.within in
+    let n = c.loop-found.here.now in
+    let of = g.C.Hits.item_of in
+    let r0 = g.C.Hits.held c.args.found.now in
+    let all = visited s e c.args.range (plain c.args.n.now) in
+    let now = c.loop-found.cost in
+    let r1 = g.C.Hits.held c.loop-found.found in
+    let k = rest_countable of e r0 r1 c.args.cost.now now all (visited s e r (plain n)) c.loop-found.invariant.3 c.requires.countable in
+    omega (arith, k.few, (node_sizes s e r n).visits, ap (λ q. q.visits) c.leaf_cost.ensures)
+
+pub search_node-plus-requires-clause-tested : goal.search_node-plus-requires-clause-tested
+search_node-plus-requires-clause-tested g t c =
+    let s = c.args.s.now in
+    let e = c.args.e.now in
+    let r = c.loop-found.within in
+    let n = c.loop-found.here.now in
+    let of = g.C.Hits.item_of in
+    let r0 = g.C.Hits.held c.args.found.now in
+    let all = visited s e c.args.range (plain c.args.n.now) in
+    let now = c.loop-found.cost in
+    let r1 = g.C.Hits.held c.loop-found.found in
+    let k = rest_countable of e r0 r1 c.args.cost.now now all (visited s e r (plain n)) c.loop-found.invariant.3 c.requires.countable in
+    omega (arith, k.few_rows, (node_sizes s e r n).tested, ap (λ q. q.tested) c.leaf_cost.ensures)
+
+pub search_node-returns-in_err-search_leaf-clause-refused : goal.search_node-returns-in_err-search_leaf-clause-refused
+search_node-returns-in_err-search_leaf-clause-refused g t c =
+    let s = c.args.s.now in
+    let e = c.args.e.now in
+    let r = c.loop-found.within in
+    let n = c.loop-found.here.now in
+    let of = g.C.Hits.item_of in
+    let r0 = g.C.Hits.held c.args.found.now in
+    let all = visited s e c.args.range (plain c.args.n.now) in
+    let now = c.loop-found.cost in
+    let r1 = g.C.Hits.held c.loop-found.found in
+    let z = no_room_in_node of e r1 r1 (out-Node n).leaf (visited_in_parts s e (parts_as (out-Node n).parts.items)) (visited_in_halves s e r n) in
+    on_refusal c.from_residual.result (r0.sure < length (hits_of of e (all_of all)))
+    (rest_refused of e r0 r1 c.args.cost.now now all (visited s e r (plain n)) c.loop-found.invariant.3 (subst (λ v. r1.sure < length (hits_of of e (all_of v))) (sym (leaf_and_below s e r n)) (z.here c.in_err-search_leaf.ensures.refused)))
+
+pub search_node-returns-in_err-search_leaf-clause-grown : goal.search_node-returns-in_err-search_leaf-clause-grown
+search_node-returns-in_err-search_leaf-clause-grown g t c =
+    let r0 = g.C.Hits.held c.args.found.now in
+    let r1 = g.C.Hits.held c.loop-found.found in
+    grows_both r0 r1 (g.C.Hits.held c.search_leaf.new.found) c.loop-found.invariant.3.put.grown c.search_leaf.ensures.grown
 
 pub search_node-search_parts-requires : goal.search_node-search_parts-requires
 search_node-search_parts-requires g t c =
     let s = c.args.s.now in
     let e = c.args.e.now in
-    let r = c.args.range in
-    let n = c.args.n.now in
-    let was = c.args.cost.now in
-    let leaf = c.plus.ensures ∙ ap (λ q. cost (was.visits + q.visits) (was.tested + q.tested)) c.leaf_cost.ensures in
-    let countable : AreCountableWith c.plus.result (visited_in_parts s e (parts_as c.as_slice.result.now)) = parts_countable_with s e r n was c.plus.result c.as_slice.result.now c.requires.countable c.as_slice.ensures.value leaf in
+    let r = c.loop-found.within in
+    let n = c.loop-found.here.now in
+    let of = g.C.Hits.item_of in
+    let r0 = g.C.Hits.held c.args.found.now in
+    let all = visited s e c.args.range (plain c.args.n.now) in
+    let now = c.loop-found.cost in
+    let r1 = g.C.Hits.held c.loop-found.found in
+    let k = rest_countable of e r0 r1 c.args.cost.now now all (visited s e r (plain n)) c.loop-found.invariant.3 c.requires.countable in
+    let leaf = c.plus.ensures ∙ ap (λ q. cost (now.visits + q.visits) (now.tested + q.tested)) c.leaf_cost.ensures in
+    let countable : AreCountableWith c.plus.result (visited_in_parts s e (parts_as c.as_slice.result.now)) = parts_countable_with s e r n now c.plus.result c.as_slice.result.now k c.as_slice.ensures.value leaf in
+    let below : parts_size c.as_slice.result.now < the_size n = search (rules, the_lemmas) in
+    let falls : 2 * parts_size c.as_slice.result.now + 1 < t = omega (arith, below, c.loop-found.invariant.0, c.decreases) in
     search (rules, the_lemmas)
+
+pub search_node-returns-in_err-search_parts-clause-refused : goal.search_node-returns-in_err-search_parts-clause-refused
+search_node-returns-in_err-search_parts-clause-refused g t c =
+    let s = c.args.s.now in
+    let e = c.args.e.now in
+    let r = c.loop-found.within in
+    let n = c.loop-found.here.now in
+    let of = g.C.Hits.item_of in
+    let r0 = g.C.Hits.held c.args.found.now in
+    let all = visited s e c.args.range (plain c.args.n.now) in
+    let now = c.loop-found.cost in
+    let r1 = g.C.Hits.held c.loop-found.found in
+    let r2 = g.C.Hits.held c.search_leaf.new.found in
+    let z = no_room_in_node of e r1 r2 (out-Node n).leaf (visited_in_parts s e (parts_as (out-Node n).parts.items)) (visited_in_halves s e r n) in
+    let at = subst (λ ps. r2.sure < length (hits_of of e (all_of (visited_in_parts s e (parts_as ps))))) c.as_slice.ensures.value c.in_err-search_parts.ensures.refused in
+    on_refusal c.from_residual-in_err-search_parts.result (r0.sure < length (hits_of of e (all_of all)))
+    (rest_refused of e r0 r1 c.args.cost.now now all (visited s e r (plain n)) c.loop-found.invariant.3 (subst (λ v. r1.sure < length (hits_of of e (all_of v))) (sym (leaf_and_below s e r n)) (z.in_parts c.in_ok-search_leaf.ensures.put at)))
+
+pub search_node-returns-in_err-search_parts-clause-grown : goal.search_node-returns-in_err-search_parts-clause-grown
+search_node-returns-in_err-search_parts-clause-grown g t c =
+    let r0 = g.C.Hits.held c.args.found.now in
+    let r1 = g.C.Hits.held c.loop-found.found in
+    let r2 = g.C.Hits.held c.search_leaf.new.found in
+    let r3 = g.C.Hits.held c.search_parts.new.found in
+    let one = grows_both r0 r1 r2 c.loop-found.invariant.3.put.grown c.search_leaf.ensures.grown in
+    grows_both r0 r2 r3 one c.search_parts.ensures.grown
 
 pub search_node-search_half-requires : goal.search_node-search_half-requires
 search_node-search_half-requires g t c =
     let s = c.args.s.now in
     let e = c.args.e.now in
-    let r = c.args.range in
-    let n = c.args.n.now in
-    let was = c.args.cost.now in
-    let leaf = c.plus.ensures ∙ ap (λ q. cost (was.visits + q.visits) (was.tested + q.tested)) c.leaf_cost.ensures in
-    let lo = c.lower_range-lower in
-    let hi = c.upper_range-upper in
-    let b = c.holds_value-in_low in
-    let d = c.holds_value-in_high in
-    let is : c.chosen_range.result ≡ cond b.result lo.result hi.result = c.chosen_range.ensures ∙ ap₂ (cond b.result) (sym lo.ensures.range) (sym hi.ensures.range) in
-    let in_half = in_chosen s e r n b.result d.result lo.result hi.result c.chosen_range.result c.chosen-half.result.now lo.ensures.range hi.ensures.range b.ensures.value d.ensures.value c.if-in_low-in_high.true is c.chosen-half.ensures in
-    let countable = halves_countable_with s e r n was c.plus.result c.search_parts.new.cost c.as_slice.result.now c.requires.countable c.as_slice.ensures.value leaf c.in_ok-search_parts.ensures.cost in
-    let P : NodeRange → Type 0 = λ q. (is_rising q ≡ true) × (holds_value e q ≡ true) in
-    let holds = subst P (sym is) (one_passes P b.result d.result lo.result hi.result c.if-in_low-in_high.true (λ k. (b.ensures.rising k, sym b.ensures.value ∙ k)) (λ k. (d.ensures.rising k, sym d.ensures.value ∙ k))) in
-    let bounded : is_bounded c.chosen_range.result ≡ true = subst (λ q. is_bounded q ≡ true) (sym is) (of_either (λ q. is_bounded q ≡ true) b.result lo.result hi.result lo.ensures.bounded hi.ensures.bounded) in
-    let falls : half_size c.chosen-half.result.now < t = subst (λ q. half_size q < t) (sym c.chosen-half.ensures) (of_either (λ q. half_size q < t) b.result (out-Node n).low (out-Node n).high (search (rules, the_lemmas)) (search (rules, the_lemmas))) in
-    let rising : is_rising c.chosen_range.result ≡ true = holds.0 in
-    let held : holds_value e c.chosen_range.result ≡ true = holds.1 in
-    let counted : AreCountableWith c.search_parts.new.cost (visited_in_half s e c.chosen_range.result (half_as c.chosen-half.result.now)) = subst (AreCountableWith c.search_parts.new.cost) (sym in_half) countable in
-    search (rules, the_lemmas)
-
-pub search_node-returns-then-in_low-in_high-clause-put : goal.search_node-returns-then-in_low-in_high-clause-put
-search_node-returns-then-in_low-in_high-clause-put g t c =
-    let s = c.args.s.now in
-    let e = c.args.e.now in
-    let r = c.args.range in
-    let n = c.args.n.now in
-    let lo = c.lower_range-lower in
-    let hi = c.upper_range-upper in
-    let b = c.holds_value-in_low in
-    let d = c.holds_value-in_high in
-    let is : c.chosen_range.result ≡ cond b.result lo.result hi.result = c.chosen_range.ensures ∙ ap₂ (cond b.result) (sym lo.ensures.range) (sym hi.ensures.range) in
-    let in_half = in_chosen s e r n b.result d.result lo.result hi.result c.chosen_range.result c.chosen-half.result.now lo.ensures.range hi.ensures.range b.ensures.value d.ensures.value c.if-in_low-in_high.true is c.chosen-half.ensures in
-    let r0 = g.C.Hits.held c.args.found.now in
-    let r1 = g.C.Hits.held c.search_leaf.new.found in
-    let r2 = g.C.Hits.held c.search_parts.new.found in
-    let in_parts = subst (λ ps. Adds r1 r2 (hits_of g.C.Hits.item_of e (all_of (visited_in_parts s e (parts_as ps))))) c.as_slice.ensures.value c.in_ok-search_parts.ensures.put in
-    let p = visited_in_parts s e (parts_as (out-Node n).parts.items) in
-    let of = g.C.Hits.item_of in
-    let is = g.C.Hits.held c.search_half.new.found in
-    on_ok_weaker c.search_half.result
-    (λ k. subst (λ v. Adds r0 is (hits_of of e (all_of v))) (sym (leaf_and_below s e r n)) (put_levels of e r0 r1 r2 is (out-Node n).leaf p (visited_in_halves s e r n) c.in_ok-search_leaf.ensures.put in_parts (subst (λ v. Adds r2 is (hits_of of e (all_of v))) in_half k)))
-    c.search_half.ensures.put
-
-pub search_node-returns-then-in_low-in_high-clause-refused : goal.search_node-returns-then-in_low-in_high-clause-refused
-search_node-returns-then-in_low-in_high-clause-refused g t c =
-    let s = c.args.s.now in
-    let e = c.args.e.now in
-    let r = c.args.range in
-    let n = c.args.n.now in
-    let lo = c.lower_range-lower in
-    let hi = c.upper_range-upper in
-    let b = c.holds_value-in_low in
-    let d = c.holds_value-in_high in
-    let is : c.chosen_range.result ≡ cond b.result lo.result hi.result = c.chosen_range.ensures ∙ ap₂ (cond b.result) (sym lo.ensures.range) (sym hi.ensures.range) in
-    let in_half = in_chosen s e r n b.result d.result lo.result hi.result c.chosen_range.result c.chosen-half.result.now lo.ensures.range hi.ensures.range b.ensures.value d.ensures.value c.if-in_low-in_high.true is c.chosen-half.ensures in
+    let r = c.loop-found.within in
+    let n = c.loop-found.here.now in
     let of = g.C.Hits.item_of in
     let r0 = g.C.Hits.held c.args.found.now in
-    let r1 = g.C.Hits.held c.search_leaf.new.found in
-    let r2 = g.C.Hits.held c.search_parts.new.found in
-    let in_parts = subst (λ ps. Adds r1 r2 (hits_of of e (all_of (visited_in_parts s e (parts_as ps))))) c.as_slice.ensures.value c.in_ok-search_parts.ensures.put in
-    let z = no_room_in_node of e r0 r1 r2 (out-Node n).leaf (visited_in_parts s e (parts_as (out-Node n).parts.items)) (visited_in_halves s e r n) in
-    on_err_weaker c.search_half.result
-    (λ k. subst (λ v. r0.sure < length (hits_of of e (all_of v))) (sym (leaf_and_below s e r n)) (z.in_halves c.in_ok-search_leaf.ensures.put in_parts (subst (λ v. r2.sure < length (hits_of of e (all_of v))) in_half k)))
-    c.search_half.ensures.refused
-
-pub search_node-returns-then-in_low-in_high-clause-cost : goal.search_node-returns-then-in_low-in_high-clause-cost
-search_node-returns-then-in_low-in_high-clause-cost g t c =
-    let s = c.args.s.now in
-    let e = c.args.e.now in
-    let r = c.args.range in
-    let n = c.args.n.now in
+    let all = visited s e c.args.range (plain c.args.n.now) in
+    let now = c.loop-found.cost in
+    let r1 = g.C.Hits.held c.loop-found.found in
+    let leaf = c.plus.ensures ∙ ap (λ q. cost (now.visits + q.visits) (now.tested + q.tested)) c.leaf_cost.ensures in
+    let r2 = g.C.Hits.held c.search_leaf.new.found in
+    let r3 = g.C.Hits.held c.search_parts.new.found in
     let was = c.args.cost.now in
-    let leaf = c.plus.ensures ∙ ap (λ q. cost (was.visits + q.visits) (was.tested + q.tested)) c.leaf_cost.ensures in
+    let is = c.search_parts.new.cost in
+    let below : IsDescending of e r0 r3 was is all (visited_in_halves s e r n) =
+    halves_left of e s r n r0 r1 r2 r3 was now c.plus.result is c.as_slice.result.now all c.loop-found.invariant.3 c.as_slice.ensures.value leaf c.in_ok-search_parts.ensures.cost c.in_ok-search_leaf.ensures.put c.in_ok-search_leaf.ensures.grown c.in_ok-search_parts.ensures.put c.in_ok-search_parts.ensures.grown in
     let lo = c.lower_range-lower in
-    let hi = c.upper_range-upper in
     let b = c.holds_value-in_low in
-    let d = c.holds_value-in_high in
-    let is : c.chosen_range.result ≡ cond b.result lo.result hi.result = c.chosen_range.ensures ∙ ap₂ (cond b.result) (sym lo.ensures.range) (sym hi.ensures.range) in
-    let in_half = in_chosen s e r n b.result d.result lo.result hi.result c.chosen_range.result c.chosen-half.result.now lo.ensures.range hi.ensures.range b.ensures.value d.ensures.value c.if-in_low-in_high.true is c.chosen-half.ensures in
-    on_ok_weaker c.search_half.result
-    (λ k. node_counted s e r n was c.plus.result c.search_parts.new.cost c.search_half.new.cost c.as_slice.result.now c.requires.countable c.as_slice.ensures.value leaf c.in_ok-search_parts.ensures.cost (k ∙ ap (cost_with c.search_parts.new.cost) in_half))
-    c.search_half.ensures.cost
-
-pub search_node-search_half-requires-then-in_low : goal.search_node-search_half-requires-then-in_low
-search_node-search_half-requires-then-in_low g t c =
-    let s = c.args.s.now in
-    let e = c.args.e.now in
-    let r = c.args.range in
-    let n = c.args.n.now in
-    let was = c.args.cost.now in
-    let leaf = c.plus.ensures ∙ ap (λ q. cost (was.visits + q.visits) (was.tested + q.tested)) c.leaf_cost.ensures in
-    let lo = c.lower_range-lower in
-    let hi = c.upper_range-upper in
-    let b = c.holds_value-in_low in
-    let d = c.holds_value-in_high in
-    let countable = halves_countable_with s e r n was c.plus.result c.search_parts.new.cost c.as_slice.result.now c.requires.countable c.as_slice.ensures.value leaf c.in_ok-search_parts.ensures.cost in
     let l = visited_in_half s e (lower r) (half_as (out-Node n).low) in
     let h = visited_in_half s e (upper r) (half_as (out-Node n).high) in
     let held : holds_value e lo.result ≡ true = sym b.ensures.value ∙ c.if-in_low.true in
-    let counted : AreCountableWith c.search_parts.new.cost (visited_in_half s e lo.result (half_as (out-Node n).low)) =
-    subst (λ q. AreCountableWith c.search_parts.new.cost (visited_in_half s e q (half_as (out-Node n).low))) (sym lo.ensures.range) (first_countable c.search_parts.new.cost l h countable) in
-    search (rules, the_lemmas)
-
-pub search_node-search_half-requires-then-in_low-2 : goal.search_node-search_half-requires-then-in_low-2
-search_node-search_half-requires-then-in_low-2 g t c =
-    let s = c.args.s.now in
-    let e = c.args.e.now in
-    let r = c.args.range in
-    let n = c.args.n.now in
-    let was = c.args.cost.now in
-    let leaf = c.plus.ensures ∙ ap (λ q. cost (was.visits + q.visits) (was.tested + q.tested)) c.leaf_cost.ensures in
-    let lo = c.lower_range-lower in
-    let hi = c.upper_range-upper in
-    let b = c.holds_value-in_low in
-    let d = c.holds_value-in_high in
-    let countable = halves_countable_with s e r n was c.plus.result c.search_parts.new.cost c.as_slice.result.now c.requires.countable c.as_slice.ensures.value leaf c.in_ok-search_parts.ensures.cost in
-    let l = visited_in_half s e (lower r) (half_as (out-Node n).low) in
-    let h = visited_in_half s e (upper r) (half_as (out-Node n).high) in
-    let low_cost = c.in_ok-search_half.ensures.cost ∙ ap (λ q. cost_with c.search_parts.new.cost (visited_in_half s e q (half_as (out-Node n).low))) lo.ensures.range in
-    let holds : d.result ≡ true = same b.result d.result c.if-in_low-in_high.false ∙ c.if-in_low.true in
-    let rising : is_rising hi.result ≡ true = d.ensures.rising holds in
-    let held : holds_value e hi.result ≡ true = sym d.ensures.value ∙ holds in
-    let counted : AreCountableWith c.search_half-then-in_low.new.cost (visited_in_half s e hi.result (half_as (out-Node n).high)) =
-    subst (λ q. AreCountableWith c.search_half-then-in_low.new.cost (visited_in_half s e q (half_as (out-Node n).high))) (sym hi.ensures.range) (second_countable c.search_parts.new.cost c.search_half-then-in_low.new.cost l h countable low_cost) in
+    let counted : AreCountableWith is (visited_in_half s e lo.result (half_as (out-Node n).low)) =
+    subst (λ q. AreCountableWith is (visited_in_half s e q (half_as (out-Node n).low))) (sym lo.ensures.range) (first_countable is l h (rest_countable of e r0 r3 was is all (l ++ h) below c.requires.countable)) in
+    let deep = c.loop-found.invariant.0 in
     search (rules, the_lemmas)
 
 pub search_node-returns-in_err-search_half-clause-refused : goal.search_node-returns-in_err-search_half-clause-refused
 search_node-returns-in_err-search_half-clause-refused g t c =
     let s = c.args.s.now in
     let e = c.args.e.now in
-    let r = c.args.range in
-    let n = c.args.n.now in
+    let r = c.loop-found.within in
+    let n = c.loop-found.here.now in
+    let of = g.C.Hits.item_of in
+    let r0 = g.C.Hits.held c.args.found.now in
+    let all = visited s e c.args.range (plain c.args.n.now) in
+    let now = c.loop-found.cost in
+    let r1 = g.C.Hits.held c.loop-found.found in
+    let leaf = c.plus.ensures ∙ ap (λ q. cost (now.visits + q.visits) (now.tested + q.tested)) c.leaf_cost.ensures in
+    let r2 = g.C.Hits.held c.search_leaf.new.found in
+    let r3 = g.C.Hits.held c.search_parts.new.found in
+    let was = c.args.cost.now in
+    let is = c.search_parts.new.cost in
+    let below : IsDescending of e r0 r3 was is all (visited_in_halves s e r n) =
+    halves_left of e s r n r0 r1 r2 r3 was now c.plus.result is c.as_slice.result.now all c.loop-found.invariant.3 c.as_slice.ensures.value leaf c.in_ok-search_parts.ensures.cost c.in_ok-search_leaf.ensures.put c.in_ok-search_leaf.ensures.grown c.in_ok-search_parts.ensures.put c.in_ok-search_parts.ensures.grown in
+    let lo = c.lower_range-lower in
+    let l = visited_in_half s e (lower r) (half_as (out-Node n).low) in
+    let h = visited_in_half s e (upper r) (half_as (out-Node n).high) in
+    let at = subst (λ q. r3.sure < length (hits_of of e (all_of (visited_in_half s e q (half_as (out-Node n).low))))) lo.ensures.range c.in_err-search_half.ensures.refused in
+    on_refusal c.from_residual-in_err-search_half.result (r0.sure < length (hits_of of e (all_of all))) (rest_refused of e r0 r3 was is all (l ++ h) below (no_room_in_first of e r3 l h at))
+
+pub search_node-returns-in_err-search_half-clause-grown : goal.search_node-returns-in_err-search_half-clause-grown
+search_node-returns-in_err-search_half-clause-grown g t c =
+    let r0 = g.C.Hits.held c.args.found.now in
+    let r1 = g.C.Hits.held c.loop-found.found in
+    let r2 = g.C.Hits.held c.search_leaf.new.found in
+    let r3 = g.C.Hits.held c.search_parts.new.found in
+    let one = grows_both r0 r1 r2 c.loop-found.invariant.3.put.grown c.search_leaf.ensures.grown in
+    let two = grows_both r0 r2 r3 one c.search_parts.ensures.grown in
+    let r4 = g.C.Hits.held c.search_half.new.found in
+    grows_both r0 r3 r4 two c.search_half.ensures.grown
+
+pub search_node-search_half-requires-then-in_low : goal.search_node-search_half-requires-then-in_low
+search_node-search_half-requires-then-in_low g t c =
+    let s = c.args.s.now in
+    let e = c.args.e.now in
+    let r = c.loop-found.within in
+    let n = c.loop-found.here.now in
+    let of = g.C.Hits.item_of in
+    let r0 = g.C.Hits.held c.args.found.now in
+    let all = visited s e c.args.range (plain c.args.n.now) in
+    let now = c.loop-found.cost in
+    let r1 = g.C.Hits.held c.loop-found.found in
+    let leaf = c.plus.ensures ∙ ap (λ q. cost (now.visits + q.visits) (now.tested + q.tested)) c.leaf_cost.ensures in
+    let r2 = g.C.Hits.held c.search_leaf.new.found in
+    let r3 = g.C.Hits.held c.search_parts.new.found in
+    let was = c.args.cost.now in
+    let is = c.search_parts.new.cost in
+    let below : IsDescending of e r0 r3 was is all (visited_in_halves s e r n) =
+    halves_left of e s r n r0 r1 r2 r3 was now c.plus.result is c.as_slice.result.now all c.loop-found.invariant.3 c.as_slice.ensures.value leaf c.in_ok-search_parts.ensures.cost c.in_ok-search_leaf.ensures.put c.in_ok-search_leaf.ensures.grown c.in_ok-search_parts.ensures.put c.in_ok-search_parts.ensures.grown in
     let lo = c.lower_range-lower in
     let hi = c.upper_range-upper in
     let b = c.holds_value-in_low in
     let d = c.holds_value-in_high in
-    let of = g.C.Hits.item_of in
-    let r0 = g.C.Hits.held c.args.found.now in
-    let r1 = g.C.Hits.held c.search_leaf.new.found in
-    let r2 = g.C.Hits.held c.search_parts.new.found in
-    let in_parts = subst (λ ps. Adds r1 r2 (hits_of of e (all_of (visited_in_parts s e (parts_as ps))))) c.as_slice.ensures.value c.in_ok-search_parts.ensures.put in
-    let z = no_room_in_node of e r0 r1 r2 (out-Node n).leaf (visited_in_parts s e (parts_as (out-Node n).parts.items)) (visited_in_halves s e r n) in
     let l = visited_in_half s e (lower r) (half_as (out-Node n).low) in
     let h = visited_in_half s e (upper r) (half_as (out-Node n).high) in
-    let at = subst (λ q. r2.sure < length (hits_of of e (all_of (visited_in_half s e q (half_as (out-Node n).low))))) lo.ensures.range c.in_err-search_half.ensures.refused in
-    on_refusal c.from_residual-in_err-search_half.result (r0.sure < length (hits_of of e (all_of (visited s e r (plain n)))))
-    (subst (λ v. r0.sure < length (hits_of of e (all_of v))) (sym (leaf_and_below s e r n)) (z.in_halves c.in_ok-search_leaf.ensures.put in_parts (no_room_in_first of e r2 l h at)))
+    let low_cost = c.in_ok-search_half.ensures.cost ∙ ap (λ q. cost_with is (visited_in_half s e q (half_as (out-Node n).low))) lo.ensures.range in
+    let low = c.search_half.new.cost in
+    let holds : d.result ≡ true = same b.result d.result c.if-in_low-in_high.true ∙ c.if-in_low.true in
+    let rising : is_rising hi.result ≡ true = d.ensures.rising holds in
+    let held : holds_value e hi.result ≡ true = sym d.ensures.value ∙ holds in
+    let counted : AreCountableWith low (visited_in_half s e hi.result (half_as (out-Node n).high)) =
+    subst (λ q. AreCountableWith low (visited_in_half s e q (half_as (out-Node n).high))) (sym hi.ensures.range) (second_countable is low l h (rest_countable of e r0 r3 was is all (l ++ h) below c.requires.countable) low_cost) in
+    let deep = c.loop-found.invariant.0 in
+    search (rules, the_lemmas)
 
 pub search_node-returns-in_err-search_half-2-clause-refused : goal.search_node-returns-in_err-search_half-2-clause-refused
 search_node-returns-in_err-search_half-2-clause-refused g t c =
     let s = c.args.s.now in
     let e = c.args.e.now in
-    let r = c.args.range in
-    let n = c.args.n.now in
-    let lo = c.lower_range-lower in
-    let hi = c.upper_range-upper in
-    let b = c.holds_value-in_low in
-    let d = c.holds_value-in_high in
+    let r = c.loop-found.within in
+    let n = c.loop-found.here.now in
     let of = g.C.Hits.item_of in
     let r0 = g.C.Hits.held c.args.found.now in
-    let r1 = g.C.Hits.held c.search_leaf.new.found in
-    let r2 = g.C.Hits.held c.search_parts.new.found in
-    let in_parts = subst (λ ps. Adds r1 r2 (hits_of of e (all_of (visited_in_parts s e (parts_as ps))))) c.as_slice.ensures.value c.in_ok-search_parts.ensures.put in
-    let z = no_room_in_node of e r0 r1 r2 (out-Node n).leaf (visited_in_parts s e (parts_as (out-Node n).parts.items)) (visited_in_halves s e r n) in
+    let all = visited s e c.args.range (plain c.args.n.now) in
+    let now = c.loop-found.cost in
+    let r1 = g.C.Hits.held c.loop-found.found in
+    let leaf = c.plus.ensures ∙ ap (λ q. cost (now.visits + q.visits) (now.tested + q.tested)) c.leaf_cost.ensures in
+    let r2 = g.C.Hits.held c.search_leaf.new.found in
+    let r3 = g.C.Hits.held c.search_parts.new.found in
+    let was = c.args.cost.now in
+    let is = c.search_parts.new.cost in
+    let below : IsDescending of e r0 r3 was is all (visited_in_halves s e r n) =
+    halves_left of e s r n r0 r1 r2 r3 was now c.plus.result is c.as_slice.result.now all c.loop-found.invariant.3 c.as_slice.ensures.value leaf c.in_ok-search_parts.ensures.cost c.in_ok-search_leaf.ensures.put c.in_ok-search_leaf.ensures.grown c.in_ok-search_parts.ensures.put c.in_ok-search_parts.ensures.grown in
+    let lo = c.lower_range-lower in
+    let hi = c.upper_range-upper in
     let l = visited_in_half s e (lower r) (half_as (out-Node n).low) in
     let h = visited_in_half s e (upper r) (half_as (out-Node n).high) in
-    let r3 = g.C.Hits.held c.search_half-then-in_low.new.found in
-    let low = subst (λ q. Adds r2 r3 (hits_of of e (all_of (visited_in_half s e q (half_as (out-Node n).low))))) lo.ensures.range c.in_ok-search_half.ensures.put in
-    let at = subst (λ q. r3.sure < length (hits_of of e (all_of (visited_in_half s e q (half_as (out-Node n).high))))) hi.ensures.range c.in_err-search_half-2.ensures.refused in
-    on_refusal c.from_residual-in_err-search_half-2.result (r0.sure < length (hits_of of e (all_of (visited s e r (plain n)))))
-    (subst (λ v. r0.sure < length (hits_of of e (all_of v))) (sym (leaf_and_below s e r n)) (z.in_halves c.in_ok-search_leaf.ensures.put in_parts (no_room_in_second of e r2 r3 l h low at)))
+    let r4 = g.C.Hits.held c.search_half.new.found in
+    let low = subst (λ q. Adds r3 r4 (hits_of of e (all_of (visited_in_half s e q (half_as (out-Node n).low))))) lo.ensures.range c.in_ok-search_half.ensures.put in
+    let at = subst (λ q. r4.sure < length (hits_of of e (all_of (visited_in_half s e q (half_as (out-Node n).high))))) hi.ensures.range c.in_err-search_half-2.ensures.refused in
+    on_refusal c.from_residual-in_err-search_half-2.result (r0.sure < length (hits_of of e (all_of all))) (rest_refused of e r0 r3 was is all (l ++ h) below (no_room_in_second of e r3 r4 l h low at))
+
+pub search_node-returns-in_err-search_half-2-clause-grown : goal.search_node-returns-in_err-search_half-2-clause-grown
+search_node-returns-in_err-search_half-2-clause-grown g t c =
+    let r0 = g.C.Hits.held c.args.found.now in
+    let r1 = g.C.Hits.held c.loop-found.found in
+    let r2 = g.C.Hits.held c.search_leaf.new.found in
+    let r3 = g.C.Hits.held c.search_parts.new.found in
+    let one = grows_both r0 r1 r2 c.loop-found.invariant.3.put.grown c.search_leaf.ensures.grown in
+    let two = grows_both r0 r2 r3 one c.search_parts.ensures.grown in
+    let r4 = g.C.Hits.held c.search_half.new.found in
+    let three = grows_both r0 r3 r4 two c.search_half.ensures.grown in
+    let r5 = g.C.Hits.held c.search_half-then-in_low.new.found in
+    grows_both r0 r4 r5 three c.search_half-then-in_low.ensures.grown
 
 pub search_node-returns-in_ok-search_half-2-clause-put : goal.search_node-returns-in_ok-search_half-2-clause-put
 search_node-returns-in_ok-search_half-2-clause-put g t c =
     let s = c.args.s.now in
     let e = c.args.e.now in
-    let r = c.args.range in
-    let n = c.args.n.now in
+    let r = c.loop-found.within in
+    let n = c.loop-found.here.now in
+    let of = g.C.Hits.item_of in
+    let r0 = g.C.Hits.held c.args.found.now in
+    let all = visited s e c.args.range (plain c.args.n.now) in
+    let now = c.loop-found.cost in
+    let r1 = g.C.Hits.held c.loop-found.found in
+    let leaf = c.plus.ensures ∙ ap (λ q. cost (now.visits + q.visits) (now.tested + q.tested)) c.leaf_cost.ensures in
+    let r2 = g.C.Hits.held c.search_leaf.new.found in
+    let r3 = g.C.Hits.held c.search_parts.new.found in
+    let was = c.args.cost.now in
+    let is = c.search_parts.new.cost in
+    let below : IsDescending of e r0 r3 was is all (visited_in_halves s e r n) =
+    halves_left of e s r n r0 r1 r2 r3 was now c.plus.result is c.as_slice.result.now all c.loop-found.invariant.3 c.as_slice.ensures.value leaf c.in_ok-search_parts.ensures.cost c.in_ok-search_leaf.ensures.put c.in_ok-search_leaf.ensures.grown c.in_ok-search_parts.ensures.put c.in_ok-search_parts.ensures.grown in
     let lo = c.lower_range-lower in
     let hi = c.upper_range-upper in
-    let b = c.holds_value-in_low in
-    let d = c.holds_value-in_high in
-    let r0 = g.C.Hits.held c.args.found.now in
-    let r1 = g.C.Hits.held c.search_leaf.new.found in
-    let r2 = g.C.Hits.held c.search_parts.new.found in
-    let in_parts = subst (λ ps. Adds r1 r2 (hits_of g.C.Hits.item_of e (all_of (visited_in_parts s e (parts_as ps))))) c.as_slice.ensures.value c.in_ok-search_parts.ensures.put in
-    let p = visited_in_parts s e (parts_as (out-Node n).parts.items) in
     let l = visited_in_half s e (lower r) (half_as (out-Node n).low) in
     let h = visited_in_half s e (upper r) (half_as (out-Node n).high) in
-    let r3 = g.C.Hits.held c.search_half-then-in_low.new.found in
-    let r4 = g.C.Hits.held c.search_half-then-in_low-2.new.found in
-    let of = g.C.Hits.item_of in
-    let low = subst (λ q. Adds r2 r3 (hits_of of e (all_of (visited_in_half s e q (half_as (out-Node n).low))))) lo.ensures.range c.in_ok-search_half.ensures.put in
-    let high = subst (λ q. Adds r3 r4 (hits_of of e (all_of (visited_in_half s e q (half_as (out-Node n).high))))) hi.ensures.range c.in_ok-search_half-2.ensures.put in
-    subst (λ v. Adds r0 r4 (hits_of of e (all_of v))) (sym (leaf_and_below s e r n)) (put_levels of e r0 r1 r2 r4 (out-Node n).leaf p (visited_in_halves s e r n) c.in_ok-search_leaf.ensures.put in_parts (put_both of e r2 r3 r4 l h low high))
+    let r4 = g.C.Hits.held c.search_half.new.found in
+    let low = subst (λ q. Adds r3 r4 (hits_of of e (all_of (visited_in_half s e q (half_as (out-Node n).low))))) lo.ensures.range c.in_ok-search_half.ensures.put in
+    let r5 = g.C.Hits.held c.search_half-then-in_low.new.found in
+    let high = subst (λ q. Adds r4 r5 (hits_of of e (all_of (visited_in_half s e q (half_as (out-Node n).high))))) hi.ensures.range c.in_ok-search_half-2.ensures.put in
+    rest_put of e r0 r3 r5 was is all (l ++ h) below (put_both of e r3 r4 r5 l h low high)
 
 pub search_node-returns-in_ok-search_half-2-clause-cost : goal.search_node-returns-in_ok-search_half-2-clause-cost
 search_node-returns-in_ok-search_half-2-clause-cost g t c =
     let s = c.args.s.now in
     let e = c.args.e.now in
-    let r = c.args.range in
-    let n = c.args.n.now in
+    let r = c.loop-found.within in
+    let n = c.loop-found.here.now in
+    let of = g.C.Hits.item_of in
+    let r0 = g.C.Hits.held c.args.found.now in
+    let all = visited s e c.args.range (plain c.args.n.now) in
+    let now = c.loop-found.cost in
+    let r1 = g.C.Hits.held c.loop-found.found in
+    let leaf = c.plus.ensures ∙ ap (λ q. cost (now.visits + q.visits) (now.tested + q.tested)) c.leaf_cost.ensures in
+    let r2 = g.C.Hits.held c.search_leaf.new.found in
+    let r3 = g.C.Hits.held c.search_parts.new.found in
     let was = c.args.cost.now in
-    let leaf = c.plus.ensures ∙ ap (λ q. cost (was.visits + q.visits) (was.tested + q.tested)) c.leaf_cost.ensures in
+    let is = c.search_parts.new.cost in
+    let below : IsDescending of e r0 r3 was is all (visited_in_halves s e r n) =
+    halves_left of e s r n r0 r1 r2 r3 was now c.plus.result is c.as_slice.result.now all c.loop-found.invariant.3 c.as_slice.ensures.value leaf c.in_ok-search_parts.ensures.cost c.in_ok-search_leaf.ensures.put c.in_ok-search_leaf.ensures.grown c.in_ok-search_parts.ensures.put c.in_ok-search_parts.ensures.grown in
     let lo = c.lower_range-lower in
     let hi = c.upper_range-upper in
-    let b = c.holds_value-in_low in
-    let d = c.holds_value-in_high in
     let l = visited_in_half s e (lower r) (half_as (out-Node n).low) in
     let h = visited_in_half s e (upper r) (half_as (out-Node n).high) in
-    let low_cost = c.in_ok-search_half.ensures.cost ∙ ap (λ q. cost_with c.search_parts.new.cost (visited_in_half s e q (half_as (out-Node n).low))) lo.ensures.range in
-    let high_cost = c.in_ok-search_half-2.ensures.cost ∙ ap (λ q. cost_with c.search_half-then-in_low.new.cost (visited_in_half s e q (half_as (out-Node n).high))) hi.ensures.range in
-    node_counted s e r n was c.plus.result c.search_parts.new.cost c.search_half-then-in_low-2.new.cost c.as_slice.result.now c.requires.countable c.as_slice.ensures.value leaf c.in_ok-search_parts.ensures.cost (both_counted c.search_parts.new.cost c.search_half-then-in_low.new.cost c.search_half-then-in_low-2.new.cost l h low_cost high_cost)
+    let low_cost = c.in_ok-search_half.ensures.cost ∙ ap (λ q. cost_with is (visited_in_half s e q (half_as (out-Node n).low))) lo.ensures.range in
+    let high_cost = c.in_ok-search_half-2.ensures.cost ∙ ap (λ q. cost_with c.search_half.new.cost (visited_in_half s e q (half_as (out-Node n).high))) hi.ensures.range in
+    rest_counted of e r0 r3 was is c.search_half-then-in_low.new.cost all (l ++ h) below (both_counted is c.search_half.new.cost c.search_half-then-in_low.new.cost l h low_cost high_cost)
+
+pub search_node-returns-in_ok-search_half-2-clause-grown : goal.search_node-returns-in_ok-search_half-2-clause-grown
+search_node-returns-in_ok-search_half-2-clause-grown g t c =
+    let r0 = g.C.Hits.held c.args.found.now in
+    let r1 = g.C.Hits.held c.loop-found.found in
+    let r2 = g.C.Hits.held c.search_leaf.new.found in
+    let r3 = g.C.Hits.held c.search_parts.new.found in
+    let one = grows_both r0 r1 r2 c.loop-found.invariant.3.put.grown c.search_leaf.ensures.grown in
+    let two = grows_both r0 r2 r3 one c.search_parts.ensures.grown in
+    let r4 = g.C.Hits.held c.search_half.new.found in
+    let three = grows_both r0 r3 r4 two c.search_half.ensures.grown in
+    let r5 = g.C.Hits.held c.search_half-then-in_low.new.found in
+    grows_both r0 r4 r5 three c.search_half-then-in_low.ensures.grown
 
 pub search_node-returns-else-in_low-clause-put : goal.search_node-returns-else-in_low-clause-put
 search_node-returns-else-in_low-clause-put g t c =
     let s = c.args.s.now in
     let e = c.args.e.now in
-    let r = c.args.range in
-    let n = c.args.n.now in
+    let r = c.loop-found.within in
+    let n = c.loop-found.here.now in
+    let of = g.C.Hits.item_of in
+    let r0 = g.C.Hits.held c.args.found.now in
+    let all = visited s e c.args.range (plain c.args.n.now) in
+    let now = c.loop-found.cost in
+    let r1 = g.C.Hits.held c.loop-found.found in
+    let leaf = c.plus.ensures ∙ ap (λ q. cost (now.visits + q.visits) (now.tested + q.tested)) c.leaf_cost.ensures in
+    let r2 = g.C.Hits.held c.search_leaf.new.found in
+    let r3 = g.C.Hits.held c.search_parts.new.found in
+    let was = c.args.cost.now in
+    let is = c.search_parts.new.cost in
+    let below : IsDescending of e r0 r3 was is all (visited_in_halves s e r n) =
+    halves_left of e s r n r0 r1 r2 r3 was now c.plus.result is c.as_slice.result.now all c.loop-found.invariant.3 c.as_slice.ensures.value leaf c.in_ok-search_parts.ensures.cost c.in_ok-search_leaf.ensures.put c.in_ok-search_leaf.ensures.grown c.in_ok-search_parts.ensures.put c.in_ok-search_parts.ensures.grown in
     let lo = c.lower_range-lower in
     let hi = c.upper_range-upper in
     let b = c.holds_value-in_low in
     let d = c.holds_value-in_high in
-    let none = in_neither s e r n b.result d.result lo.result hi.result lo.ensures.range hi.ensures.range b.ensures.value d.ensures.value c.if-in_low-in_high.false c.if-in_low.false in
-    let r0 = g.C.Hits.held c.args.found.now in
-    let r1 = g.C.Hits.held c.search_leaf.new.found in
-    let r2 = g.C.Hits.held c.search_parts.new.found in
-    let in_parts = subst (λ ps. Adds r1 r2 (hits_of g.C.Hits.item_of e (all_of (visited_in_parts s e (parts_as ps))))) c.as_slice.ensures.value c.in_ok-search_parts.ensures.put in
-    let p = visited_in_parts s e (parts_as (out-Node n).parts.items) in
-    let of = g.C.Hits.item_of in
-    subst (λ v. Adds r0 r2 (hits_of of e (all_of v))) (sym (leaf_and_below s e r n)) (put_levels of e r0 r1 r2 r2 (out-Node n).leaf p (visited_in_halves s e r n) c.in_ok-search_leaf.ensures.put in_parts (subst (λ v. Adds r2 r2 (hits_of of e (all_of v))) (sym none) (adds_none r2)))
+    let none = in_neither s e r n b.result d.result lo.result hi.result lo.ensures.range hi.ensures.range b.ensures.value d.ensures.value c.if-in_low-in_high.true c.if-in_low.false in
+    nothing_put of e r0 r3 was is all (visited_in_halves s e r n) below none
 
 pub search_node-returns-else-in_low-clause-cost : goal.search_node-returns-else-in_low-clause-cost
 search_node-returns-else-in_low-clause-cost g t c =
     let s = c.args.s.now in
     let e = c.args.e.now in
-    let r = c.args.range in
-    let n = c.args.n.now in
+    let r = c.loop-found.within in
+    let n = c.loop-found.here.now in
+    let of = g.C.Hits.item_of in
+    let r0 = g.C.Hits.held c.args.found.now in
+    let all = visited s e c.args.range (plain c.args.n.now) in
+    let now = c.loop-found.cost in
+    let r1 = g.C.Hits.held c.loop-found.found in
+    let leaf = c.plus.ensures ∙ ap (λ q. cost (now.visits + q.visits) (now.tested + q.tested)) c.leaf_cost.ensures in
+    let r2 = g.C.Hits.held c.search_leaf.new.found in
+    let r3 = g.C.Hits.held c.search_parts.new.found in
     let was = c.args.cost.now in
-    let leaf = c.plus.ensures ∙ ap (λ q. cost (was.visits + q.visits) (was.tested + q.tested)) c.leaf_cost.ensures in
+    let is = c.search_parts.new.cost in
+    let below : IsDescending of e r0 r3 was is all (visited_in_halves s e r n) =
+    halves_left of e s r n r0 r1 r2 r3 was now c.plus.result is c.as_slice.result.now all c.loop-found.invariant.3 c.as_slice.ensures.value leaf c.in_ok-search_parts.ensures.cost c.in_ok-search_leaf.ensures.put c.in_ok-search_leaf.ensures.grown c.in_ok-search_parts.ensures.put c.in_ok-search_parts.ensures.grown in
     let lo = c.lower_range-lower in
     let hi = c.upper_range-upper in
     let b = c.holds_value-in_low in
     let d = c.holds_value-in_high in
-    let none = in_neither s e r n b.result d.result lo.result hi.result lo.ensures.range hi.ensures.range b.ensures.value d.ensures.value c.if-in_low-in_high.false c.if-in_low.false in
-    node_counted s e r n was c.plus.result c.search_parts.new.cost c.search_parts.new.cost c.as_slice.result.now c.requires.countable c.as_slice.ensures.value leaf c.in_ok-search_parts.ensures.cost (none_counted c.search_parts.new.cost ∙ ap (cost_with c.search_parts.new.cost) (sym none))
+    let none = in_neither s e r n b.result d.result lo.result hi.result lo.ensures.range hi.ensures.range b.ensures.value d.ensures.value c.if-in_low-in_high.true c.if-in_low.false in
+    nothing_counted of e r0 r3 was is all (visited_in_halves s e r n) below none
 
-pub search_node-returns-in_err-search_parts-clause-refused : goal.search_node-returns-in_err-search_parts-clause-refused
-search_node-returns-in_err-search_parts-clause-refused g t c =
+pub search_node-returns-else-in_low-clause-grown : goal.search_node-returns-else-in_low-clause-grown
+search_node-returns-else-in_low-clause-grown g t c =
+    let r0 = g.C.Hits.held c.args.found.now in
+    let r1 = g.C.Hits.held c.loop-found.found in
+    let r2 = g.C.Hits.held c.search_leaf.new.found in
+    let r3 = g.C.Hits.held c.search_parts.new.found in
+    let one = grows_both r0 r1 r2 c.loop-found.invariant.3.put.grown c.search_leaf.ensures.grown in
+    grows_both r0 r2 r3 one c.search_parts.ensures.grown
+
+pub search_node-returns-in-None-clause-put : goal.search_node-returns-in-None-clause-put
+search_node-returns-in-None-clause-put g t c =
     let s = c.args.s.now in
     let e = c.args.e.now in
-    let r = c.args.range in
-    let n = c.args.n.now in
+    let r = c.loop-found.within in
+    let n = c.loop-found.here.now in
     let of = g.C.Hits.item_of in
     let r0 = g.C.Hits.held c.args.found.now in
-    let r1 = g.C.Hits.held c.search_leaf.new.found in
-    let z = no_room_in_node of e r0 r1 r1 (out-Node n).leaf (visited_in_parts s e (parts_as (out-Node n).parts.items)) (visited_in_halves s e r n) in
-    on_refusal c.from_residual-in_err-search_parts.result (r0.sure < length (hits_of of e (all_of (visited s e r (plain n)))))
-    (subst (λ v. r0.sure < length (hits_of of e (all_of v))) (sym (leaf_and_below s e r n)) (z.in_parts c.in_ok-search_leaf.ensures.put (subst (λ ps. r1.sure < length (hits_of of e (all_of (visited_in_parts s e (parts_as ps))))) c.as_slice.ensures.value c.in_err-search_parts.ensures.refused)))
+    let all = visited s e c.args.range (plain c.args.n.now) in
+    let now = c.loop-found.cost in
+    let r1 = g.C.Hits.held c.loop-found.found in
+    let leaf = c.plus.ensures ∙ ap (λ q. cost (now.visits + q.visits) (now.tested + q.tested)) c.leaf_cost.ensures in
+    let r2 = g.C.Hits.held c.search_leaf.new.found in
+    let r3 = g.C.Hits.held c.search_parts.new.found in
+    let was = c.args.cost.now in
+    let is = c.search_parts.new.cost in
+    let below : IsDescending of e r0 r3 was is all (visited_in_halves s e r n) =
+    halves_left of e s r n r0 r1 r2 r3 was now c.plus.result is c.as_slice.result.now all c.loop-found.invariant.3 c.as_slice.ensures.value leaf c.in_ok-search_parts.ensures.cost c.in_ok-search_leaf.ensures.put c.in_ok-search_leaf.ensures.grown c.in_ok-search_parts.ensures.put c.in_ok-search_parts.ensures.grown in
+    let lo = c.lower_range-lower in
+    let hi = c.upper_range-upper in
+    let b = c.holds_value-in_low in
+    let d = c.holds_value-in_high in
+    let q = cond b.result lo.result hi.result in
+    let in_half = in_chosen s e r n b.result d.result lo.result hi.result q c.chosen.result.now lo.ensures.range hi.ensures.range b.ensures.value d.ensures.value c.if-in_low-in_high.false refl c.chosen.ensures in
+    let none = sym in_half ∙ ap (λ i. visited_in_half s e q (half_as i)) c.in-None.is in
+    nothing_put of e r0 r3 was is all (visited_in_halves s e r n) below none
+
+pub search_node-returns-in-None-clause-cost : goal.search_node-returns-in-None-clause-cost
+search_node-returns-in-None-clause-cost g t c =
+    let s = c.args.s.now in
+    let e = c.args.e.now in
+    let r = c.loop-found.within in
+    let n = c.loop-found.here.now in
+    let of = g.C.Hits.item_of in
+    let r0 = g.C.Hits.held c.args.found.now in
+    let all = visited s e c.args.range (plain c.args.n.now) in
+    let now = c.loop-found.cost in
+    let r1 = g.C.Hits.held c.loop-found.found in
+    let leaf = c.plus.ensures ∙ ap (λ q. cost (now.visits + q.visits) (now.tested + q.tested)) c.leaf_cost.ensures in
+    let r2 = g.C.Hits.held c.search_leaf.new.found in
+    let r3 = g.C.Hits.held c.search_parts.new.found in
+    let was = c.args.cost.now in
+    let is = c.search_parts.new.cost in
+    let below : IsDescending of e r0 r3 was is all (visited_in_halves s e r n) =
+    halves_left of e s r n r0 r1 r2 r3 was now c.plus.result is c.as_slice.result.now all c.loop-found.invariant.3 c.as_slice.ensures.value leaf c.in_ok-search_parts.ensures.cost c.in_ok-search_leaf.ensures.put c.in_ok-search_leaf.ensures.grown c.in_ok-search_parts.ensures.put c.in_ok-search_parts.ensures.grown in
+    let lo = c.lower_range-lower in
+    let hi = c.upper_range-upper in
+    let b = c.holds_value-in_low in
+    let d = c.holds_value-in_high in
+    let q = cond b.result lo.result hi.result in
+    let in_half = in_chosen s e r n b.result d.result lo.result hi.result q c.chosen.result.now lo.ensures.range hi.ensures.range b.ensures.value d.ensures.value c.if-in_low-in_high.false refl c.chosen.ensures in
+    let none = sym in_half ∙ ap (λ i. visited_in_half s e q (half_as i)) c.in-None.is in
+    nothing_counted of e r0 r3 was is all (visited_in_halves s e r n) below none
+
+pub search_node-returns-in-None-clause-grown : goal.search_node-returns-in-None-clause-grown
+search_node-returns-in-None-clause-grown g t c =
+    let r0 = g.C.Hits.held c.args.found.now in
+    let r1 = g.C.Hits.held c.loop-found.found in
+    let r2 = g.C.Hits.held c.search_leaf.new.found in
+    let r3 = g.C.Hits.held c.search_parts.new.found in
+    let one = grows_both r0 r1 r2 c.loop-found.invariant.3.put.grown c.search_leaf.ensures.grown in
+    grows_both r0 r2 r3 one c.search_parts.ensures.grown
+
+pub search_node-loop-found-preserved : goal.search_node-loop-found-preserved
+search_node-loop-found-preserved g t c =
+    let s = c.args.s.now in
+    let e = c.args.e.now in
+    let r = c.loop-found.within in
+    let n = c.loop-found.here.now in
+    let of = g.C.Hits.item_of in
+    let r0 = g.C.Hits.held c.args.found.now in
+    let all = visited s e c.args.range (plain c.args.n.now) in
+    let now = c.loop-found.cost in
+    let r1 = g.C.Hits.held c.loop-found.found in
+    let leaf = c.plus.ensures ∙ ap (λ q. cost (now.visits + q.visits) (now.tested + q.tested)) c.leaf_cost.ensures in
+    let r2 = g.C.Hits.held c.search_leaf.new.found in
+    let r3 = g.C.Hits.held c.search_parts.new.found in
+    let was = c.args.cost.now in
+    let is = c.search_parts.new.cost in
+    let below : IsDescending of e r0 r3 was is all (visited_in_halves s e r n) =
+    halves_left of e s r n r0 r1 r2 r3 was now c.plus.result is c.as_slice.result.now all c.loop-found.invariant.3 c.as_slice.ensures.value leaf c.in_ok-search_parts.ensures.cost c.in_ok-search_leaf.ensures.put c.in_ok-search_leaf.ensures.grown c.in_ok-search_parts.ensures.put c.in_ok-search_parts.ensures.grown in
+    let lo = c.lower_range-lower in
+    let hi = c.upper_range-upper in
+    let b = c.holds_value-in_low in
+    let d = c.holds_value-in_high in
+    let q = c.chosen_range-within.result in
+    let at : q ≡ cond b.result lo.result hi.result = c.chosen_range-within.ensures ∙ ap₂ (cond b.result) (sym lo.ensures.range) (sym hi.ensures.range) in
+    let in_half = in_chosen s e r n b.result d.result lo.result hi.result q c.chosen.result.now lo.ensures.range hi.ensures.range b.ensures.value d.ensures.value c.if-in_low-in_high.false at c.chosen.ensures in
+    let P : NodeRange → Type 0 = λ q. (is_rising q ≡ true) × (holds_value e q ≡ true) in
+    let holds = subst P (sym at) (one_passes P b.result d.result lo.result hi.result c.if-in_low-in_high.false (λ k. (b.ensures.rising k, sym b.ensures.value ∙ k)) (λ k. (d.ensures.rising k, sym d.ensures.value ∙ k))) in
+    let bounded : is_bounded q ≡ true = subst (λ q. is_bounded q ≡ true) (sym at) (of_either (λ q. is_bounded q ≡ true) b.result lo.result hi.result lo.ensures.bounded hi.ensures.bounded) in
+    let falls : the_size c.deref-here.result.now < the_size n = search (rules, the_lemmas) in
+    let next : visited_in_halves s e r n ≡ visited s e q (plain c.deref-here.result.now) =
+    sym in_half ∙ ap (λ i. visited_in_half s e q (half_as i)) c.in-Some.is ∙ ap (λ b. cond b (visited s e q (plain c.in-Some.half.value)) []) holds.1 ∙ ap (λ i. visited s e q (plain i)) (sym c.deref-here.ensures) in (
+      omega (arith, falls, c.loop-found.invariant.0),
+      bounded,
+      holds.0,
+      subst (IsDescending of e r0 r3 was is all) next below,
+    )
 
 pub search_part-search_node-requires : goal.search_part-search_node-requires
 search_part-search_node-requires g t c =
