@@ -1,13 +1,14 @@
 -- The tests that are all of a condition have ends that aren't turned.
-use Rattle.std.proofs.Common.{◌≡◌, ℕ, ℤ, pos, ◌+ℤ◌, ◌-ℤ◌, ◌≤ℤ◌, ◌<ℤ◌, ◌+◌, leb, Bool, true, false, ◌&&◌, ◌||◌, List, [], ◌∷◌, ◌++◌, length, is_some, Option, Some, None, option_map, option_and_then, cond, refl, sym, subst, arith}
+use Rattle.std.proofs.Common.{◌≡◌, ℤ, pos, ◌+ℤ◌, ◌-ℤ◌, ◌≤ℤ◌, ◌<ℤ◌, ◌+◌, leb, Bool, true, false, ◌&&◌, ◌||◌, List, [], ◌∷◌, ◌++◌, length, is_some, Option, Some, None, option_map, option_and_then, cond, refl, sym, subst, arith}
 use Rattle.be_model.specs.declared.ops.Op.{Op}
 use Rattle.be_model.specs.declared.ops.Op.TheVariants.{Lt, Le, Eq, Ne, Ge, Gt, Between, OneOf, NoneOf}
 use Rattle.be_model.specs.declared.preds.Pred.{Pred}
 use Rattle.be_model.specs.Hulls.{first_of_values, last_of_values}
 use Rattle.be_shape.specs.declared.glances.Bounds.{Bounds}
+use Rattle.be_shape.specs.declared.widths.Narrowest.{Narrowest}
 use Rattle.be_shape.specs.declared.glances.Extent.{Extent}
 use Rattle.be_shape.specs.declared.glances.Extent.TheVariants.{Whole, Few, Part}
-use Rattle.be_shape.specs.Glances.{Glance, least, greatest, small, bounds, bounds_of, Test, test_on, is_whole, is_part, glance, with_extent, with_test, with_bounds, new_bounds, narrow, further_bounds, with_pred, with_preds, limit_of, glance_of}
+use Rattle.be_shape.specs.Glances.{Glance, least, greatest, small, bounds, bounds_of, Test, test_on, is_whole, is_part, glance, with_extent, with_test, with_bounds, narrow_bounds, further_bounds, with_pred, with_preds, narrowest_of, glance_of}
 use Rattle.std.specs.Int.Signed.{le_z}
 use Rattle.std.proofs.lemmas.Int.{ints}
 use Rattle.std.specs.List.{list_all}
@@ -87,19 +88,19 @@ bounded_bounds : (x : Extent) → is_whole x ≡ false → (p : Pred) (o : Optio
 bounded_bounds x n p None g t k = bounded_extent x n g t
 bounded_bounds x n p (Some b) g t k = bounded_test x n p b g t k
 
-bounded_pred : (limit : ℕ) (few : Bool) (xs : List Pred) (p : Pred) (g : Glance) → HasSound g → HasSound (with_pred limit few xs p g)
-bounded_pred limit few xs p g t = by_test (is_some (test_on p.attr g.tests))
+bounded_pred : (chosen : Narrowest) (few : Bool) (xs : List Pred) (p : Pred) (g : Glance) → HasSound g → HasSound (with_pred chosen few xs p g)
+bounded_pred chosen few xs p g t = by_test (is_some (test_on p.attr g.tests))
   where
-    by_test : (c : Bool) → HasSound (cond c (with_bounds Few p.attr (further_bounds few p) g) (with_bounds Part p.attr (narrow limit (new_bounds xs p)) g))
+    by_test : (c : Bool) → HasSound (cond c (with_bounds Few p.attr (further_bounds few p) g) (with_bounds Part p.attr (narrow_bounds chosen xs p) g))
     by_test true = bounded_bounds Few refl p (further_bounds few p) g t (of_further IsSound tt few p (exact_bound p.op))
-    by_test false = bounded_bounds Part refl p (narrow limit (new_bounds xs p)) g t (of_first IsSound tt limit xs p (exact_bound p.op))
+    by_test false = bounded_bounds Part refl p (narrow_bounds chosen xs p) g t (of_first IsSound tt chosen xs p (exact_bound p.op))
 
-bounded_preds : (limit : ℕ) (xs ps : List Pred) (g : Glance) → HasSound g → HasSound (with_preds limit xs ps g)
-bounded_preds limit xs [] g t = t
-bounded_preds limit xs (p ∷ ps) g t =
+bounded_preds : (chosen : Narrowest) (xs ps : List Pred) (g : Glance) → HasSound g → HasSound (with_preds chosen xs ps g)
+bounded_preds chosen xs [] g t = t
+bounded_preds chosen xs (p ∷ ps) g t =
     let few = leb (length g.tests + length (p ∷ ps)) 3 in
-    bounded_preds limit (xs ++ p ∷ []) ps (with_pred limit few xs p g) (bounded_pred limit few xs p g t)
+    bounded_preds chosen (xs ++ p ∷ []) ps (with_pred chosen few xs p g) (bounded_pred chosen few xs p g t)
 
 -- where the tests are all of the condition, none has turned ends
 pub whole_sound : (conj : List Pred) (tests : List Test) (extent : Extent) → glance tests extent ≡ glance_of conj → is_whole extent ≡ true → are_sound tests ≡ true
-whole_sound conj tests extent same = subst HasSound (sym same) (bounded_preds (limit_of conj) [] conj (glance [] Whole) (λ w. refl))
+whole_sound conj tests extent same = subst HasSound (sym same) (bounded_preds (narrowest_of conj) [] conj (glance [] Whole) (λ w. refl))

@@ -6,7 +6,7 @@ use Rattle.be_model.specs.declared.ops.Op.TheVariants.{Lt, Le, Eq, Ne, Ge, Betwe
 use Rattle.be_model.specs.declared.preds.Pred.{Pred}
 use Rattle.be_model.specs.Schemas.{numbered}
 use Rattle.be_shape.specs.declared.glances.Extent.TheVariants.{Whole, Few, Part}
-use Rattle.be_shape.specs.Glances.{greatest, least, glance, limit_of, glance_of}
+use Rattle.be_shape.specs.Glances.{greatest, least, glance, glance_of}
 
 abbrev price : AttrNo
 price = numbered 0
@@ -27,11 +27,12 @@ on a op = record { attr = a; op = op }
 abbrev four : List Pred
 four = on price (Ge (pos 5)) ∷ on side (Eq (pos 7)) ∷ on price (Le (pos 9)) ∷ on size (Between (pos 1) (pos 3)) ∷ on age (Between (pos 10) (pos 20)) ∷ []
 
-four_limit : limit_of four ≡ 10
-four_limit = refl
-
 four_told : glance_of four ≡ glance ((side, (pos 7, pos 7)) ∷ (size, (pos 1, pos 3)) ∷ (age, (pos 10, pos 20)) ∷ []) Part
 four_told = refl
+
+-- of equally wide ones the last are left out, and not what is narrower
+equal_told : glance_of (on price (Ge (pos 5)) ∷ on side (Ge (pos 5)) ∷ on age (Ge (pos 5)) ∷ on size (Eq (pos 4)) ∷ []) ≡ glance ((price, (pos 5, greatest)) ∷ (side, (pos 5, greatest)) ∷ (size, (pos 4, pos 4)) ∷ []) Part
+equal_told = refl
 
 -- of three attributes each has its test, and a further one on one of them has none where the others want the room
 abbrev three : List Pred

@@ -1,5 +1,5 @@
 -- What a place tells of its row's attributes is true of the row.
-use Rattle.std.proofs.Common.{◌≡◌, ℕ, ◌==◌, ◌+◌, leb, Bool, true, false, ◌||◌, List, [], ◌∷◌, ◌++◌, length, is_some, Option, Some, None, cond, refl, sym, ap, subst, ◌∙◌}
+use Rattle.std.proofs.Common.{◌≡◌, ◌==◌, ◌+◌, leb, Bool, true, false, ◌||◌, List, [], ◌∷◌, ◌++◌, length, is_some, Option, Some, None, cond, refl, sym, ap, subst, ◌∙◌}
 use Rattle.std.specs.List.{list_any}
 use Rattle.std.proofs.lemmas.List.{append-nil, append_assoc}
 use Rattle.std.proofs.lemmas.List.Folds.{list_any-append}
@@ -9,10 +9,11 @@ use Rattle.be_model.specs.declared.preds.Pred.{Pred}
 use Rattle.be_model.specs.Hulls.{is_on}
 use Rattle.be_model.proofs.InSchema.{same_attribute}
 use Rattle.be_shape.specs.declared.glances.Bounds.{Bounds}
+use Rattle.be_shape.specs.declared.widths.Narrowest.{Narrowest}
 use Rattle.be_shape.specs.declared.glances.Extent.{Extent}
 use Rattle.be_shape.specs.declared.glances.Extent.TheVariants.{Whole, Few, Part}
 use Rattle.be_shape.specs.declared.listings.RowAttrs.TheVariants.{Many}
-use Rattle.be_shape.specs.Glances.{Glance, Test, test_on, is_part, glance, with_extent, with_test, with_bounds, new_bounds, narrow, further_bounds, with_pred, with_preds, limit_of, glance_of}
+use Rattle.be_shape.specs.Glances.{Glance, Test, test_on, is_part, glance, with_extent, with_test, with_bounds, narrow_bounds, further_bounds, with_pred, with_preds, narrowest_of, glance_of}
 use Rattle.be_shape.specs.Listed.{is_many, any_listed, listed, attrs_told, attrs_of}
 
 -- a test of attributes, of predicates and of tests of values
@@ -93,23 +94,23 @@ lists_bounds : (x : Extent) (xs : List Pred) (p : Pred) (o : Option Bounds) (g :
 lists_bounds x xs p None g r l = lists_extent x xs p g r
 lists_bounds x xs p (Some b) g r l = lists_test x xs p b g r l
 
-lists_pred : (limit : ℕ) (few : Bool) (xs : List Pred) (p : Pred) (g : Glance) → Lists xs g → Lists (xs ++ p ∷ []) (with_pred limit few xs p g)
-lists_pred limit few xs p g l = by_test (is_some (test_on p.attr g.tests)) refl
+lists_pred : (chosen : Narrowest) (few : Bool) (xs : List Pred) (p : Pred) (g : Glance) → Lists xs g → Lists (xs ++ p ∷ []) (with_pred chosen few xs p g)
+lists_pred chosen few xs p g l = by_test (is_some (test_on p.attr g.tests)) refl
   where
     by_test : (c : Bool) → is_some (test_on p.attr g.tests) ≡ c
-        → Lists (xs ++ p ∷ []) (cond c (with_bounds Few p.attr (further_bounds few p) g) (with_bounds Part p.attr (narrow limit (new_bounds xs p)) g))
+        → Lists (xs ++ p ∷ []) (cond c (with_bounds Few p.attr (further_bounds few p) g) (with_bounds Part p.attr (narrow_bounds chosen xs p) g))
     by_test true d = lists_bounds Few xs p (further_bounds few p) g (λ e. lists_again xs p g Few e d l) l
-    by_test false d = lists_bounds Part xs p (narrow limit (new_bounds xs p)) g (λ e. lists_part (xs ++ p ∷ []) g.tests) l
+    by_test false d = lists_bounds Part xs p (narrow_bounds chosen xs p) g (λ e. lists_part (xs ++ p ∷ []) g.tests) l
 
-lists_preds : (limit : ℕ) (xs ps : List Pred) (g : Glance) → Lists xs g → Lists (xs ++ ps) (with_preds limit xs ps g)
-lists_preds limit xs [] g l = subst (λ c. Lists c g) (sym (append-nil xs)) l
-lists_preds limit xs (p ∷ ps) g l =
+lists_preds : (chosen : Narrowest) (xs ps : List Pred) (g : Glance) → Lists xs g → Lists (xs ++ ps) (with_preds chosen xs ps g)
+lists_preds chosen xs [] g l = subst (λ c. Lists c g) (sym (append-nil xs)) l
+lists_preds chosen xs (p ∷ ps) g l =
     let few = leb (length g.tests + length (p ∷ ps)) 3 in
-    let next = with_pred limit few xs p g in
-    subst (λ c. Lists c (with_preds limit (xs ++ p ∷ []) ps next)) (append_assoc xs (p ∷ []) ps) (lists_preds limit (xs ++ p ∷ []) ps next (lists_pred limit few xs p g l))
+    let next = with_pred chosen few xs p g in
+    subst (λ c. Lists c (with_preds chosen (xs ++ p ∷ []) ps next)) (append_assoc xs (p ∷ []) ps) (lists_preds chosen (xs ++ p ∷ []) ps next (lists_pred chosen few xs p g l))
 
 pub lists : (conj : List Pred) → Lists conj (glance_of conj)
-lists conj = lists_preds (limit_of conj) [] conj (glance [] Whole) (λ _ _. refl)
+lists conj = lists_preds (narrowest_of conj) [] conj (glance [] Whole) (λ _ _. refl)
 
 -- as many tests as can be listed are
 listed_is : (ts : List Test) (test : AttrNo → Bool) → is_many (listed ts) ≡ false → list_any (of_test test) ts ≡ any_listed test (listed ts)

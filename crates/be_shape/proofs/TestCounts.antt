@@ -9,6 +9,7 @@ use Rattle.be_model.specs.declared.ops.Op.TheVariants.{Lt, Le, Eq, Ne, Ge, Gt, B
 use Rattle.be_model.specs.declared.preds.Pred.{Pred}
 use Rattle.be_model.specs.Hulls.{first_of_values, last_of_values}
 use Rattle.be_shape.specs.declared.glances.Bounds.{Bounds}
+use Rattle.be_shape.specs.declared.widths.Narrowest.{Narrowest}
 use Rattle.be_shape.specs.declared.glances.Extent.{Extent}
 use Rattle.be_shape.specs.declared.glances.Extent.TheVariants.{Whole, Few, Part}
 use Rattle.be_shape.specs.declared.small_sets.Told.{Told}
@@ -16,7 +17,7 @@ use Rattle.be_shape.specs.declared.small_sets.Told.TheVariants.{AsWhole, AsFew, 
 use Rattle.be_shape.specs.declared.test_counts.Count.{Count}
 use Rattle.be_shape.specs.declared.test_counts.Count.TheVariants.{Zero, One, Two, Three}
 use Rattle.be_shape.specs.FewTests.{test_of, few_of, few_told}
-use Rattle.be_shape.specs.Glances.{Glance, least, greatest, small, bounds, bounds_of, Test, test_on, is_part, glance, with_extent, with_test, with_bounds, new_bounds, narrow, further_bounds, with_pred, with_preds, limit_of, glance_of}
+use Rattle.be_shape.specs.Glances.{Glance, least, greatest, small, bounds, bounds_of, Test, test_on, is_part, glance, with_extent, with_test, with_bounds, narrow_bounds, further_bounds, with_pred, with_preds, narrowest_of, glance_of}
 use Rattle.be_shape.specs.Lanes.{Slot, Lane, lowered, free, is_free, AreFree}
 use Rattle.be_shape.specs.SmallSets.{is_set}
 use Rattle.be_shape.proofs.BoundedTests.{below_to, less_eq, same_le}
@@ -78,21 +79,21 @@ below_bounds : (x : Extent) (p : Pred) (o : Option Bounds) (g : Glance) → HasB
 below_bounds x p None g t k = below_extent x g t
 below_bounds x p (Some b) g t k = below_test x p b g t k
 
-below_pred : (limit : ℕ) (few : Bool) (xs : List Pred) (p : Pred) (g : Glance) → HasBelow g → HasBelow (with_pred limit few xs p g)
-below_pred limit few xs p g t = by_test (is_some (test_on p.attr g.tests))
+below_pred : (chosen : Narrowest) (few : Bool) (xs : List Pred) (p : Pred) (g : Glance) → HasBelow g → HasBelow (with_pred chosen few xs p g)
+below_pred chosen few xs p g t = by_test (is_some (test_on p.attr g.tests))
   where
-    by_test : (c : Bool) → HasBelow (cond c (with_bounds Few p.attr (further_bounds few p) g) (with_bounds Part p.attr (narrow limit (new_bounds xs p)) g))
+    by_test : (c : Bool) → HasBelow (cond c (with_bounds Few p.attr (further_bounds few p) g) (with_bounds Part p.attr (narrow_bounds chosen xs p) g))
     by_test true = below_bounds Few p (further_bounds few p) g t (of_further IsBelow tt few p (below_bound p.op))
-    by_test false = below_bounds Part p (narrow limit (new_bounds xs p)) g t (of_first IsBelow tt limit xs p (below_bound p.op))
+    by_test false = below_bounds Part p (narrow_bounds chosen xs p) g t (of_first IsBelow tt chosen xs p (below_bound p.op))
 
-below_preds : (limit : ℕ) (xs ps : List Pred) (g : Glance) → HasBelow g → HasBelow (with_preds limit xs ps g)
-below_preds limit xs [] g t = t
-below_preds limit xs (p ∷ ps) g t =
+below_preds : (chosen : Narrowest) (xs ps : List Pred) (g : Glance) → HasBelow g → HasBelow (with_preds chosen xs ps g)
+below_preds chosen xs [] g t = t
+below_preds chosen xs (p ∷ ps) g t =
     let few = leb (length g.tests + length (p ∷ ps)) 3 in
-    below_preds limit (xs ++ p ∷ []) ps (with_pred limit few xs p g) (below_pred limit few xs p g t)
+    below_preds chosen (xs ++ p ∷ []) ps (with_pred chosen few xs p g) (below_pred chosen few xs p g t)
 
 pub tests_below : (conj : List Pred) (tests : List Test) (extent : Extent) → glance tests extent ≡ glance_of conj → are_below tests ≡ true
-tests_below conj tests extent same = subst HasBelow (sym same) (below_preds (limit_of conj) [] conj (glance [] Whole) refl)
+tests_below conj tests extent same = subst HasBelow (sym same) (below_preds (narrowest_of conj) [] conj (glance [] Whole) refl)
 
 -- the lane of such a test isn't free
 not_free : (l : Lane) → is_below (test_of l) ≡ true → is_free l.1 ≡ false

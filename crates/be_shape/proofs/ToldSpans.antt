@@ -1,5 +1,5 @@
 -- What a place tells of spans and attributes is true of its row.
-use Rattle.std.proofs.Common.{◌≡◌, ℕ, ℤ, pos, ◌+ℤ◌, ◌-ℤ◌, ◌≤ℤ◌, ◌<ℤ◌, ◌<◌, ◌==◌, ◌+◌, leb, Bool, true, false, ◌&&◌, ◌||◌, List, [], ◌∷◌, ◌++◌, length, find, is_some, Option, Some, None, option_map, option_and_then, cond, refl, sym, ap, ap₂, subst, ◌∙◌, arith}
+use Rattle.std.proofs.Common.{◌≡◌, ℤ, pos, ◌+ℤ◌, ◌-ℤ◌, ◌≤ℤ◌, ◌<ℤ◌, ◌<◌, ◌==◌, ◌+◌, leb, Bool, true, false, ◌&&◌, ◌||◌, List, [], ◌∷◌, ◌++◌, length, find, is_some, Option, Some, None, option_map, option_and_then, cond, refl, sym, ap, ap₂, subst, ◌∙◌, arith}
 use Rattle.std.specs.Int.{int_max, int_min}
 use Rattle.std.specs.Int.Signed.{le_z}
 use Rattle.std.specs.Ordering.{int_eq}
@@ -24,9 +24,10 @@ use Rattle.be_model.proofs.InSchema.{same_attribute}
 use Rattle.be_model.proofs.Ranges.{within_parts, hulls_lie}
 use Rattle.be_model.proofs.Spans.{pred_found}
 use Rattle.be_shape.specs.declared.glances.Bounds.{Bounds}
+use Rattle.be_shape.specs.declared.widths.Narrowest.{Narrowest}
 use Rattle.be_shape.specs.declared.glances.Extent.{Extent}
 use Rattle.be_shape.specs.declared.glances.Extent.TheVariants.{Whole, Few, Part}
-use Rattle.be_shape.specs.Glances.{Glance, least, greatest, small, bounds, bounds_of, Test, test_on, is_part, glance, with_extent, with_bounds, new_bounds, narrow, further_bounds, with_pred, with_preds, limit_of, glance_of, hull_low, hull_high, hull_in}
+use Rattle.be_shape.specs.Glances.{Glance, least, greatest, small, bounds, bounds_of, Test, test_on, is_part, glance, with_extent, with_bounds, narrow_bounds, further_bounds, with_pred, with_preds, narrowest_of, glance_of, hull_low, hull_high, hull_in}
 use Rattle.be_shape.proofs.FewAttrs.{has_is_told}
 use Rattle.be_shape.proofs.FirstBounds.{narrow_is}
 use Rattle.be_shape.proofs.ToldTests.{by_small}
@@ -123,24 +124,24 @@ first_bounds full xs p o g f j = by_bounds o j
     by_bounds None j = by_part (is_part g.extent)
     by_bounds (Some b) j = by_room b (leb 256 p.attr.0 || leb 3 (length g.tests)) (j b refl)
 
-first_pred : (limit : ℕ) (few : Bool) (xs : List Pred) (p : Pred) (g : Glance) → AreFirst xs g.tests → AreFirst (xs ++ p ∷ []) (with_pred limit few xs p g).tests
-first_pred limit few xs p g f = by_test (is_some (test_on p.attr g.tests)) refl
+first_pred : (chosen : Narrowest) (few : Bool) (xs : List Pred) (p : Pred) (g : Glance) → AreFirst xs g.tests → AreFirst (xs ++ p ∷ []) (with_pred chosen few xs p g).tests
+first_pred chosen few xs p g f = by_test (is_some (test_on p.attr g.tests)) refl
   where
     by_test : (c : Bool) → is_some (test_on p.attr g.tests) ≡ c
-        → AreFirst (xs ++ p ∷ []) (cond c (with_bounds Few p.attr (further_bounds few p) g) (with_bounds Part p.attr (narrow limit (new_bounds xs p)) g)).tests
+        → AreFirst (xs ++ p ∷ []) (cond c (with_bounds Few p.attr (further_bounds few p) g) (with_bounds Part p.attr (narrow_bounds chosen xs p) g)).tests
     by_test true d = first_bounds Few xs p (further_bounds few p) g f (λ b e. joined_again xs p b.ends g.tests f d)
     by_test false d =
-        first_bounds Part xs p (narrow limit (new_bounds xs p)) g f (λ b e. let n = narrow_is limit xs p b e in joined xs p b.ends g.tests f (first_new xs p b n.first n.told))
+        first_bounds Part xs p (narrow_bounds chosen xs p) g f (λ b e. let n = narrow_is chosen xs p b e in joined xs p b.ends g.tests f (first_new xs p b n.first n.told))
 
-first_preds : (limit : ℕ) (xs ps : List Pred) (g : Glance) → AreFirst xs g.tests → AreFirst (xs ++ ps) (with_preds limit xs ps g).tests
-first_preds limit xs [] g f = subst (λ c. AreFirst c g.tests) (sym (append-nil xs)) f
-first_preds limit xs (p ∷ ps) g f =
+first_preds : (chosen : Narrowest) (xs ps : List Pred) (g : Glance) → AreFirst xs g.tests → AreFirst (xs ++ ps) (with_preds chosen xs ps g).tests
+first_preds chosen xs [] g f = subst (λ c. AreFirst c g.tests) (sym (append-nil xs)) f
+first_preds chosen xs (p ∷ ps) g f =
     let few = leb (length g.tests + length (p ∷ ps)) 3 in
-    let next = with_pred limit few xs p g in
-    subst (λ c. AreFirst c (with_preds limit (xs ++ p ∷ []) ps next).tests) (append_assoc xs (p ∷ []) ps) (first_preds limit (xs ++ p ∷ []) ps next (first_pred limit few xs p g f))
+    let next = with_pred chosen few xs p g in
+    subst (λ c. AreFirst c (with_preds chosen (xs ++ p ∷ []) ps next).tests) (append_assoc xs (p ∷ []) ps) (first_preds chosen (xs ++ p ∷ []) ps next (first_pred chosen few xs p g f))
 
 firsts : (conj : List Pred) → AreFirst conj (glance_of conj).tests
-firsts conj = first_preds (limit_of conj) [] conj (glance [] Whole) (λ a ends h. absurd (cc))
+firsts conj = first_preds (narrowest_of conj) [] conj (glance [] Whole) (λ a ends h. absurd (cc))
 
 not_equal : (x y : ℤ) → x <ℤ y → int_eq x y ≡ false
 not_equal x y h = by_test (int_eq x y) refl

@@ -1,5 +1,5 @@
 -- What a place tells of its row is true of the row.
-use Rattle.std.proofs.Common.{◌≡◌, ⊎_elim, ℕ, ℤ, pos, ◌+ℤ◌, ◌-ℤ◌, ◌≤ℤ◌, ◌<ℤ◌, ◌+◌, leb, Bool, true, false, ◌&&◌, ◌||◌, List, [], ◌∷◌, ◌++◌, length, All, is_some, Option, Some, None, option_map, option_and_then, cond, refl, sym, ap, subst, ◌∙◌, arith}
+use Rattle.std.proofs.Common.{◌≡◌, ⊎_elim, ℤ, pos, ◌+ℤ◌, ◌-ℤ◌, ◌≤ℤ◌, ◌<ℤ◌, ◌+◌, leb, Bool, true, false, ◌&&◌, ◌||◌, List, [], ◌∷◌, ◌++◌, length, All, is_some, Option, Some, None, option_map, option_and_then, cond, refl, sym, ap, subst, ◌∙◌, arith}
 use Rattle.std.specs.Int.Signed.{le_z, lt_z}
 use Rattle.std.specs.Ordering.{int_eq}
 use Rattle.std.specs.List.{list_any, list_all}
@@ -18,9 +18,10 @@ use Rattle.be_model.specs.Hulls.{first_of_values, last_of_values}
 use Rattle.be_model.specs.Matching.{Assignments, values_of, holds, is_met, satisfies}
 use Rattle.be_model.proofs.Ranges.{within_parts, within_from, hulls_hold}
 use Rattle.be_shape.specs.declared.glances.Bounds.{Bounds}
+use Rattle.be_shape.specs.declared.widths.Narrowest.{Narrowest}
 use Rattle.be_shape.specs.declared.glances.Extent.{Extent}
 use Rattle.be_shape.specs.declared.glances.Extent.TheVariants.{Whole, Few, Part}
-use Rattle.be_shape.specs.Glances.{Glance, least, greatest, is_in, has_in, small, bounds, bounds_of, Test, passes, may_meet, test_on, is_whole, is_part, glance, with_extent, with_test, with_bounds, new_bounds, narrow, further_bounds, with_pred, with_preds, limit_of, glance_of}
+use Rattle.be_shape.specs.Glances.{Glance, least, greatest, is_in, has_in, small, bounds, bounds_of, Test, passes, may_meet, test_on, is_whole, is_part, glance, with_extent, with_test, with_bounds, narrow_bounds, further_bounds, with_pred, with_preds, narrowest_of, glance_of}
 use Rattle.be_shape.proofs.FirstBounds.{of_first, of_further}
 
 pub both : (a b : Bool) → a ≡ true → b ≡ true → (a && b) ≡ true
@@ -228,23 +229,23 @@ tells_bounds : (x : Extent) → is_whole x ≡ false → (xs : List Pred) (p : P
 tells_bounds x n xs p None g t k = tells_extent x n xs p g t
 tells_bounds x n xs p (Some b) g t k = tells_test x n xs p b g t k
 
-tells_pred : (limit : ℕ) (few : Bool) (xs : List Pred) (p : Pred) (g : Glance) → OpForm p.op → Tells xs g → Tells (xs ++ p ∷ []) (with_pred limit few xs p g)
-tells_pred limit few xs p g f t = by_test (is_some (test_on p.attr g.tests))
+tells_pred : (chosen : Narrowest) (few : Bool) (xs : List Pred) (p : Pred) (g : Glance) → OpForm p.op → Tells xs g → Tells (xs ++ p ∷ []) (with_pred chosen few xs p g)
+tells_pred chosen few xs p g f t = by_test (is_some (test_on p.attr g.tests))
   where
-    by_test : (c : Bool) → Tells (xs ++ p ∷ []) (cond c (with_bounds Few p.attr (further_bounds few p) g) (with_bounds Part p.attr (narrow limit (new_bounds xs p)) g))
+    by_test : (c : Bool) → Tells (xs ++ p ∷ []) (cond c (with_bounds Few p.attr (further_bounds few p) g) (with_bounds Part p.attr (narrow_bounds chosen xs p) g))
     by_test true = tells_bounds Few refl xs p (further_bounds few p) g t (of_further (Told p.op) tt few p (bounds_hold p.op f))
-    by_test false = tells_bounds Part refl xs p (narrow limit (new_bounds xs p)) g t (of_first (Told p.op) tt limit xs p (bounds_hold p.op f))
+    by_test false = tells_bounds Part refl xs p (narrow_bounds chosen xs p) g t (of_first (Told p.op) tt chosen xs p (bounds_hold p.op f))
 
-tells_preds : (limit : ℕ) (xs ps : List Pred) (g : Glance) → All (λ (p : Pred). OpForm p.op) ps → Tells xs g → Tells (xs ++ ps) (with_preds limit xs ps g)
-tells_preds limit xs [] g f t = subst (λ c. Tells c g) (sym (append-nil xs)) t
-tells_preds limit xs (p ∷ ps) g f t =
-    let next = with_pred limit (leb (length g.tests + length (p ∷ ps)) 3) xs p g in
-    subst (λ c. Tells c (with_preds limit (xs ++ p ∷ []) ps next)) (append_assoc xs (p ∷ []) ps)
-    (tells_preds limit (xs ++ p ∷ []) ps next (All-tail (λ (q : Pred). OpForm q.op) p ps f)
-    (tells_pred limit (leb (length g.tests + length (p ∷ ps)) 3) xs p g (All-head (λ (q : Pred). OpForm q.op) p ps f) t))
+tells_preds : (chosen : Narrowest) (xs ps : List Pred) (g : Glance) → All (λ (p : Pred). OpForm p.op) ps → Tells xs g → Tells (xs ++ ps) (with_preds chosen xs ps g)
+tells_preds chosen xs [] g f t = subst (λ c. Tells c g) (sym (append-nil xs)) t
+tells_preds chosen xs (p ∷ ps) g f t =
+    let next = with_pred chosen (leb (length g.tests + length (p ∷ ps)) 3) xs p g in
+    subst (λ c. Tells c (with_preds chosen (xs ++ p ∷ []) ps next)) (append_assoc xs (p ∷ []) ps)
+    (tells_preds chosen (xs ++ p ∷ []) ps next (All-tail (λ (q : Pred). OpForm q.op) p ps f)
+    (tells_pred chosen (leb (length g.tests + length (p ∷ ps)) 3) xs p g (All-head (λ (q : Pred). OpForm q.op) p ps f) t))
 
 tells : (conj : List Pred) → IsConj conj → Tells conj (glance_of conj)
-tells conj f = tells_preds (limit_of conj) [] conj (glance [] Whole) f.forms (record { lost = λ e h. refl; all = λ w e h. refl })
+tells conj f = tells_preds (narrowest_of conj) [] conj (glance [] Whole) f.forms (record { lost = λ e h. refl; all = λ w e h. refl })
 
 -- an event satisfies a condition exactly where it passes the tests, and these are all or it satisfies the condition
 pub told : (e : Assignments) (conj : List Pred) (tests : List Test) (extent : Extent) → glance tests extent ≡ glance_of conj → IsConj conj

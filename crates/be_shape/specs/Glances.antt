@@ -14,8 +14,8 @@ use Rattle.be_model.specs.Matching.{Assignments, values_of}
 use Rattle.be_shape.specs.declared.glances.Bounds.{Bounds}
 use Rattle.be_shape.specs.declared.glances.Extent.{Extent}
 use Rattle.be_shape.specs.declared.glances.Extent.TheVariants.{Whole, Few, Part}
-use Rattle.be_shape.specs.declared.widths.Widths.{Widths}
-use Rattle.be_shape.specs.Widths.{width_of, any_width, any_widths, with_width}
+use Rattle.be_shape.specs.declared.widths.Narrowest.{Narrowest}
+use Rattle.be_shape.specs.Widths.{width_of, width, first_three, with_width, has_place}
 
 -- the least number of 32 bits and the last but one, which stand for no bound. The last stands for no value
 abbrev pub least : ℤ
@@ -105,55 +105,53 @@ with_bounds x a (Some b) g = with_test x a b g
 abbrev pub new_bounds : List Pred → Pred → Option Bounds
 new_bounds before p = if list_any (is_on p.attr) before then None else bounds_of p.op
 
--- none that are wider than the limit
-abbrev pub narrow : ℕ → Option Bounds → Option Bounds
-narrow limit None = None
-narrow limit (Some b) = if nat_le (width_of b.ends) limit then Some b else None
+-- the same, of one of the three narrowest alone
+abbrev pub narrow_bounds : Narrowest → List Pred → Pred → Option Bounds
+narrow_bounds t before p = if has_place (length before) t then new_bounds before p else None
 
 -- the ends refuse no value
 abbrev pub are_widest : ℤ × ℤ → Bool
 are_widest ends = int_eq ends.0 least && int_eq ends.1 greatest
 
--- none that refuse no value
+-- bounds that refuse some value
 abbrev pub refusing : Option Bounds → Option Bounds
 refusing None = None
 refusing (Some b) = if are_widest b.ends then None else Some b
 
--- the bounds by which a predicate on an attribute that has a test gives another, where few predicates are still to come
+-- the bounds of a predicate on an attribute that has a test. Where many are still to come, it leaves the room to others
 abbrev pub further_bounds : Bool → Pred → Option Bounds
 further_bounds few p = if few then refusing (bounds_of p.op) else None
 
--- with a predicate more, behind these. The first on an attribute gives a test where there is room and its bounds aren't wider than the
--- limit. A further one gives one only where the attribute has a test, and may leave its room to others; so where the first gave none, no
--- other on its attribute does
-abbrev pub with_pred : ℕ → Bool → List Pred → Pred → Glance → Glance
-with_pred limit few before p g =
+-- with a predicate more, behind these. The first on an attribute gives a test where it is one of the narrowest and there is room, and a
+-- further one only where the first did. Where the first gave none, others on its attribute give none, but those on other attributes may
+abbrev pub with_pred : Narrowest → Bool → List Pred → Pred → Glance → Glance
+with_pred t few before p g =
     if is_some (test_on p.attr g.tests) then with_bounds Few p.attr (further_bounds few p) g
-    else with_bounds Part p.attr (narrow limit (new_bounds before p)) g
+    else with_bounds Part p.attr (narrow_bounds t before p) g
 
 -- few are still to come where there is room for a test of each
-abbrev pub with_preds : ℕ → List Pred → List Pred → Glance → Glance
-with_preds limit before [] g = g
-with_preds limit before (p ∷ ps) g = with_preds limit (before ++ p ∷ []) ps (with_pred limit (nat_le (length g.tests + length (p ∷ ps)) 3) before p g)
+abbrev pub with_preds : Narrowest → List Pred → List Pred → Glance → Glance
+with_preds t before [] g = g
+with_preds t before (p ∷ ps) g = with_preds t (before ++ p ∷ []) ps (with_pred t (nat_le (length g.tests + length (p ∷ ps)) 3) before p g)
 
 -- with the width of the bounds, where there are any
-abbrev pub with_width_of : Option Bounds → Widths → Widths
-with_width_of None t = t
-with_width_of (Some b) t = with_width (width_of b.ends) t
+abbrev pub with_width_of : Option Bounds → ℕ → Narrowest → Narrowest
+with_width_of None at t = t
+with_width_of (Some b) at t = with_width (width (width_of b.ends) at) t
 
 -- with those of the first predicates on attributes
-abbrev pub with_widths : List Pred → List Pred → Widths → Widths
+abbrev pub with_widths : List Pred → List Pred → Narrowest → Narrowest
 with_widths before [] t = t
-with_widths before (p ∷ ps) t = with_widths (before ++ p ∷ []) ps (with_width_of (new_bounds before p) t)
+with_widths before (p ∷ ps) t = with_widths (before ++ p ∷ []) ps (with_width_of (new_bounds before p) (length before) t)
 
--- the third least of these widths, so that the widest tests are left out. At most three predicates have no limit. By any other limit a
--- glance would be as true
-abbrev pub limit_of : List Pred → ℕ
-limit_of conj = if nat_le (length conj) 3 then any_width else (with_widths [] conj any_widths).third
+-- of more than three predicates the three narrowest that are the first on their attributes, so that the widest tests are left out. By
+-- any others a glance would be as true
+abbrev pub narrowest_of : List Pred → Narrowest
+narrowest_of conj = if nat_le (length conj) 3 then first_three else with_widths [] conj first_three
 
 -- what is told of a condition
 abbrev pub glance_of : List Pred → Glance
-glance_of conj = with_preds (limit_of conj) [] conj (glance [] Whole)
+glance_of conj = with_preds (narrowest_of conj) [] conj (glance [] Whole)
 
 -- the hull that a test stands for, over a domain
 abbrev pub hull_low : Range → ℤ → ℤ

@@ -12,7 +12,7 @@ ghost use Rattle.be_shape.specs.SmallSets.{extent_of, LosesNone};
 
 use crate::few_tests::FewTests;
 use crate::small_sets::Told;
-use crate::widths::{further_bounds, limit_of, narrow, new_bounds};
+use crate::widths::{Narrowest, further_bounds};
 use be_base::AttrNo;
 use be_model::{Conj, Event, Op, Pred, Values};
 use std::marker::Model;
@@ -295,14 +295,13 @@ impl Glance {
         }
     }
 
-    fn with_pred(self, limit: u64, few: bool, before: &[Pred], pred: &Pred) -> Glance
-        ensures { result ≡ with_pred limit few before.now pred.now self }
+    fn with_pred(self, narrowest: Narrowest, few: bool, before: &[Pred], pred: &Pred) -> Glance
+        ensures { result ≡ with_pred narrowest few before.now pred.now self }
     {
         if self.tests.on(pred.attr).is_some() {
             self.with_bounds(Extent::Few, pred.attr, further_bounds(few, pred))
         } else {
-            let bounds = narrow(limit, new_bounds(before, pred));
-            self.with_bounds(Extent::Part, pred.attr, bounds)
+            self.with_bounds(Extent::Part, pred.attr, narrowest.bounds(before, pred))
         }
     }
 
@@ -312,11 +311,11 @@ impl Glance {
         ensures form { IsConj conj.now }
     {
         let preds = conj.preds();
-        let limit = limit_of(preds);
+        let narrowest = Narrowest::of(preds);
         let mut glance = Glance::of_none();
         for at in 0..preds.len() {
             let few = glance.tests.has_room(preds.len() - at);
-            glance = glance.with_pred(limit, few, &preds[..at], &preds[at]);
+            glance = glance.with_pred(narrowest, few, &preds[..at], &preds[at]);
         }
         glance
     }
