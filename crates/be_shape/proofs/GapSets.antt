@@ -80,13 +80,13 @@ beyond_says x y v a b s r h = by_side (le_z y v) refl
     by_side false e = inl (under (omega (arith, ints, e)))
 
 -- a number among three, and among two
-among_three : (x y z v : ℤ) → is_among (x ∷ y ∷ z ∷ []) v ≡ true → (x ≡ v) ⊎ ((y ≡ v) ⊎ (z ≡ v))
+pub among_three : (x y z v : ℤ) → is_among (x ∷ y ∷ z ∷ []) v ≡ true → (x ≡ v) ⊎ ((y ≡ v) ⊎ (z ≡ v))
 among_three x y z v h =
     ⊎_elim (λ k. inl (equal_from x v k))
     (λ k. ⊎_elim (λ m. inr (inl (equal_from y v m))) (λ m. ⊎_elim (λ n. inr (inr (equal_from z v n))) (λ n. absurd cc) (or_cases (int_eq z v) false m)) (or_cases (int_eq y v) (int_eq z v || false) k))
     (or_cases (int_eq x v) (int_eq y v || (int_eq z v || false)) h)
 
-among_two : (x z v : ℤ) → is_among (x ∷ z ∷ []) v ≡ true → (x ≡ v) ⊎ (z ≡ v)
+pub among_two : (x z v : ℤ) → is_among (x ∷ z ∷ []) v ≡ true → (x ≡ v) ⊎ (z ≡ v)
 among_two x z v h =
     ⊎_elim (λ k. inl (equal_from x v k)) (λ m. ⊎_elim (λ n. inr (equal_from z v n)) (λ n. absurd cc) (or_cases (int_eq z v) false m)) (or_cases (int_eq x v) (int_eq z v || false) h)
 
@@ -102,10 +102,10 @@ from_two : (x z v : ℤ) → (x ≡ v) ⊎ (z ≡ v) → is_among (x ∷ z ∷ [
 from_two x z v h =
     ⊎_elim (λ k. or_left (int_eq x v) (int_eq z v || false) (same_test x v k)) (λ m. or_right (int_eq x v) (int_eq z v || false) (or_left (int_eq z v) false (same_test z v m))) h
 
-one_value : (xs : List ℤ) (v : ℤ) → is_met (Some (v ∷ [])) (OneOf xs) ≡ true → is_among xs v ≡ true
+pub one_value : (xs : List ℤ) (v : ℤ) → is_met (Some (v ∷ [])) (OneOf xs) ≡ true → is_among xs v ≡ true
 one_value xs v h = ⊎_elim (λ k. k) (λ k. absurd cc) (or_cases (is_among xs v) false h)
 
-value_small : (v : ℤ) → is_single (v ∷ []) ≡ true → IsSmall v
+pub value_small : (v : ℤ) → is_single (v ∷ []) ≡ true → IsSmall v
 value_small v h = let p = and_parts (lt_z least v) (lt_z v greatest) h in one_small v (omega (arith, ints, p.0)) (omega (arith, ints, p.1))
 
 -- the value of an attribute whose lane lets it pass is between the ends
@@ -219,7 +219,7 @@ tell_set pred xs a ends gaps op at l h g =
           ap (λ b. is_met (values_of e b) pred.op) at ∙ ap (is_met (values_of e (numbered a))) op ∙ met);
     }
 
-by_number : (a : AttrNo) (n : ℕ) → a.0 ≡ n → a ≡ numbered n
+pub by_number : (a : AttrNo) (n : ℕ) → a.0 ≡ n → a ≡ numbered n
 by_number a n h = same_attribute a (numbered n) (eq-eqb a.0 n h)
 
 pub tell_gaps : (pred : Pred) (xs : List ℤ) (a : ℕ) (ends : ℤ × ℤ) (o : Option (Slot × Slot)) → pred.op ≡ OneOf xs → pred.attr.0 ≡ a → IsSmall ends.0 → IsSmall ends.1 → IfSome o (λ gaps. AreGaps xs ends gaps)

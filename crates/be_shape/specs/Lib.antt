@@ -22,5 +22,6 @@ pub mod Depth
 pub mod Swaps
 pub mod Sights
 pub mod Lanes
+pub mod SetNotes
 pub mod Gaps
 pub mod Chosen

@@ -12,14 +12,13 @@ ghost use Rattle.be_shape.specs.FewTests.{few_told};
 ghost use Rattle.be_shape.specs.Gaps.{IsOnlySet};
 ghost use Rattle.be_shape.specs.Glances.{may_meet, test_on, is_whole, glance, glance_of};
 ghost use Rattle.be_shape.specs.Listed.{attrs_told};
-ghost use Rattle.be_shape.specs.Lanes.{AreFree, HoldLanes};
-ghost use Rattle.be_shape.specs.SmallSets.{extent_of, passes_set, passes_at, passes_note, LosesNone};
+ghost use Rattle.be_shape.specs.Lanes.{are_single, AreFree, HoldLanes};
+ghost use Rattle.be_shape.specs.SetNotes.{passes_set, passes_at, passes_note, LosesNone};
+ghost use Rattle.be_shape.specs.SmallSets.{extent_of};
 
 use crate::gaps::gaps_of;
-use crate::glances::{Ends, Extent, hull_in};
-use crate::lanes::{
-    FREE, LaneAttrs, LaneSlots, Slot, ends_of, is_test, numbered, slot_fits, slot_of,
-};
+use crate::glances::{Ends, Extent, hull_in, small};
+use crate::lanes::{FREE, LaneAttrs, LaneSlots, Slot, ends_of, numbered, slot_fits, slot_of};
 use crate::listings::RowAttrs;
 use crate::looks::has_attr;
 use crate::sights::Sight;
@@ -49,6 +48,14 @@ impl Model for FewTests {
     ghost use Rattle.be_shape.specs.FewTests.{few_of};
 
     ghost view = { λ t. few_of t.count (t.first_attr, t.first) (t.second_attr, t.second) (t.third_attr, t.third) };
+}
+
+// Whether a lane of a number of an attribute and of a slot has these.
+fn is_lane(number: u8, lane: Slot, a: u8, slot: Slot) -> bool
+    ensures attr { result ≡ true → number ≡ a }
+    ensures slot { result ≡ true → lane ≡ slot }
+{
+    number == a && lane.0 == slot.0 && lane.1 == slot.1
 }
 
 impl FewTests {
@@ -191,56 +198,42 @@ impl FewTests {
         }
     }
 
-    // Whether the event may have a number of the set that the note tells.
-    fn may_have_set(&self, set_note: u8, e: &Sight) -> bool
-        ensures { passes_note set_note self.now.tests e.now ≡ true → result ≡ true }
-    {
-        let at = set_note / 64;
-        let middle = set_note % 64;
-        if at == 1 && self.count.has_first() {
-            e.may_be(ends_of(self.first), middle, numbered(self.first_attr))
-        } else if at == 2 && self.count.has_second() {
-            e.may_be(ends_of(self.second), middle, numbered(self.second_attr))
-        } else if at == 3 && self.count.has_third() {
-            e.may_be(ends_of(self.third), middle, numbered(self.third_attr))
-        } else {
-            true
-        }
-    }
-
-    // Which test, counted from one, is on the attribute, of a set of these ends.
-    fn set_at(&self, a: AttrNo, ends: (i64, i64)) -> Option<u8>
+    // Which lane, counted from one, has this attribute and this slot.
+    fn lane_of(&self, a: u8, slot: Slot) -> Option<u8>
         ensures low { IfSome result (λ at. at < 4) }
-        ensures passes { IfSome result (λ at. (e : Assignments) (m : ℕ) → passes_set e m (a, ends) ≡ true → passes_at at m self.now.tests e ≡ true) }
+        ensures passes { IfSome result (λ at. (e : Assignments) (m : ℕ) → passes_set e m (a, slot) ≡ true → passes_at at m self.now e ≡ true) }
     {
-        if self.count.has_first() && is_test(self.first_attr, ends_of(self.first), a, ends) {
+        if is_lane(self.first_attr, self.first, a, slot) {
             Some(1)
-        } else if self.count.has_second()
-            && is_test(self.second_attr, ends_of(self.second), a, ends)
-        {
+        } else if is_lane(self.second_attr, self.second, a, slot) {
             Some(2)
-        } else if self.count.has_third() && is_test(self.third_attr, ends_of(self.third), a, ends) {
+        } else if is_lane(self.third_attr, self.third, a, slot) {
             Some(3)
         } else {
             None
         }
     }
 
-    // What is told where the predicate is of a small set, and a test is on it.
+    // What is told where the predicate is of a small set, and a lane is of it.
     fn set_told(&self, pred: &Pred) -> Option<u8>
-        ensures { IfSome result (λ set_note. (e : Assignments) → is_met (values_of e pred.now.attr) pred.now.op ≡ true → passes_note set_note self.now.tests e ≡ true) }
+        ensures { IfSome result (λ set_note. (e : Assignments) → are_single e ≡ true → is_met (values_of e pred.now.attr) pred.now.op ≡ true → passes_note set_note self.now e ≡ true) }
     {
         let Op::OneOf(xs) = &pred.op else {
             return None;
         };
+        if 256 <= pred.attr.0 {
+            return None;
+        }
+        let (low, high) = xs.ends();
+        let ends = (small(low)?, small(high)?);
         let middle = middle_of(xs)?;
-        let at = self.set_at(pred.attr, xs.ends())?;
+        let at = self.lane_of(pred.attr.0 as u8, slot_of(ends))?;
         Some(at * 64 + middle)
     }
 
-    /// The set note: what is told of the first small set of the condition that a test is of, and 0 where there is none.
+    /// The set note: what is told of the first small set of the condition that a lane is of, and 0 where there is none.
     pub(crate) fn set_among(&self, conj: &Conj) -> u8
-        ensures { LosesNone conj.now result self.now.tests }
+        ensures { LosesNone conj.now result self.now }
     {
         for pred in conj.preds() {
             if let Some(set_note) = self.set_told(pred) {
@@ -260,10 +253,8 @@ impl FewTests {
             && (!self.count.has_third() || e.has_in(ends_of(self.third), numbered(self.third_attr)))
     }
 
-    // Whether the event satisfies the condition of which this is told, by its own values. It stands apart, so that the loop over
-    // rows of which most are passed over stays short.
-    #[inline(never)]
-    fn is_met_by_values(&self, extent: Extent, conj: &Conj, e: &Sight) -> bool
+    /// Whether the event satisfies the condition of which this is told, by its own values.
+    pub(crate) fn is_met_by_values(&self, extent: Extent, conj: &Conj, e: &Sight) -> bool
         requires told { glance self.now.tests extent ≡ glance_of conj.now }
         requires form { IsConj conj.now }
         ensures { result ≡ satisfies e.now conj.now }
@@ -272,29 +263,6 @@ impl FewTests {
             self.may_meet(e)
         } else {
             conj.satisfied_by(e.event())
-        }
-    }
-
-    // Whether an event of single values satisfies the condition. What is told of a set may say no before the row is read.
-    fn is_met_by_one(&self, set_note: u8, conj: &Conj, e: &Sight) -> bool
-        requires { LosesNone conj.now set_note self.now.tests }
-        ensures { result ≡ satisfies e.now conj.now }
-    {
-        self.may_have_set(set_note, e) && conj.satisfied_by(e.event())
-    }
-
-    /// Whether the event satisfies the condition of which this is told. A search asks it only of events that passed the lanes, where
-    /// these have single values, so they aren't asked again.
-    pub(crate) fn is_met(&self, told: Told, set_note: u8, conj: &Conj, e: &Sight) -> bool
-        requires told { glance self.now.tests (extent_of told) ≡ glance_of conj.now }
-        requires form { IsConj conj.now }
-        requires set { LosesNone conj.now set_note self.now.tests }
-        ensures { result ≡ satisfies e.now conj.now }
-    {
-        if e.is_exact() {
-            self.is_met_by_one(set_note, conj, e)
-        } else {
-            self.is_met_by_values(told.extent(), conj, e)
         }
     }
 

@@ -8,7 +8,7 @@ ghost use Rattle.be_model.specs.Forms.{IsConj};
 ghost use Rattle.be_model.specs.Matching.{values_of};
 ghost use Rattle.be_shape.specs.Glances.{least, greatest, is_in, has_in, small, bounds_of, is_whole, is_part, glance, with_extent, with_test, with_bounds, with_pred, glance_of, hull_low, hull_high, hull_in};
 ghost use Rattle.be_shape.specs.declared.small_sets.Told.TheVariants.{IsSet};
-ghost use Rattle.be_shape.specs.SmallSets.{extent_of, LosesNone};
+ghost use Rattle.be_shape.specs.SmallSets.{extent_of};
 
 use crate::few_tests::FewTests;
 use crate::small_sets::Told;
@@ -49,8 +49,8 @@ pub(crate) struct Glance {
     pub(crate) extent: Extent,
 }
 
-// The number, where it is strictly between the least and the greatest.
-fn small(v: i64) -> Option<i32>
+/// The number, where it is strictly between the least and the greatest.
+pub(crate) fn small(v: i64) -> Option<i32>
     ensures { result ≡ small v }
 {
     if (i32::MIN as i64) < v && v < GREATEST as i64 {
@@ -330,12 +330,5 @@ impl Glance {
             Extent::Few => Told::AsFew,
             Extent::Part => Told::AsPart,
         }
-    }
-
-    /// Which test is of a small set, and the lower bits of the number between its ends.
-    pub(crate) fn set_note(&self, conj: &Conj) -> u8
-        ensures { LosesNone conj.now result self.now.tests }
-    {
-        self.tests.set_among(conj)
     }
 }

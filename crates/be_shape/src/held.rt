@@ -8,9 +8,10 @@ ghost use Rattle.be_model.specs.Rows.{id_of};
 ghost use Rattle.be_shape.specs.FewTests.{few_told};
 ghost use Rattle.be_shape.specs.Held.{short_id, row_of, note_of, short_of, set_note_of, told_of, few_in, few_with};
 ghost use Rattle.be_shape.specs.Lanes.{passes_lanes, are_single, HoldLanes};
+ghost use Rattle.be_shape.specs.SetNotes.{passes_note};
 
 use crate::few_tests::FewTests;
-use crate::lanes::{LaneAttrs, LaneSlots};
+use crate::lanes::{LaneAttrs, LaneSlots, lane_at};
 use crate::sights::Sight;
 use crate::small_sets::Told;
 use be_base::Id;
@@ -162,8 +163,8 @@ impl Held {
         self.note() / 256
     }
 
-    /// Which test is of a small set, and the lower bits of the number between its ends.
-    pub(crate) fn set_note(&self) -> u8
+    // Which lane is of a small set, and the lower bits of the number between its ends.
+    fn set_note(&self) -> u8
         requires { IsSome (row_of self.now) }
         ensures { result ≡ set_note_of self.now }
     {
@@ -213,6 +214,19 @@ impl Held {
     {
         let (attrs, slots) = self.lanes();
         e.passes(*attrs, slots)
+    }
+
+    /// Whether the event, of single values, may have a number of the small set of which the set note tells. Where it tells of none,
+    /// nothing is asked.
+    pub(crate) fn may_have_set(&self, e: &Sight) -> bool
+        requires { IsSome (row_of self.now) }
+        ensures { result ≡ passes_note (set_note_of self.now) (few_in self.now) e.now }
+    {
+        let set_note = self.set_note();
+        let at = set_note / 64;
+        let (attrs, slots) = self.lanes();
+        let (a, slot) = lane_at(at, *attrs, *slots);
+        at == 0 || e.may_be(a, slot, set_note % 64)
     }
 
     /// Whether it has no row.

@@ -93,10 +93,17 @@ pub(crate) fn numbered(a: u8) -> AttrNo
     AttrNo(u16::from(a))
 }
 
-/// Whether the test of a number of an attribute is on this attribute, between these ends.
-pub(crate) fn is_test(number: u8, test: Ends, a: AttrNo, ends: (i64, i64)) -> bool
-    ensures attr { result ≡ true → numbered number ≡ a }
-    ensures ends { result ≡ true → test ≡ ends }
+/// The attribute and the slot of a lane, of three the first, the second or any other.
+pub(crate) fn lane_at(at: u8, attrs: LaneAttrs, slots: LaneSlots) -> (u8, Slot)
+    ensures first { at ≡ 1 → result ≡ (attrs.first, slots.first) }
+    ensures second { at ≡ 2 → result ≡ (attrs.second, slots.second) }
+    ensures third { at ≡ 3 → result ≡ (attrs.third, slots.third) }
 {
-    u16::from(number) == a.0 && test.0 as i64 == ends.0 && test.1 as i64 == ends.1
+    if at == 1 {
+        (attrs.first, slots.first)
+    } else if at == 2 {
+        (attrs.second, slots.second)
+    } else {
+        (attrs.third, slots.third)
+    }
 }

@@ -10,7 +10,7 @@ ghost use Rattle.be_model.specs.Forms.{IsConj};
 ghost use Rattle.be_shape.specs.Glances.{glance, glance_of};
 ghost use Rattle.be_shape.specs.Lanes.{are_single};
 ghost use Rattle.be_shape.specs.Listed.{attrs_of};
-ghost use Rattle.be_shape.specs.SmallSets.{extent_of, LosesNone};
+ghost use Rattle.be_shape.specs.SmallSets.{extent_of};
 
 use crate::few_tests::FewTests;
 use crate::glances::Glance;
@@ -56,9 +56,9 @@ impl Kept {
         ensures { result ≡ Some (arc_value row) }
     {
         let glance = Glance::of(&row.conj);
-        let set_note = glance.set_note(&row.conj);
         let told = glance.told();
         let (told, tests) = glance.tests.settled(told, &row.conj);
+        let set_note = tests.set_among(&row.conj);
         Kept {
             held: Held::of(told, set_note, tests, row),
         }
@@ -102,19 +102,13 @@ impl Kept {
     }
 
     // The row, and what is told of it.
-    fn told(&self) -> (&Arc<Row>, Told, u8, FewTests)
+    fn told(&self) -> (&Arc<Row>, Told, FewTests)
         requires { IsSome self.now }
         ensures row { self.now ≡ Some (arc_value result.0.now) }
-        ensures tests { glance result.3.tests (extent_of result.1) ≡ glance_of (arc_value result.0.now).conj }
+        ensures tests { glance result.2.tests (extent_of result.1) ≡ glance_of (arc_value result.0.now).conj }
         ensures form { IsConj (arc_value result.0.now).conj }
-        ensures set { LosesNone (arc_value result.0.now).conj result.2 result.3.tests }
     {
-        (
-            self.held.row(),
-            self.held.told(),
-            self.held.set_note(),
-            self.held.tests(),
-        )
+        (self.held.row(), self.held.told(), self.held.tests())
     }
 
     /// The row's attributes.
@@ -122,7 +116,7 @@ impl Kept {
         requires { IsSome self.now }
         ensures { option_map (λ row. attrs_of row.conj) self.now ≡ Some result }
     {
-        let (_, told, _, tests) = self.told();
+        let (_, told, tests) = self.told();
         tests.attrs(told.extent())
     }
 
@@ -131,7 +125,7 @@ impl Kept {
         requires { IsSome self.now }
         ensures { option_map (λ row. has a row) self.now ≡ Some result }
     {
-        let (row, told, _, tests) = self.told();
+        let (row, told, tests) = self.told();
         tests.has_attr(told.extent(), row, a)
     }
 
@@ -146,13 +140,37 @@ impl Kept {
         self.held.ask(exact, e)
     }
 
-    /// Whether the event satisfies the row.
+    // Whether an event of single values satisfies the row. What is told of a set may say no before the row is read.
+    fn is_met_by_one(&self, e: &Sight) -> bool
+        requires row { IsSome self.now }
+        requires single { are_single e.now ≡ true }
+        ensures { option_map (λ row. satisfies e.now row.conj) self.now ≡ Some result }
+    {
+        self.held.may_have_set(e) && self.row().conj.satisfied_by(e.event())
+    }
+
+    // Whether the event satisfies the row, by its own values. It stands apart, so that the loop over rows of which most are passed
+    // over stays short.
+    #[inline(never)]
+    fn is_met_by_values(&self, e: &Sight) -> bool
+        requires { IsSome self.now }
+        ensures { option_map (λ row. satisfies e.now row.conj) self.now ≡ Some result }
+    {
+        let (row, told, tests) = self.told();
+        tests.is_met_by_values(told.extent(), &row.conj, e)
+    }
+
+    /// Whether the event satisfies the row. A search asks it only of events that passed the lanes, where these have single values, so
+    /// they aren't asked again.
     pub fn is_met(&self, e: &Sight) -> bool
         requires { IsSome self.now }
         ensures { option_map (λ row. satisfies e.now row.conj) self.now ≡ Some result }
     {
-        let (row, told, set_note, tests) = self.told();
-        tests.is_met(told, set_note, &row.conj, e)
+        if e.is_exact() {
+            self.is_met_by_one(e)
+        } else {
+            self.is_met_by_values(e)
+        }
     }
 
     /// The row's span on the attribute.
@@ -161,7 +179,7 @@ impl Kept {
         requires lies { option_map (row_lies s.now) self.now ≡ Some true }
         ensures { option_map (λ row. span_in s.now a row.conj) self.now ≡ Some result }
     {
-        let (row, told, _, tests) = self.told();
+        let (row, told, tests) = self.told();
         tests.span(told.extent(), &row.conj, s, a)
     }
 }

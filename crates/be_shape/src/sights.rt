@@ -7,7 +7,7 @@ ghost use Rattle.be_shape.specs.Glances.{has_in};
 ghost use Rattle.be_shape.specs.Lanes.{seen, is_single, are_single, lets_event};
 ghost use Rattle.be_shape.specs.Ranges.{is_rising};
 ghost use Rattle.be_shape.specs.Search.{holds_value};
-ghost use Rattle.be_shape.specs.SmallSets.{may_be_any};
+ghost use Rattle.be_shape.specs.SetNotes.{passes_set};
 ghost use Rattle.be_shape.specs.Sights.{IsSight};
 
 use crate::glances::{Ends, GREATEST, has_in, is_in};
@@ -177,15 +177,12 @@ impl<'a> Sight<'a> {
         first & (second & third)
     }
 
-    /// Whether a value of the attribute may be in the set of these ends, whose number between them has these lower bits.
-    pub(crate) fn may_be(&self, ends: Ends, middle: u8, a: AttrNo) -> bool
-        ensures { may_be_any ends middle (values_of self.now a) ≡ true → result ≡ true }
+    /// Whether what is seen of the attribute's values may be in the set whose ends are those of the slot, and whose number between
+    /// them has these lower bits.
+    pub(crate) fn may_be(&self, a: u8, slot: Slot, middle: u8) -> bool
+        ensures { result ≡ passes_set self.now middle (a, slot) }
     {
-        match self.only_value(a) {
-            Some(Some(v)) => may_be(ends, middle, v),
-            Some(None) => false,
-            None => true,
-        }
+        may_be(slot, middle, self.seen[usize::from(a)])
     }
 
     pub fn event(&self) -> &'a Event

@@ -1,14 +1,15 @@
 //! What is told of a small set of numbers, one of which a row wants of an attribute, so that an event can be refused without a
 //! look at the row.
 
-ghost use Rattle.std.specs.Prelude.{◌≡◌, ◌<◌, ℤ, true, IfSome, unsigned_abs};
-ghost use Rattle.be_model.specs.Hulls.{first_of_values, last_of_values};
-ghost use Rattle.be_model.specs.Matching.{is_among};
+ghost use Rattle.std.specs.Prelude.{◌≡◌, ◌<◌, true, IfSome};
+ghost use Rattle.be_shape.specs.Lanes.{raised};
 ghost use Rattle.be_shape.specs.Listed.{low_part};
 ghost use Rattle.be_shape.specs.declared.small_sets.Told.TheVariants.{AsFew};
-ghost use Rattle.be_shape.specs.SmallSets.{extent_of, is_set, is_sure, may_be};
+ghost use Rattle.be_shape.specs.SetNotes.{may_be, LetsSet};
+ghost use Rattle.be_shape.specs.SmallSets.{extent_of, is_set, is_sure};
 
-use crate::glances::{Ends, Extent};
+use crate::glances::{Extent, small};
+use crate::lanes::{Slot, raised};
 use be_model::Values;
 
 /// How much of a row its tests are.
@@ -54,28 +55,36 @@ impl Told {
 }
 
 /// The lower 6 bits. Most other numbers have others.
-pub(crate) fn low_part(n: u64) -> u8
+fn low_part(n: u32) -> u8
     ensures { result ≡ low_part n }
 {
     (n % 64) as u8
 }
 
-/// Whether the number may be in the set of these ends, whose number between them has these lower bits.
-pub(crate) fn may_be(ends: Ends, middle: u8, v: i64) -> bool
-    ensures { result ≡ may_be ends middle v }
+/// Whether the value that is seen may be in the set whose ends are those of the slot, and whose number between them has these lower
+/// bits. No end is left out, since which of them it is can't be foreseen.
+pub(crate) fn may_be(slot: Slot, middle: u8, x: u32) -> bool
+    ensures { result ≡ may_be slot middle x }
 {
-    ends.0 as i64 == v || ends.1 as i64 == v || low_part(v.unsigned_abs()) == middle
+    (x == slot.0) | (x == slot.0.wrapping_add(slot.1)) | (low_part(x) == middle)
+}
+
+// The lower bits of a number, as it is seen.
+fn bits_of(v: i64) -> Option<u8>
+    ensures { IfSome result (λ m. m ≡ low_part (raised v)) }
+{
+    Some(low_part(raised(small(v)?)))
 }
 
 /// The lower bits of the middle one of three numbers, or of the first of fewer. None of a larger set.
 pub(crate) fn middle_of(xs: &Values) -> Option<u8>
     ensures low { IfSome result (λ m. m < 64) }
-    ensures set { IfSome result (λ m. (v : ℤ) → is_among xs.now v ≡ true → may_be (first_of_values xs.now, last_of_values xs.now) m v ≡ true) }
+    ensures set { IfSome result (λ m. LetsSet xs.now m) }
 {
     match xs.as_slice() {
-        [x] => Some(low_part(x.unsigned_abs())),
-        [x, _] => Some(low_part(x.unsigned_abs())),
-        [_, x, _] => Some(low_part(x.unsigned_abs())),
+        [x] => bits_of(*x),
+        [x, _] => bits_of(*x),
+        [_, x, _] => bits_of(*x),
         _ => None,
     }
 }
