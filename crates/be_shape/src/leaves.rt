@@ -10,7 +10,6 @@ ghost use Rattle.be_shape.specs.Common.{AreCommon};
 ghost use Rattle.be_shape.specs.Leaves.{are_rows, rows_of_places};
 ghost use Rattle.be_shape.specs.Listed.{attrs_of};
 ghost use Rattle.std.specs.Arc.{arc_value};
-ghost use Rattle.be_model.specs.Matching.{satisfies};
 
 use crate::hints::Hints;
 use crate::listings::RowAttrs;
@@ -113,21 +112,12 @@ impl Leaf {
         self.kept(place).row()
     }
 
-    /// The id of the row at a place. The row isn't looked at, but where its id is 2^24 - 1 or more.
-    pub fn id(&self, place: usize) -> Id
+    // The id of the row at a place. The row isn't looked at, but where its id is 2^24 - 1 or more.
+    fn id(&self, place: usize) -> Id
         requires { place < length self.now }
         ensures { option_map id_of (slice_get self.now place) ≡ Some result.0 }
     {
         self.kept(place).id()
-    }
-
-    /// Whether the event satisfies the row at a place. A search asks it of places that `choose` noted and isn't sure of, so it doesn't
-    /// ask the lanes again.
-    pub fn is_met(&self, place: usize, e: &Sight) -> bool
-        requires { place < length self.now }
-        ensures { option_map (λ row. satisfies e.now row.conj) (slice_get self.now place) ≡ Some result }
-    {
-        self.kept(place).is_met(e)
     }
 
     /// Notes in `chosen` at which of the `BLOCK` places from this one on the event may satisfy the row, and where it does for sure,
