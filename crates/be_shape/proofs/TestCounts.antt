@@ -19,7 +19,7 @@ use Rattle.be_shape.specs.declared.test_counts.Count.TheVariants.{Zero, One, Two
 use Rattle.be_shape.specs.FewTests.{test_of, few_of, few_told}
 use Rattle.be_shape.specs.Glances.{Glance, least, greatest, small, bounds, bounds_of, Test, test_on, is_part, glance, with_extent, with_test, with_bounds, narrow_bounds, further_bounds, with_pred, with_preds, narrowest_of, glance_of}
 use Rattle.be_shape.specs.Lanes.{Slot, Lane, lowered, free, is_free, AreFree}
-use Rattle.be_shape.specs.SmallSets.{is_set}
+use Rattle.be_shape.specs.Told.{is_set}
 use Rattle.be_shape.proofs.BoundedTests.{below_to, less_eq, same_le}
 use Rattle.be_shape.proofs.FirstBounds.{of_first, of_further}
 use Rattle.be_shape.proofs.ToldTests.{by_small, le_test, more_of_parts}

@@ -15,7 +15,7 @@ use Rattle.be_shape.specs.Glances.{least, greatest, is_in, has_in, Test, passes,
 use Rattle.be_shape.specs.Lanes.{raised, lets, slot_of, ends_of, free, seen, Lane, lets_event, passes_lanes, is_single, are_single, AreFree, HoldLanes}
 use Rattle.be_shape.specs.declared.small_sets.Told.{Told}
 use Rattle.be_shape.specs.declared.small_sets.Told.TheVariants.{AsWhole, AsFew, AsPart, IsSet}
-use Rattle.be_shape.specs.SmallSets.{extent_of, is_sure}
+use Rattle.be_shape.specs.Told.{extent_of, is_sure}
 use Rattle.be_shape.proofs.BoundedTests.{is_sound, are_sound, whole_sound}
 use Rattle.be_shape.proofs.Slots.{IsSmall, IsSlot, raised_is, lets_if_in, in_if_lets, lets_free, slot_again, ends_small}
 use Rattle.be_shape.proofs.SightValues.{maybe_single, values_single}

@@ -5,7 +5,7 @@ use Rattle.be_model.specs.declared.changes.Row.{Row}
 use Rattle.be_model.specs.Matching.{Assignments, satisfies, satisfied}
 use Rattle.be_shape.specs.declared.leaves.Choice.{Choice}
 
--- at these places, each counted from one on, these rows stand
+-- at these places, each counted from the place `from`, these rows stand
 abbrev pub AreAt : List Row → ℕ → List Choice → List Row → Type 0
 AreAt rows from chosen found = map (λ (c : Choice). slice_get rows (from + c.at)) chosen ≡ map Some found
 

@@ -6,7 +6,7 @@ use Rattle.be_model.specs.Schemas.{numbered}
 use Rattle.be_shape.specs.Glances.{Test}
 use Rattle.be_shape.specs.Lanes.{Slot, Lane, Few, ends_of, is_free}
 use Rattle.be_shape.specs.declared.small_sets.Told.{Told}
-use Rattle.be_shape.specs.SmallSets.{is_set}
+use Rattle.be_shape.specs.Told.{is_set}
 
 abbrev pub tests_of : Count → Test → Test → Test → List Test
 tests_of Zero x y z = []

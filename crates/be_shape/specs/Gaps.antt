@@ -34,7 +34,7 @@ pub record TellSet (pred : Pred) (first second third : Lane) : Type 0 where
   pub kept : (e : Assignments) → are_single e ≡ true → is_met (values_of e pred.attr) pred.op ≡ true → (lets_event e first && (lets_event e second && lets_event e third)) ≡ true
   pub said : (e : Assignments) → are_single e ≡ true → (lets_event e first && (lets_event e second && lets_event e third)) ≡ true → is_met (values_of e pred.attr) pred.op ≡ true
 
--- the condition is one predicate, of which there is one test, and the events of single values that meet it are those that pass the
+-- the condition is one predicate, of which there is one test that isn't all of it, and the events of single values that meet it are those that pass the
 -- lane of that test and these slots. Such slots are known of small sets
 pub record IsOnlySet (conj : List Pred) (told : Told) (t : Few) (gaps : Slot × Slot) : Type 0 where
   pub pred : Pred

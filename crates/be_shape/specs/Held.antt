@@ -14,7 +14,7 @@ use Rattle.be_shape.specs.FewTests.{few_told}
 use Rattle.be_shape.specs.Glances.{glance, glance_of}
 use Rattle.be_shape.specs.Lanes.{Few, HoldLanes, free}
 use Rattle.be_shape.specs.SetNotes.{LosesNone}
-use Rattle.be_shape.specs.SmallSets.{extent_of}
+use Rattle.be_shape.specs.Told.{extent_of}
 
 -- the id as a place has it: where 24 bits don't tell it, their greatest number
 abbrev pub short_id : ℕ → ℕ
@@ -60,7 +60,7 @@ few_in (ToldFew attrs note slots row) = few_with AsFew attrs slots
 few_in (ToldPart attrs note slots row) = few_with AsPart attrs slots
 
 -- what is told of a row is right: the tests are its glance, its condition has the form of one, and neither the set note nor the lanes
--- refuse an event of single values that satisfies it
+-- refuse an event of single values that satisfies it. Lanes that are sure let no other such event pass
 pub record IsTold (row : Row) (told : Told) (set_note : ℕ) (few : Few) : Type 0 where
   pub tests : glance few.tests (extent_of told) ≡ glance_of row.conj
   pub form : IsConj row.conj

@@ -8,7 +8,7 @@ use Rattle.be_model.specs.Matching.{Assignments, values_of, satisfies}
 use Rattle.be_model.specs.Schemas.{numbered}
 use Rattle.be_shape.specs.declared.small_sets.Told.{Told}
 use Rattle.be_shape.specs.Glances.{least, greatest, Test}
-use Rattle.be_shape.specs.SmallSets.{is_sure}
+use Rattle.be_shape.specs.Told.{is_sure}
 
 -- one value, strictly between the least and the greatest number
 abbrev pub is_single : List ℤ → Bool
@@ -45,7 +45,7 @@ slot_of ends = (raised ends.0, less (raised ends.1) (raised ends.0))
 abbrev pub ends_of : Slot → ℤ × ℤ
 ends_of slot = (lowered slot.0, lowered ((slot.0 + slot.1) % 4294967296))
 
--- the slot of all values, and of none
+-- the slot that lets every event pass, also one without a value
 abbrev pub free : Slot
 free = (0, 4294967295)
 

@@ -4,7 +4,7 @@ pub mod Widths
 pub mod Glances
 pub mod FewTests
 pub mod Listed
-pub mod SmallSets
+pub mod Told
 pub mod Held
 pub mod Plain
 pub mod Shape

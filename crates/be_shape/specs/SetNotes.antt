@@ -11,13 +11,13 @@ use Rattle.be_shape.specs.Listed.{low_part}
 abbrev pub may_be : Slot → ℕ → ℕ → Bool
 may_be slot middle x = (x == slot.0) || (x == (slot.0 + slot.1) % 4294967296) || (low_part x == middle)
 
--- of a set with ends that are told, a number that is seen may be in it by these bits
+-- of a set whose ends can be told, each number that can be seen may be in it by these bits
 abbrev pub LetsSet : List ℤ → ℕ → Type 0
 LetsSet xs middle =
     is_single (first_of_values xs ∷ []) ≡ true → is_single (last_of_values xs ∷ []) ≡ true
     → (v : ℤ) → is_single (v ∷ []) ≡ true → is_among xs v ≡ true → may_be (slot_of (first_of_values xs, last_of_values xs)) middle (raised v) ≡ true
 
--- the event may have a value of the set that the lane is of
+-- the event, of single values, may have a value of the set that the lane is of
 abbrev pub passes_set : Assignments → ℕ → Lane → Bool
 passes_set e middle lane = may_be lane.1 middle (seen (values_of e (numbered lane.0)))
 

@@ -13,7 +13,7 @@ width wide at = record { wide = wide; at = at }
 abbrev pub narrowest : Width → Width → Width → Narrowest
 narrowest first second third = record { first = first; second = second; third = third }
 
--- the first three predicates, before any width is known. No ends of 32 bits are so far apart
+-- the first three predicates, before any width is known. No bounds of a predicate are so far apart
 abbrev pub first_three : Narrowest
 first_three = narrowest (width 4294967295 0) (width 4294967295 1) (width 4294967295 2)
 

@@ -1,6 +1,6 @@
 //! At most three tests of a row.
 
-ghost use Rattle.std.specs.Prelude.{◌≡◌, ◌<◌, ◌+◌, ℕ, true, List, [], ◌∷◌, ◌++◌, length, nat_le, IfSome};
+ghost use Rattle.std.specs.Prelude.{◌≡◌, ◌<◌, ◌+◌, ℕ, true, [], ◌∷◌, ◌++◌, length, nat_le, IfSome};
 ghost use Rattle.be_model.specs.Forms.{IsConj};
 ghost use Rattle.be_model.specs.Hulls.{span_in};
 ghost use Rattle.be_model.specs.Lies.{conj_lies};
@@ -14,7 +14,7 @@ ghost use Rattle.be_shape.specs.Glances.{may_meet, test_on, is_whole, glance, gl
 ghost use Rattle.be_shape.specs.Listed.{attrs_told};
 ghost use Rattle.be_shape.specs.Lanes.{are_single, AreFree, HoldLanes};
 ghost use Rattle.be_shape.specs.SetNotes.{passes_set, passes_at, passes_note, LosesNone};
-ghost use Rattle.be_shape.specs.SmallSets.{extent_of};
+ghost use Rattle.be_shape.specs.Told.{extent_of};
 
 use crate::gaps::gaps_of;
 use crate::glances::{Ends, Extent, hull_in, small};

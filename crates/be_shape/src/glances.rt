@@ -8,7 +8,7 @@ ghost use Rattle.be_model.specs.Forms.{IsConj};
 ghost use Rattle.be_model.specs.Matching.{values_of};
 ghost use Rattle.be_shape.specs.Glances.{least, greatest, is_in, has_in, small, bounds_of, is_whole, is_part, glance, with_extent, with_test, with_bounds, with_pred, glance_of, hull_low, hull_high, hull_in};
 ghost use Rattle.be_shape.specs.declared.small_sets.Told.TheVariants.{IsSet};
-ghost use Rattle.be_shape.specs.SmallSets.{extent_of};
+ghost use Rattle.be_shape.specs.Told.{extent_of};
 
 use crate::few_tests::FewTests;
 use crate::small_sets::Told;
@@ -276,22 +276,22 @@ impl Glance {
     }
 
     // With a test more, or of this extent where there is no room.
-    fn with_test(self, full: Extent, a: AttrNo, b: Bounds) -> Glance
-        ensures { result ≡ with_test full a b self }
+    fn with_test(self, extent: Extent, a: AttrNo, b: Bounds) -> Glance
+        ensures { result ≡ with_test extent a b self }
     {
         if self.lacks_room(a) {
-            self.with_extent(full)
+            self.with_extent(extent)
         } else {
             self.with_one(a, b)
         }
     }
 
-    fn with_bounds(self, full: Extent, a: AttrNo, bounds: Option<Bounds>) -> Glance
-        ensures { result ≡ with_bounds full a bounds self }
+    fn with_bounds(self, extent: Extent, a: AttrNo, bounds: Option<Bounds>) -> Glance
+        ensures { result ≡ with_bounds extent a bounds self }
     {
         match bounds {
-            Some(b) => self.with_test(full, a, b),
-            None => self.with_extent(full),
+            Some(b) => self.with_test(extent, a, b),
+            None => self.with_extent(extent),
         }
     }
 

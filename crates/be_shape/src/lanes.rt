@@ -1,6 +1,6 @@
 //! Slots of values, which a search of an event of single values asks.
 
-ghost use Rattle.std.specs.Prelude.{◌≡◌, ◌<◌, ◌≤ℤ◌, ◌^◌, true, pos, negsuc};
+ghost use Rattle.std.specs.Prelude.{◌≡◌, ◌<◌, ◌≤ℤ◌, ◌^◌, pos, negsuc};
 ghost use Rattle.be_model.specs.Schemas.{numbered};
 ghost use Rattle.be_shape.specs.Lanes.{raised, lowered, lets, slot_of, ends_of, is_free};
 
@@ -10,7 +10,7 @@ use be_base::AttrNo;
 /// A first value, counted from the least number of 32 bits, and how many more there are from it on. It goes round.
 pub(crate) type Slot = (u32, u32);
 
-/// The slot of all values, and of none.
+/// The slot that lets every event pass, also one without a value.
 pub(crate) const FREE: Slot = (0, u32::MAX);
 
 /// The numbers of the attributes of three lanes.
@@ -29,7 +29,7 @@ pub(crate) struct LaneSlots {
     pub(crate) third: Slot,
 }
 
-/// Whether the slot is that of all values, and of none.
+/// Whether the slot lets every event pass, also one without a value.
 pub(crate) fn is_free(slot: Slot) -> bool
     ensures { result ≡ is_free slot }
 {

@@ -133,13 +133,13 @@ impl Leaf {
         let sight = e.again();
         let many = (self.len() - from).min(BLOCK);
         let exact = sight.is_exact();
-        let mut kept = 0;
+        let mut count = 0;
         for at in 0..many {
             let (may, sure) = kept_at(places, from + at).ask(exact, &sight);
-            chosen[kept] = Choice { at: at as u8, sure };
-            kept += usize::from(may);
+            chosen[count] = Choice { at: at as u8, sure };
+            count += usize::from(may);
         }
-        kept
+        count
     }
 
     /// The span on the attribute of the row at a place. A row whose attributes are told isn't looked at.
@@ -160,7 +160,7 @@ impl Leaf {
     }
 
     /// Whether the row at a place has a predicate on the attribute. The row is looked at only where its attributes aren't told.
-    pub fn has_attr(&self, place: usize, a: AttrNo) -> bool
+    pub(crate) fn has_attr(&self, place: usize, a: AttrNo) -> bool
         requires { place < length self.now }
         ensures { option_map (λ row. has a row) (slice_get self.now place) ≡ Some result }
     {

@@ -10,7 +10,7 @@ ghost use Rattle.be_model.specs.Forms.{IsConj};
 ghost use Rattle.be_shape.specs.Glances.{glance, glance_of};
 ghost use Rattle.be_shape.specs.Lanes.{are_single};
 ghost use Rattle.be_shape.specs.Listed.{attrs_of};
-ghost use Rattle.be_shape.specs.SmallSets.{extent_of};
+ghost use Rattle.be_shape.specs.Told.{extent_of};
 
 use crate::few_tests::FewTests;
 use crate::glances::Glance;

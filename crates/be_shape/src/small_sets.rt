@@ -6,7 +6,7 @@ ghost use Rattle.be_shape.specs.Lanes.{raised};
 ghost use Rattle.be_shape.specs.Listed.{low_part};
 ghost use Rattle.be_shape.specs.declared.small_sets.Told.TheVariants.{AsFew};
 ghost use Rattle.be_shape.specs.SetNotes.{may_be, LetsSet};
-ghost use Rattle.be_shape.specs.SmallSets.{extent_of, is_set, is_sure};
+ghost use Rattle.be_shape.specs.Told.{extent_of, is_set, is_sure};
 
 use crate::glances::{Extent, small};
 use crate::lanes::{Slot, raised};

@@ -1,11 +1,9 @@
 //! Walks from the root down to a node.
 
 ghost use Rattle.std.specs.Prelude.{◌≡◌, true, option_map, option_and_then};
-ghost use Rattle.be_model.specs.Schemas.{IsSchema};
 ghost use Rattle.be_shape.specs.Plain.{plain, parts_as, half_as};
 ghost use Rattle.be_shape.specs.Paths.{part_on, in_half, child, walk, range_below, range_along};
 ghost use Rattle.be_shape.specs.Ranges.{is_bounded, is_rising, may_step, StandsIn};
-ghost use Rattle.be_shape.specs.Shape.{can_split};
 
 use crate::nodes::{Node, Part};
 use crate::ranges::{NodeRange, lower_range, upper_range, whole_range};

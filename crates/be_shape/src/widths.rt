@@ -10,7 +10,7 @@ use crate::glances::{Bounds, Ends, GREATEST, bounds_of};
 use be_base::AttrNo;
 use be_model::Pred;
 
-// No ends are so far apart.
+// No bounds of a predicate are so far apart.
 const ANY: u64 = 4294967295;
 
 // How far the ends are apart.
@@ -27,7 +27,7 @@ struct Width {
     at: usize,
 }
 
-/// The three narrowest predicates of a condition, the narrowest first.
+/// Three predicates of a condition by their places: the narrowest, the narrowest of them first.
 #[derive(Clone, Copy)]
 pub(crate) struct Narrowest {
     first: Width,
@@ -94,7 +94,7 @@ impl Narrowest {
     }
 
     /// Of more than three predicates the narrowest that are the first on their attributes, so that the widest tests are left out, which
-    /// refuse the fewest events. By any others what is told would be as true.
+    /// mostly refuse few events. By any others what is told would be as true.
     pub(crate) fn of(preds: &[Pred]) -> Narrowest
         ensures { result ≡ narrowest_of preds.now }
     {

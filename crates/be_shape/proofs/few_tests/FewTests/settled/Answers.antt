@@ -1,7 +1,7 @@
 use Rattle.std.proofs.Common.{◌≡◌, true, sym, ap, subst, ◌∙◌}
 use Rattle.be_shape.specs.FewTests.{few_of, few_told}
 use Rattle.be_shape.specs.Glances.{glance}
-use Rattle.be_shape.specs.SmallSets.{extent_of}
+use Rattle.be_shape.specs.Told.{extent_of}
 use Rattle.be_shape.specs.Gaps.{IsOnlySet}
 use Rattle.be_shape.specs.Lanes.{Few, Slot, Lane, AreFree, HoldLanes}
 use Rattle.be_shape.proofs.ToldLanes.{AreSlots, held}

@@ -3,7 +3,7 @@ use Rattle.std.specs.Arc.{arc_value}
 use Rattle.be_shape.specs.declared.small_sets.Told.{Told}
 use Rattle.be_shape.specs.Glances.{glance}
 use Rattle.be_shape.specs.Lanes.{Few}
-use Rattle.be_shape.specs.SmallSets.{extent_of}
+use Rattle.be_shape.specs.Told.{extent_of}
 use Rattle.be_shape.proofs.HeldRows.{of_row}
 use Rattle.be_shape.proofs.places.Kept.told.Goals as goal
 

@@ -19,7 +19,7 @@ is_sure AsFew = false
 is_sure AsPart = false
 is_sure IsSet = true
 
--- the lanes behind the first are of its gaps, and of no test
+-- the lanes behind the first are of the gaps of a set, and of no test
 abbrev pub is_set : Told → Bool
 is_set AsWhole = false
 is_set AsFew = false
