@@ -1,7 +1,7 @@
 #!/usr/bin/env bash
-# Prints what a search takes, of 1,000, 10,000, 100,000 and 1,000,000 subscriptions of the generated kind (bench/generated.awk) and
-# like a market's (bench/market.awk): processor time as the program measures it, the least of three. It builds, and so proves, a
-# program of its own.
+# Prints what a search takes, of 1,000, 10,000, 100,000 and 1,000,000 subscriptions of the generated kind (bench/generated.awk), like a
+# market's (bench/market.awk), and like those of a market with twenty attributes (bench/broad_market.awk): processor time as the program
+# measures it, the least of three. It builds, and so proves, a program of its own.
 #   bench/leaf_tests.sh COMMIT    the same of the crates of an earlier commit beside it, run in turns, and how many times as fast a search is now
 #   BENCH_LEAF, BENCH_LEAF_BEFORE programs that were built so before, to be measured in place of new ones
 # shellcheck source=common.sh
@@ -70,4 +70,5 @@ search() {
 for subs in 1000 10000 100000 1000000; do
     search generated "of the generated kind" "$subs" $((subs > 100000 ? 100 : 1000)) $((200000 / subs + 1))
     search market "like a market's" "$subs" 10000 $((500000 / subs + 1))
+    search broad_market "like a market's with twenty attributes" "$subs" $((subs > 100000 ? 300 : 3000)) $((300000 / subs + 1))
 done
