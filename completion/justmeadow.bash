@@ -20,7 +20,9 @@ _justmeadow() {
     case "${COMP_WORDS[1]-}" in --dist | --unproved) first=2 ;; esac
 
     if [ "$COMP_CWORD" -lt "$first" ] || [ "$COMP_CWORD" -eq 1 ]; then
-        _justmeadow_words "$current" "$commands --help --version --test --where --dist --build --unproved"
+        # the script has words of its own, which the program hasn't
+        [ "$(head -c 2 -- "$(type -P -- "$1")" 2>/dev/null)" != '#!' ] || commands="$commands --help --version --test --where --dist --build --unproved"
+        _justmeadow_words "$current" "$commands"
         return
     fi
     if [ "$COMP_CWORD" -eq "$first" ]; then

@@ -391,8 +391,11 @@ def answer(client, line):
     if call not in CALLS:
         return {"wrong": f"there is no call {call}"}
     function, count = CALLS[call]
+    given = words[0].split(" ", count - 1) if words and count else words
+    if len(given) != count:
+        return {"wrong": f"{call} takes {('no words', 'one word', 'two words')[count]}, of which the last is the rest of the line"}
     try:
-        result = function(client, *(words[0].split(" ", count - 1) if words else []))
+        result = function(client, *given)
         return [result.n, result] if isinstance(result, Told) else result
     except (Refused, Ended, Unreadable, KeyError, TypeError, ValueError) as error:
         return {type(error).__name__.lower() if isinstance(error, (Refused, Ended, Unreadable)) else "wrong": str(error)}
@@ -407,6 +410,8 @@ def main(port, patience="30", host="127.0.0.1"):
         sys.exit(f"justmeadow: {error}")
 
 if __name__ == "__main__":
+    if sys.argv[1:] == ["--help"]:
+        sys.exit(print(__doc__))
     if not 1 <= len(sys.argv[1:]) <= 3 or not sys.argv[1].isdigit():
         sys.exit("justmeadow: PORT [PATIENCE [HOST]]")
     main(*sys.argv[1:])

@@ -7,16 +7,21 @@ import time
 sys.dont_write_bytecode = True
 from output import name, say, seconds  # noqa: E402 # first, so that Ctrl-C is quiet from here on
 
-import redis  # noqa: E402
+try:
+    import redis  # noqa: E402
+except ImportError:
+    redis = None  # so that --help is printed all the same
 
 sys.path.insert(0, os.path.join(os.path.dirname(os.path.abspath(__file__)), "..", "client"))
 from justmeadow import turns  # noqa: E402
 
-GONE = (redis.ConnectionError, redis.TimeoutError, redis.exceptions.ReadOnlyError)
+GONE = (redis.ConnectionError, redis.TimeoutError, redis.exceptions.ReadOnlyError) if redis else ()
 
 
 def store(url):
     """A word of a command line: the Redis at a URL."""
+    if not redis:
+        raise argparse.ArgumentTypeError("there is no module `redis` here: it is Debian's python3-redis")
     try:
         found = redis.Redis.from_url(url, socket_timeout=30, socket_connect_timeout=5)
         found.connection_pool.make_connection()  # which doesn't connect yet
