@@ -1,9 +1,10 @@
 -- What is put of rows that were found.
-use Rattle.std.specs.Prelude.{◌≡◌, ◌≤◌, ◌+◌, ◌++◌, ℕ, List, length, map, IsPermutation}
+use Rattle.std.specs.Prelude.{◌≡◌, ◌≤◌, ◌+◌, ◌++◌, ℕ, List, [], ◌∷◌, length, map, IsPermutation}
 use Rattle.be_base.specs.Lists.{BeginsWith}
 use Rattle.be_model.specs.declared.changes.Row.{Row}
 use Rattle.be_model.specs.ByIds.{ByIds, rows_of}
 use Rattle.be_model.specs.Matching.{Assignments, satisfied}
+use Rattle.be_model.specs.Rows.{id_of}
 
 -- an item for each row that was put; how many more can surely be put; and for how many there is memory, with those that were put
 pub record Held (X : Type 0) : Type 0 where
@@ -15,6 +16,10 @@ pub record Held (X : Type 0) : Type 0 where
 pub record Adds {X : Type 0} (before after : Held X) (more : List X) : Type 0 where
   pub put : after.items ≡ before.items ++ more
   pub kept : before.sure ≤ after.sure + length more
+
+-- an item is put last of each row that has the id
+abbrev pub PutsById : {X : Type 0} → (Row → X) → ℕ → (before after : Held X) → Type 0
+PutsById of id before after = (row : Row) → id_of row ≡ id → Adds before after (of row ∷ [])
 
 abbrev pub KeepsPlaces : {X : Type 0} → Held X → Held X → Type 0
 KeepsPlaces before after = before.places ≤ after.places

@@ -1,9 +1,9 @@
 //! What a search puts rows into.
 
-ghost use Rattle.std.specs.Prelude.{◌≡◌, ◌<◌, ◌≤◌, ◌∷◌, [], length, take, OnOk, OnErr};
+ghost use Rattle.std.specs.Prelude.{◌≡◌, ◌<◌, ◌≤◌, ◌∷◌, [], true, false, length, take, IfOk, OnOk, OnErr};
 ghost use Rattle.std.specs.Arc.{arc_value};
 ghost use Rattle.be_model.specs.Rows.{id_of};
-ghost use Rattle.be_index.specs.Puts.{Adds, KeepsPlaces};
+ghost use Rattle.be_index.specs.Puts.{Adds, PutsById, KeepsPlaces};
 
 use be_base::{Id, NoMemory};
 use be_model::{Found, Row};
@@ -25,6 +25,14 @@ pub trait Hits {
     fn put(&mut self, id: Id, row: &Arc<Row>) -> Result<(), NoMemory>
         requires { id.0 ≡ id_of (arc_value row.now) }
         ensures put { OnOk result (Adds (held self.old) (held self.new) (item_of (arc_value row.now) ∷ [])) }
+        ensures refused { OnErr result ((held self.old).sure < 1) }
+        ensures same { OnErr result ((held self.new).items ≡ (held self.old).items) }
+        ensures room { KeepsPlaces (held self.old) (held self.new) };
+
+    /// Puts a row last by its id alone, and says whether it did. Where more than the id is kept it doesn't, and nothing changes.
+    fn put_id(&mut self, id: Id) -> Result<bool, NoMemory>
+        ensures put { IfOk result (λ done. done ≡ true → PutsById item_of id.0 (held self.old) (held self.new)) }
+        ensures left { IfOk result (λ done. done ≡ false → held self.new ≡ held self.old) }
         ensures refused { OnErr result ((held self.old).sure < 1) }
         ensures same { OnErr result ((held self.new).items ≡ (held self.old).items) }
         ensures room { KeepsPlaces (held self.old) (held self.new) };
@@ -53,6 +61,10 @@ impl Hits for Found {
     fn put(&mut self, _id: Id, row: &Arc<Row>) -> Result<(), NoMemory> {
         self.reserve(1)?;
         self.push_again(row)
+    }
+
+    fn put_id(&mut self, _id: Id) -> Result<bool, NoMemory> {
+        Ok(false)
     }
 
     fn count(&self) -> usize {
