@@ -242,7 +242,8 @@ if command -v python3 >/dev/null; then
     python3 "$top/tests/model.py" "$program" 40 || exit 1
     python3 "$top/tests/cover.py" "$program" || exit 1
     python3 "$top/tests/limits.py" "$program" "$top/examples/short/schema.txt" || exit 1
-    passed=$((passed + 4))
+    python3 "$top/tests/large_leaves.py" "$program" 6 || exit 1
+    passed=$((passed + 5))
 else
     echo 'skipped: the client, the model and limits on memory: there is no python3 here'
 fi
