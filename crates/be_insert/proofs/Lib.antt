@@ -1,5 +1,6 @@
 pub mod Steps
 pub mod Fills
+pub mod Arranged
 pub mod AtPlaces
 pub mod Choices
 pub mod PartPlaces

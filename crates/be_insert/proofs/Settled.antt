@@ -3,7 +3,7 @@ use Rattle.std.proofs.Common.{◌≡◌, ◌<◌, ◌+◌, ◌-◌, ℕ, Bool, t
 use Rattle.std.specs.Prelude.{IsPermutation}
 use Rattle.std.specs.List.{list_all, list_any, filter}
 use Rattle.std.proofs.lemmas.Bool.{and_parts, and_from, not-false}
-use Rattle.std.proofs.lemmas.List.Sorted.{length_permutation}
+use Rattle.std.proofs.lemmas.List.Sorted.{length_permutation, IsPermutation-trans}
 use Rattle.std.specs.Arc.{arc_value}
 use Rattle.std.specs.declared.sync.Arc.{Arc}
 use Rattle.be_base.specs.declared.names.NoMemory.{NoMemory}
@@ -26,7 +26,7 @@ use Rattle.be_shape.proofs.Lists.{all_front, filter_passes, filter_keeps}
 use Rattle.be_insert.proofs.Steps.{Leaves, split}
 use Rattle.be_shape.proofs.NodeSteps.{settled_is}
 use Rattle.be_insert.proofs.Fills.{has_last, cut, stays, not_there, Passing, passing, leaf_filled, last_put}
-use Rattle.be_shape.proofs.LeafSteps.{alone, inside_below, stuck_stay}
+use Rattle.be_shape.proofs.LeafSteps.{alone, inside_below, stuck_stay, row_put}
 use Rattle.be_insert.proofs.AtPlaces.{front_stuck}
 use Rattle.be_insert.proofs.LevelsLeft.{levels_left, falls}
 
@@ -127,3 +127,10 @@ stays_settled s k n f h = stays s k n f (settled_is s k n ∙ not-false (settles
 pub handed_back : {A Z : Type 0} (n m : Plain) (x : Row) (result : Result A (Arc Row Z × NoMemory)) → m ≡ with_row x n → IfErr result (λ e. slice_get (leaf_of m) (length (leaf_of m) - 1) ≡ Some (arc_value e.0)) → IfErr result (λ e. arc_value e.0 ≡ x)
 handed_back n m x (Ok y) is h = tt
 handed_back n m x (Err e) is h = last_put n x (arc_value e.0) (ap (λ w. slice_get (leaf_of w) (length (leaf_of w) - 1)) (sym is) ∙ h)
+
+-- the row that was put is below the node, or it is handed back
+pub put_or_back : {A Z : Type 0} (n m w : Plain) (x : Row) (result : Result A (Arc Row Z × NoMemory)) → m ≡ with_row x n
+    → IsPermutation (rows_below m) (rows_below w ++ back result) → IsPermutation (rows_below n ++ x ∷ []) (rows_below w ++ back result)
+put_or_back n m w x result is h =
+    IsPermutation-trans (rows_below n ++ x ∷ []) (rows_below (with_row x n)) (rows_below w ++ back result) (row_put n x)
+    (subst (λ v. IsPermutation (rows_below v) (rows_below w ++ back result)) is h)

@@ -6,7 +6,8 @@ ghost use Rattle.be_model.specs.Lies.{row_lies};
 ghost use Rattle.be_model.specs.Rows.{has, id_of};
 ghost use Rattle.be_model.specs.ByIds.{put_by_id, has_id};
 ghost use Rattle.be_base.specs.declared.limits.TheConstants.{LOG_CHANGES};
-ghost use Rattle.be_shape.specs.Plain.{plain, with_row, parts_as, part_as, rows_below, contents};
+ghost use Rattle.be_shape.specs.Plain.{plain, with_row, parts_as, part_as, leaf_of, rows_below, contents};
+ghost use Rattle.be_shape.specs.Children.{with_leaf};
 ghost use Rattle.be_shape.specs.Shape.{attrs_of, spans_inside, may_stand};
 ghost use Rattle.be_shape.specs.Ranges.{is_bounded, is_rising};
 ghost use Rattle.be_shape.specs.Spots.{known_of};
@@ -93,7 +94,15 @@ fn put_last(n: &mut Node, row: Arc<Row>) -> Result<(), Arc<Row>>
     n.leaf.push(row)
 }
 
-// Puts the row into the leaf, and splits it where it has a row too much.
+// Puts the rows of the leaf in another order now and then, as `Leaf::arrange` does.
+fn arrange(n: &mut Node)
+    ensures rows { IsPermutation (leaf_of (plain n.old)) (leaf_of (plain n.new)) }
+    ensures rest { plain n.new ≡ with_leaf (leaf_of (plain n.new)) (plain n.old) }
+{
+    n.leaf.arrange();
+}
+
+// Puts the row into the leaf, splits it where it has a row too much, and then arranges it.
 fn place_here(
     n: &mut Node,
     s: &Schema,
@@ -110,7 +119,11 @@ fn place_here(
     ensures same { IfErr result (λ e. arc_value e.0 ≡ arc_value row) }
 {
     match put_last(n, row) {
-        Ok(()) => settle(n, s, alpha, k),
+        Ok(()) => {
+            settle(n, s, alpha, k)?;
+            arrange(n);
+            Ok(())
+        }
         Err(row) => Err((row, NoMemory)),
     }
 }

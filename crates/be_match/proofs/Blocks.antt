@@ -16,7 +16,7 @@ many_at : (rows : List Row) (from count : ℕ) (chosen : List Choice) (found : L
 many_at rows from count chosen found l at =
     sym (length-map found Some) ∙ sym (ap length at) ∙ length-map (take count chosen) (λ (c : Choice). slice_get rows (from + c.at)) ∙ length-take-le count chosen l
 
-some_same : {X : Type 0} (x y : X) → Some x ≡ Some y → x ≡ y
+pub some_same : {X : Type 0} (x y : X) → Some x ≡ Some y → x ≡ y
 some_same x y h = cc
 
 -- at each of the places stands the row that is found there
@@ -28,7 +28,7 @@ one_at rows from count i d chosen found l few at =
     let place : slice_get (take count chosen) i ≡ Some (get_or chosen i d) = slice_get-get_or (take count chosen) i d within ∙ ap Some (get_or-take count chosen i d few) in
     sym (slice_get-map of (take count chosen) i ∙ ap (option_map of) place) ∙ ap (λ os. slice_get os i) at ∙ slice_get-map Some found i
 
-missing : (xs : List Row) (j : ℕ) → j < length xs → slice_get xs j ≡ None → ⊥
+pub missing : (xs : List Row) (j : ℕ) → j < length xs → slice_get xs j ≡ None → ⊥
 missing [] j h k = absurd (omega (arith, h))
 missing (x ∷ xs) j h k = absurd (let m = slice_get-get_or (x ∷ xs) j x h in cc)
 

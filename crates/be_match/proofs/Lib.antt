@@ -3,6 +3,7 @@ pub mod Halves
 pub mod Counted
 pub mod Fronts
 pub mod Blocks
+pub mod MetRows
 pub mod Descents
 pub mod Exact
 pub mod Shares

@@ -1,8 +1,11 @@
 //! The search for the rows that an event satisfies.
 
-ghost use Rattle.std.specs.Prelude.{◌≡◌, ◌<◌, ◌≤◌, ◌∷◌, [], true, length, take, drop, Some, OnOk, OnErr, if◌then◌else◌};
+ghost use Rattle.std.specs.Prelude.{◌≡◌, ◌<◌, ◌≤◌, ◌∷◌, [], true, length, take, drop, slice_get, Some, OnOk, OnErr, if◌then◌else◌};
 ghost use Rattle.std.specs.Arc.{arc_value};
+ghost use Rattle.be_model.specs.declared.changes.Row.{Row};
 ghost use Rattle.be_model.specs.Matching.{satisfies};
+ghost use Rattle.be_shape.specs.Columns.{AreColumnsOf};
+ghost use Rattle.be_shape.specs.Lanes.{are_single};
 ghost use Rattle.be_shape.specs.Plain.{plain, parts_as, half_as, part_as, parts_of};
 ghost use Rattle.be_shape.specs.Shape.{lower, upper};
 ghost use Rattle.be_shape.specs.Ranges.{is_bounded, is_rising};
@@ -15,8 +18,8 @@ use be_base::NoMemory;
 use be_index::Hits;
 use be_model::{Cost, Row, Schema};
 use be_shape::{
-    BLOCK, Chosen, Kept, Leaf, NONE_CHOSEN, Node, NodeRange, Part, Sight, lower_range, upper_range,
-    whole_range,
+    BLOCK, Chosen, Columns, Kept, Leaf, Met, NONE_CHOSEN, NONE_MET, Node, NodeRange, Part, Sight,
+    lower_range, upper_range, whole_range,
 };
 use std::sync::Arc;
 
@@ -180,9 +183,72 @@ fn search_leaf<C: Hits>(leaf: &Leaf, e: &Sight, found: &mut C) -> Result<(), NoM
     Ok(())
 }
 
-// Appends those of a block. First they are chosen, without a jump by a row, and then each that isn't sure is asked, which mostly
-// says yes.
+// Appends those of a block, by its columns where it has them.
 fn search_block<C: Hits>(leaf: &Leaf, from: usize, e: &Sight, found: &mut C) -> Result<(), NoMemory>
+    requires { from ≤ length leaf.now }
+    ensures put { OnOk result (Adds (C.held found.old) (C.held found.new) (hits_of C.item_of e.now (take 32 (drop from leaf.now)))) }
+    ensures refused { OnErr result ((C.held found.old).sure < length (hits_of C.item_of e.now (take 32 (drop from leaf.now)))) }
+    ensures grown { Grows (C.held found.old) (C.held found.new) }
+{
+    match leaf.columns(from) {
+        Some(columns) if e.is_exact() => search_columns(columns, leaf, from, e, found),
+        _ => search_places(leaf, from, e, found),
+    }
+}
+
+// Appends those of a block by its columns, which tell for sure where they stand.
+fn search_columns<C: Hits>(
+    columns: &Columns,
+    leaf: &Leaf,
+    from: usize,
+    e: &Sight,
+    found: &mut C,
+) -> Result<(), NoMemory>
+    requires starts { from ≤ length leaf.now }
+    requires single { are_single e.now ≡ true }
+    requires rows { AreColumnsOf columns.now (take 32 (drop from leaf.now)) }
+    ensures put { OnOk result (Adds (C.held found.old) (C.held found.new) (hits_of C.item_of e.now (take 32 (drop from leaf.now)))) }
+    ensures refused { OnErr result ((C.held found.old).sure < length (hits_of C.item_of e.now (take 32 (drop from leaf.now)))) }
+    ensures grown { Grows (C.held found.old) (C.held found.new) }
+{
+    let mut met: Met = NONE_MET;
+    let many = columns.met(e, &mut met);
+    for i in 0..many {
+        put_met(columns, met[i], leaf, from, found)?;
+    }
+    Ok(())
+}
+
+// Appends the row at a place of a block, by its id alone where that is enough.
+fn put_met<C: Hits>(
+    columns: &Columns,
+    at: u8,
+    leaf: &Leaf,
+    from: usize,
+    found: &mut C,
+) -> Result<(), NoMemory>
+    requires rows { AreColumnsOf columns.now (take 32 (drop from leaf.now)) }
+    requires within { at < length (take 32 (drop from leaf.now)) }
+    ensures put { OnOk result ((row : Row) → slice_get (take 32 (drop from leaf.now)) at ≡ Some row → Adds (C.held found.old) (C.held found.new) (C.item_of row ∷ [])) }
+    ensures refused { OnErr result ((C.held found.old).sure < 1) }
+    ensures grown { Grows (C.held found.old) (C.held found.new) }
+{
+    let id = columns.id(at);
+    if !found.put_id(id)? {
+        let _ = leaf.len();
+        found.put(id, leaf.row(from + usize::from(at)))?;
+    }
+    Ok(())
+}
+
+// Appends those of a block by its places. First they are chosen, without a jump by a row, and then each that isn't sure is asked,
+// which mostly says yes.
+fn search_places<C: Hits>(
+    leaf: &Leaf,
+    from: usize,
+    e: &Sight,
+    found: &mut C,
+) -> Result<(), NoMemory>
     requires { from ≤ length leaf.now }
     ensures put { OnOk result (Adds (C.held found.old) (C.held found.new) (hits_of C.item_of e.now (take 32 (drop from leaf.now)))) }
     ensures refused { OnErr result ((C.held found.old).sure < length (hits_of C.item_of e.now (take 32 (drop from leaf.now)))) }

@@ -1,5 +1,5 @@
 -- Which attributes many rows of a leaf have.
-use Rattle.std.proofs.Common.{◌≡◌, ℕ, suc, ◌+◌, ◌-◌, ◌<◌, ◌≤◌, Bool, true, false, cond, ◌||◌, List, [], ◌∷◌, length, take, get_or, slice_get, replicate, Some, refl, sym, ap, ◌∙◌, arith}
+use Rattle.std.proofs.Common.{◌≡◌, ℕ, suc, ◌+◌, ◌-◌, ◌<◌, ◌≤◌, Bool, true, false, cond, ◌||◌, List, [], ◌∷◌, length, nat_le, take, get_or, slice_get, replicate, Some, refl, sym, ap, ◌∙◌, arith}
 use Rattle.std.specs.Prelude.{IsPermutation}
 use Rattle.std.specs.List.{count_by}
 use Rattle.std.proofs.lemmas.Bool.{leb-true, le-leb, or_left, or_right}
@@ -87,6 +87,11 @@ pulled_common rows rest row l p told = λ m a b h.
     (let e = sum_by-IsPermutation (λ x. cond (has a x) 1 0) rows (row ∷ rest) p in
     let i = sum_by-cons (λ x. cond (has a x) 1 0) row rest in
     let k = leb-true EARLY_ROWS (count_by (has a) rest) h in le-leb EARLY_ROWS (count_by (has a) rows) (omega (arith, e, i, k)))
+
+-- the same rows in another order
+pub moved_common : (rows moved : List Row) (l : RowAttrs) → IsPermutation rows moved → AreCommon rows l → AreCommon moved l
+moved_common rows moved l p told = λ m a b h.
+    told m a b (ap (nat_le EARLY_ROWS) (sym (sum_by-IsPermutation (λ x. cond (has a x) 1 0) rows moved p)) ∙ h)
 
 -- what is listed so often as is wanted beside rows that list none
 pub told_common : (rows : List Row) (wanted many : ℕ) (l : RowAttrs) → many ≡ count_by lists_many rows → many < EARLY_ROWS → wanted ≡ EARLY_ROWS - many

@@ -1,8 +1,9 @@
 -- The rows of a leaf whose places are no blanks.
-use Rattle.std.proofs.Common.{◌≡◌, ℕ, ◌<◌, zero, suc, arith, slice_get, get_or, sym, subst, ◌∙◌, map, Bool, not, true, false, List, [], ◌∷◌, ◌++◌, length, Option, Some, None, IsSome, refl, ap}
+use Rattle.std.proofs.Common.{◌≡◌, ℕ, ◌<◌, zero, suc, arith, slice_get, get_or, sym, subst, ◌∙◌, map, Bool, not, true, false, List, [], ◌∷◌, ◌++◌, length, take, drop, Option, Some, None, IsSome, refl, ap}
 use Rattle.std.specs.Prelude.{IsPermutation}
-use Rattle.std.specs.List.{remove, list_any}
-use Rattle.std.proofs.lemmas.List.Sorted.{IsPermutation-map, list_any-IsPermutation}
+use Rattle.std.specs.List.{remove, refill, list_any}
+use Rattle.std.proofs.Math.Seq.{take-append_seam}
+use Rattle.std.proofs.lemmas.List.Sorted.{IsPermutation-map, IsPermutation-refl, length_permutation, list_any-IsPermutation}
 use Rattle.be_model.specs.declared.changes.Row.{Row}
 use Rattle.be_shape.specs.Leaves.{rows_of_places, are_rows}
 
@@ -56,6 +57,34 @@ are_rows_taken (Some row ∷ places) zero h = h
 are_rows_taken (Some row ∷ places) (suc i) h = are_rows_taken places i h
 are_rows_taken (None ∷ places) i h = absurd (cc)
 
+-- the rows of some places in a row
+pub rows_first : (n : ℕ) (places : List (Option Row)) → are_rows places ≡ true → rows_of_places (take n places) ≡ take n (rows_of_places places)
+rows_first zero places h = refl
+rows_first (suc n) [] h = refl
+rows_first (suc n) (Some row ∷ places) h = ap (λ rows. row ∷ rows) (rows_first n places h)
+rows_first (suc n) (None ∷ places) h = absurd (cc)
+
+pub rows_after : (n : ℕ) (places : List (Option Row)) → are_rows places ≡ true → rows_of_places (drop n places) ≡ drop n (rows_of_places places)
+rows_after zero places h = refl
+rows_after (suc n) [] h = refl
+rows_after (suc n) (Some row ∷ places) h = rows_after n places h
+rows_after (suc n) (None ∷ places) h = absurd (cc)
+
+pub are_rows_first : (n : ℕ) (places : List (Option Row)) → are_rows places ≡ true → are_rows (take n places) ≡ true
+are_rows_first zero places h = refl
+are_rows_first (suc n) [] h = refl
+are_rows_first (suc n) (Some row ∷ places) h = are_rows_first n places h
+are_rows_first (suc n) (None ∷ places) h = absurd (cc)
+
+pub are_rows_after : (n : ℕ) (places : List (Option Row)) → are_rows places ≡ true → are_rows (drop n places) ≡ true
+are_rows_after zero places h = h
+are_rows_after (suc n) [] h = refl
+are_rows_after (suc n) (Some row ∷ places) h = are_rows_after n places h
+are_rows_after (suc n) (None ∷ places) h = absurd (cc)
+
+pub rows_between : (from n : ℕ) (places : List (Option Row)) → are_rows places ≡ true → rows_of_places (take n (drop from places)) ≡ take n (drop from (rows_of_places places))
+rows_between from n places h = rows_first n (drop from places) (are_rows_after from places h) ∙ ap (take n) (rows_after from places h)
+
 -- a row less, and the others in another order
 abbrev is_blank : Option Row → Bool
 is_blank (Some row) = false
@@ -84,3 +113,23 @@ rows_pulled places rest k row e h p =
     let q : IsPermutation (map (row_or row) places) (map (row_or row) (k ∷ rest)) = IsPermutation-map (row_or row) places (k ∷ rest) p in
     let is : map (row_or row) (k ∷ rest) ≡ row ∷ rows_of_places rest = ap (λ z. row_or row z ∷ map (row_or row) rest) e ∙ ap (λ rows. row ∷ rows) (sym (rows_as row rest (are_rows_pulled places rest k row e h p))) in
     subst (λ xs. IsPermutation xs (row ∷ rows_of_places rest)) (sym (rows_as row places h)) (subst (λ xs. IsPermutation (map (row_or row) places) xs) is q)
+
+-- the same rows in another order
+pub are_rows_moved : (places moved : List (Option Row)) → IsPermutation places moved → are_rows places ≡ true → are_rows moved ≡ true
+are_rows_moved places moved p h = no_blank moved ∙ ap not (sym (list_any-IsPermutation is_blank places moved p)) ∙ sym (no_blank places) ∙ h
+
+pub rows_moved : (places moved : List (Option Row)) → IsPermutation places moved → are_rows places ≡ true → IsPermutation (rows_of_places places) (rows_of_places moved)
+rows_moved [] moved p h = subst (λ xs. IsPermutation [] (rows_of_places xs)) (sym (none_moved moved (length_permutation [] moved p))) (IsPermutation-refl [])
+  where
+    none_moved : (xs : List (Option Row)) → length xs ≡ 0 → xs ≡ []
+    none_moved [] e = refl
+    none_moved (x ∷ xs) e = absurd (omega (arith, e))
+rows_moved (None ∷ places) moved p h = absurd (cc)
+rows_moved (Some row ∷ places) moved p h =
+    let all = Some row ∷ places in
+    let q : IsPermutation (map (row_or row) all) (map (row_or row) moved) = IsPermutation-map (row_or row) all moved p in
+    subst (λ xs. IsPermutation xs (rows_of_places moved)) (sym (rows_as row all h))
+    (subst (λ xs. IsPermutation (map (row_or row) all) xs) (sym (rows_as row moved (are_rows_moved all moved p h))) q)
+
+pub refilled : {X : Type 0} (xs ys : List X) → IsPermutation xs ys → refill (length xs) xs ys ≡ ys
+refilled xs ys p = ap (λ n. take n (ys ++ drop (length ys) xs)) (sym (length_permutation xs ys p)) ∙ take-append_seam ys (drop (length ys) xs)

@@ -40,3 +40,5 @@ pub mod TestCounts
 pub mod HeldRows
 pub mod SetNotes
 pub mod Depths
+pub mod BlockColumns
+pub mod LargeTold

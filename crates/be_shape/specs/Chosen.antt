@@ -9,6 +9,10 @@ use Rattle.be_shape.specs.declared.leaves.Choice.{Choice}
 abbrev pub AreAt : List Row → ℕ → List Choice → List Row → Type 0
 AreAt rows from chosen found = map (λ (c : Choice). slice_get rows (from + c.at)) chosen ≡ map Some found
 
+-- at these places these rows stand
+abbrev pub AreRowsAt : List Row → List ℕ → List Row → Type 0
+AreRowsAt rows places found = map (slice_get rows) places ≡ map Some found
+
 -- where it is said to be sure, the event satisfies the row at the place
 abbrev pub IsRight : Assignments → List Row → ℕ → Choice → Type 0
 IsRight e rows from c = c.sure ≡ true → option_map (λ (row : Row). satisfies e row.conj) (slice_get rows (from + c.at)) ≡ Some true

@@ -1,11 +1,14 @@
 -- The attributes that many rows of a leaf have.
 use Rattle.std.specs.Prelude.{◌≡◌, ℕ, ◌+◌, ◌<◌, ◌≤◌, ◌==◌, Bool, true, false, List, length, nat_le, count_by, slice_index_or, Option, if◌then◌else◌}
+use Rattle.std.specs.Global.{Box}
 use Rattle.be_base.specs.declared.names.AttrNo.{AttrNo}
 use Rattle.be_base.specs.declared.limits.TheConstants.{ATTRIBUTES, EARLY_ROWS}
 use Rattle.be_model.specs.declared.changes.Row.{Row}
 use Rattle.be_model.specs.Rows.{has}
 use Rattle.be_shape.specs.declared.listings.RowAttrs.{RowAttrs}
 use Rattle.be_shape.specs.declared.listings.RowAttrs.TheVariants.{Zero, One, Two, Three, Many}
+use Rattle.be_shape.specs.declared.large.Large.{Large}
+use Rattle.be_shape.specs.Large.{IsBeside}
 use Rattle.be_shape.specs.Leaves.{rows_of_places, are_rows}
 use Rattle.be_shape.specs.Listed.{is_many, any_listed, attrs_of}
 
@@ -43,8 +46,9 @@ abbrev pub IsTold : List ℕ → ℕ → RowAttrs → Type 0
 IsTold counts wanted l =
     (a : ℕ) → a < ATTRIBUTES → wanted ≤ slice_index_or counts a 0 → is_many l ≡ false → is_listed a l ≡ true
 
--- the rows of a leaf stand at its places; they are counted, and what many of them have is told
-pub record IsLeaf (count : ℕ) (common : RowAttrs) (places : List (Option Row)) : Type 0 where
+-- the rows of a leaf stand at its places; they are counted, what many of them have is told, and so is what stands beside them
+pub record IsLeaf (count : ℕ) (common : RowAttrs) (places : List (Option Row)) (large : Option (Box Large)) : Type 0 where
   pub rows : are_rows places ≡ true
   pub counted : length places ≡ count
   pub told : AreCommon (rows_of_places places) common
+  pub beside : IsBeside places large

@@ -25,3 +25,5 @@ pub mod Lanes
 pub mod SetNotes
 pub mod Gaps
 pub mod Chosen
+pub mod Columns
+pub mod Large

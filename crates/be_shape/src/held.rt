@@ -1,17 +1,22 @@
 //! What a place of a leaf has.
 
-ghost use Rattle.std.specs.Prelude.{◌≡◌, ◌↔◌, ◌≤◌, ◌/◌, ◌%◌, true, false, List, Some, IsSome};
+ghost use Rattle.std.specs.Prelude.{◌≡◌, ◌↔◌, ◌≤◌, ◌/◌, ◌%◌, true, false, List, Some, IsSome, IfSome};
 ghost use Rattle.std.specs.Arc.{arc_value};
 ghost use Rattle.be_model.specs.declared.preds.Pred.{Pred};
-ghost use Rattle.be_model.specs.Matching.{satisfies};
+ghost use Rattle.be_model.specs.declared.changes.Row.{Row};
+ghost use Rattle.be_model.specs.Matching.{Assignments, satisfies};
 ghost use Rattle.be_model.specs.Rows.{id_of};
+ghost use Rattle.be_shape.specs.declared.small_sets.Told.{Told};
+ghost use Rattle.be_shape.specs.Columns.{TellsRow, passes_on};
 ghost use Rattle.be_shape.specs.FewTests.{few_told};
-ghost use Rattle.be_shape.specs.Held.{short_id, row_of, note_of, short_of, set_note_of, told_of, few_in, few_with};
-ghost use Rattle.be_shape.specs.Lanes.{passes_lanes, are_single, HoldLanes};
+ghost use Rattle.be_shape.specs.Held.{short_id, row_of, note_of, short_of, set_note_of, told_of, few_in, few_with, IsToldIn};
+ghost use Rattle.be_shape.specs.Lanes.{lets_event, passes_lanes, are_single, HoldLanes};
 ghost use Rattle.be_shape.specs.SetNotes.{passes_note};
+ghost use Rattle.be_shape.specs.Told.{is_sure};
 
 use crate::few_tests::FewTests;
-use crate::lanes::{LaneAttrs, LaneSlots, lane_at};
+use crate::lanes::{LaneAttrs, LaneSlots, Slot, is_free, lane_at};
+use crate::orders::{LAST, Order, order_of};
 use crate::sights::Sight;
 use crate::small_sets::Told;
 use be_base::Id;
@@ -55,6 +60,13 @@ pub(crate) enum Held {
 
 const _: () = prove!(size_of::<Held>() == 40);
 
+/// The slots of a row whose lanes are of one attribute, and its id.
+#[derive(Clone, Copy)]
+pub(crate) struct Entry {
+    pub(crate) slots: LaneSlots,
+    pub(crate) id: u32,
+}
+
 // The id as a place has it.
 fn short_id(id: Id) -> u32
     ensures id { result ≡ short_id id.0 }
@@ -73,6 +85,22 @@ fn note_of(id: Id, set_note: u8) -> u32
     ensures set { result % 256 ≡ set_note }
 {
     short_id(id) * 256 + u32::from(set_note)
+}
+
+// Whether the lane is of the attribute, or free, since a free one says the same of each attribute.
+fn is_on(a: u8, lane: u8, slot: Slot) -> bool
+    ensures { (e : Assignments) → result ≡ true → lets_event e (lane, slot) ≡ lets_event e (a, slot) }
+{
+    lane == a || is_free(slot)
+}
+
+// Whether each lane is so.
+fn are_on(a: u8, attrs: LaneAttrs, slots: &LaneSlots) -> bool
+    ensures { (e : Assignments) (told : Told) → result ≡ true → passes_lanes e (few_with told attrs slots.now) ≡ passes_on e a slots.now }
+{
+    is_on(a, attrs.first, slots.first)
+        && is_on(a, attrs.second, slots.second)
+        && is_on(a, attrs.third, slots.third)
 }
 
 impl Held {
@@ -254,6 +282,50 @@ impl Held {
             (self.passes(e), self.told().is_sure())
         } else {
             (true, false)
+        }
+    }
+
+    /// The attribute of the first lane.
+    pub(crate) fn first_attr(&self) -> u8
+        requires { IsSome (row_of self.now) }
+        ensures { result ≡ (few_in self.now).first.0 }
+    {
+        self.lanes().0.first
+    }
+
+    // Whether of events of single values the lanes let pass those that satisfy the row, and no others, and its id is told.
+    fn is_whole(&self) -> bool
+        requires { IsSome (row_of self.now) }
+        ensures sure { result ≡ true → is_sure (told_of self.now) ≡ true }
+        ensures id { result ≡ true → short_of self.now ≡ 16777215 → ⊥ }
+    {
+        self.told().is_sure() && self.short() != WIDE
+    }
+
+    /// The row's slots of the attribute, and its id, where this is told and the lanes, all of the attribute, are the row's whole
+    /// meaning.
+    pub(crate) fn entry(&self, a: u8) -> Option<Entry>
+        requires { IsSome (row_of self.now) }
+        ensures { (row : Row) → IsToldIn self.now → row_of self.now ≡ Some row → IfSome result (λ x. TellsRow a x row) }
+    {
+        let (attrs, slots) = self.lanes();
+        if self.is_whole() && are_on(a, *attrs, slots) {
+            Some(Entry {
+                slots: *slots,
+                id: self.short(),
+            })
+        } else {
+            None
+        }
+    }
+
+    /// Where it stands among the rows of a large leaf that are put in order.
+    pub(crate) fn order(&self) -> Order {
+        if self.is_blank() {
+            LAST
+        } else {
+            let (attrs, slots) = self.lanes();
+            order_of(self.told().is_sure(), *attrs, *slots)
         }
     }
 }

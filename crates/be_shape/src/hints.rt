@@ -4,9 +4,6 @@ use crate::places::Kept;
 use be_base::Id;
 use std::alloc::Global;
 
-/// From so many rows on a leaf has hints.
-const HINTED_ROWS: usize = 64;
-
 /// A place for an id, at which its row may stand. Whoever asks looks whether it does, so nothing need be true of a hint, and where
 /// memory is wanting there is none.
 #[derive(Drop)]
@@ -42,10 +39,17 @@ impl Hints {
         }
     }
 
+    /// Notes what stands at the places from one up to another.
+    pub(crate) fn note_between(&mut self, places: &[Kept], from: usize, to: usize) {
+        for place in from..to {
+            self.note_at(places, place);
+        }
+    }
+
     /// Notes the last of these places, or all of them anew where they have become too many.
     pub(crate) fn note_last(&mut self, places: &[Kept]) {
         let count = places.len();
-        if HINTED_ROWS <= count && self.slots.len() / 2 < count {
+        if self.slots.len() / 2 < count {
             self.renew(places);
         } else if 0 < count {
             self.note_at(places, count - 1);

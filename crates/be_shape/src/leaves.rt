@@ -1,17 +1,21 @@
 //! Rows that stand together.
 
-ghost use Rattle.std.specs.Prelude.{◌≡◌, ◌↔◌, ◌<◌, ◌≤◌, true, IsTrue, [], ◌∷◌, ◌++◌, length, take, slice_get, Some, option_map, IsSome, IsPermutation, IfSome, IfNone, IsOk, OnOk, OnErr, IfErr};
+ghost use Rattle.std.specs.Prelude.{◌≡◌, ◌↔◌, ◌<◌, ◌≤◌, true, IsTrue, [], ◌∷◌, ◌++◌, length, take, drop, slice_get, Some, option_map, IsSome, IsPermutation, IfSome, IfNone, IsOk, OnOk, OnErr, IfErr};
 ghost use Rattle.std.specs.List.{Contains, remove};
 ghost use Rattle.be_model.specs.Hulls.{span_in};
 ghost use Rattle.be_model.specs.Lies.{row_lies};
 ghost use Rattle.be_model.specs.Rows.{has, id_of};
 ghost use Rattle.be_shape.specs.Chosen.{Covers};
+ghost use Rattle.be_shape.specs.Columns.{AreColumnsOf};
 ghost use Rattle.be_shape.specs.Common.{AreCommon};
 ghost use Rattle.be_shape.specs.Leaves.{are_rows, rows_of_places};
 ghost use Rattle.be_shape.specs.Listed.{attrs_of};
 ghost use Rattle.std.specs.Arc.{arc_value};
 
-use crate::hints::Hints;
+use crate::columns::Columns;
+use crate::large::{
+    LARGE_ROWS, Large, arrange, guess, note_pulled, note_put, note_put_few, note_taken, told_of,
+};
 use crate::listings::RowAttrs;
 use crate::places::Kept;
 use crate::sights::Sight;
@@ -47,7 +51,7 @@ pub struct Leaf {
     count: usize,
     common: RowAttrs,
     places: SmallVec<Kept, 17>,
-    hints: Hints,
+    large: Option<Box<Large>>,
 }
 
 impl Model for Leaf {
@@ -61,11 +65,11 @@ impl Model for Leaf {
 
     ghost view = { λ l. rows_of_places l.places.items };
 
-    ghost invariant = { λ l. IsLeaf l.count l.common l.places.items };
+    ghost invariant = { λ l. IsLeaf l.count l.common l.places.items l.large };
 }
 
-// What stands at a place, none of which is a blank.
-fn kept_at(places: &[Kept], place: usize) -> &Kept
+/// What stands at a place, none of which is a blank.
+pub(crate) fn kept_at(places: &[Kept], place: usize) -> &Kept
     requires rows { are_rows places.now ≡ true }
     requires within { place < length places.now }
     ensures at { slice_get (rows_of_places places.now) place ≡ result.now }
@@ -83,7 +87,7 @@ impl Leaf {
             count: 0,
             common: RowAttrs::Zero,
             places: SmallVec::new(alloc),
-            hints: Hints::none(alloc),
+            large: None,
         }
     }
 
@@ -142,6 +146,26 @@ impl Leaf {
         count
     }
 
+    /// What is told, column by column, of the rows of the block that begins at this place.
+    pub fn columns(&self, from: usize) -> Option<&Columns>
+        ensures { IfSome result (λ c. AreColumnsOf c.now (take 32 (drop from self.now))) }
+    {
+        if self.count < LARGE_ROWS {
+            return None;
+        }
+        told_of(&self.large, from)
+    }
+
+    /// Now and then puts rows of a large leaf in the order of their bounds, so that more of them are told column by column. It does
+    /// without where memory is wanting.
+    pub fn arrange(&mut self)
+        ensures { IsPermutation self.old self.new }
+    {
+        if LARGE_ROWS <= self.count {
+            arrange(&mut self.large, self.places.as_mut_slice());
+        }
+    }
+
     /// The span on the attribute of the row at a place. A row whose attributes are told isn't looked at.
     pub fn span(&self, place: usize, s: &Schema, a: AttrNo) -> Option<(i64, i64)>
         requires place { place < length self.now }
@@ -194,7 +218,7 @@ impl Leaf {
         ensures found { IfSome result (λ place. slice_get self.now place ≡ Some row.now) }
         ensures none { IfNone result (Contains self.now row.now → ⊥) }
     {
-        let guess = self.hints.guess(row.id);
+        let guess = guess(&self.large, row.id);
         if guess < self.len() && self.has_at(guess, row) {
             return Some(guess);
         }
@@ -216,6 +240,7 @@ impl Leaf {
         let row = self.places.remove(place).into_row();
         self.count = self.places.len();
         self.common = RowAttrs::Many;
+        note_taken(&mut self.large, place);
         row
     }
 
@@ -228,7 +253,7 @@ impl Leaf {
     {
         let row = self.places.swap_remove(place).into_row();
         self.count = self.places.len();
-        self.hints.note_at(self.places.as_slice(), place);
+        note_pulled(&mut self.large, self.places.as_slice(), place);
         row
     }
 
@@ -244,7 +269,8 @@ impl Leaf {
         match self.places.reserve(1) {
             Ok(()) => {
                 self.places.push_reserved(Kept::of(row));
-                self.hints.note_last(self.places.as_slice());
+                let alloc = *self.places.allocator();
+                note_put(&mut self.large, alloc, self.places.as_slice());
                 self.count = self.places.len();
                 self.common = RowAttrs::Many;
                 self.note_common();
@@ -262,6 +288,7 @@ impl Leaf {
     {
         let _ = self.places.capacity();
         self.places.push_reserved(Kept::of(row));
+        note_put_few(&mut self.large);
         self.count = self.places.len();
         self.common = RowAttrs::Many;
     }

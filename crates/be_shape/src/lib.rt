@@ -5,6 +5,7 @@
 //! Begin with specs/Plain (a node as plain data) and specs/Shape; specs/Right has all of it for one node and what is below it.
 #![tactic(auto)]
 
+mod columns;
 mod counts;
 mod few_tests;
 mod gaps;
@@ -12,11 +13,13 @@ mod glances;
 mod held;
 mod hints;
 mod lanes;
+mod large;
 mod laws;
 mod leaves;
 mod listings;
 mod looks;
 mod nodes;
+mod orders;
 mod places;
 mod ranges;
 mod sights;
@@ -29,6 +32,7 @@ mod trees;
 mod walks;
 mod widths;
 
+pub use columns::{Columns, Met, NONE_MET};
 pub use laws::{
     MAX_TREE_DEPTH, depth_is_bounded, ids_rise, new_ids_are_nowhere, nodes_are_everywhere,
     nodes_are_listed, paths_lead, rows_are_found, rows_are_of_leaves,

@@ -1,12 +1,14 @@
 //! A place of a leaf.
 
-ghost use Rattle.std.specs.Prelude.{◌≡◌, true, Some, None, IsSome, option_map};
+ghost use Rattle.std.specs.Prelude.{◌≡◌, true, Some, None, IsSome, IfSome, option_map};
 ghost use Rattle.std.specs.Arc.{arc_value};
+ghost use Rattle.be_model.specs.declared.changes.Row.{Row};
 ghost use Rattle.be_model.specs.Matching.{satisfies};
 ghost use Rattle.be_model.specs.Hulls.{span_in};
 ghost use Rattle.be_model.specs.Lies.{row_lies};
 ghost use Rattle.be_model.specs.Rows.{has, id_of};
 ghost use Rattle.be_model.specs.Forms.{IsConj};
+ghost use Rattle.be_shape.specs.Columns.{TellsRow};
 ghost use Rattle.be_shape.specs.Glances.{glance, glance_of};
 ghost use Rattle.be_shape.specs.Lanes.{are_single};
 ghost use Rattle.be_shape.specs.Listed.{attrs_of};
@@ -14,8 +16,9 @@ ghost use Rattle.be_shape.specs.Told.{extent_of};
 
 use crate::few_tests::FewTests;
 use crate::glances::Glance;
-use crate::held::{Held, WIDE};
+use crate::held::{Entry, Held, WIDE};
 use crate::listings::RowAttrs;
+use crate::orders::Order;
 use crate::sights::Sight;
 use crate::small_sets::Told;
 use be_base::{AttrNo, Id};
@@ -140,6 +143,22 @@ impl Kept {
         self.held.ask(exact, e)
     }
 
+    /// The attribute of its first lane.
+    pub(crate) fn first_attr(&self) -> u8
+        requires { IsSome self.now }
+    {
+        self.held.first_attr()
+    }
+
+    /// The row's slots of the attribute, and its id, where this is told and all tests are on the attribute, and no more is to be
+    /// asked.
+    pub(crate) fn entry(&self, a: u8) -> Option<Entry>
+        requires { IsSome self.now }
+        ensures { (row : Row) → self.now ≡ Some row → IfSome result (λ x. TellsRow a x row) }
+    {
+        self.held.entry(a)
+    }
+
     // Whether an event of single values satisfies the row. What is told of a set may say no before the row is read.
     fn is_met_by_one(&self, e: &Sight) -> bool
         requires row { IsSome self.now }
@@ -181,5 +200,10 @@ impl Kept {
     {
         let (row, told, tests) = self.told();
         tests.span(told.extent(), &row.conj, s, a)
+    }
+
+    /// Where it stands among the rows of a large leaf that are put in order.
+    pub(crate) fn order(&self) -> Order {
+        self.held.order()
     }
 }

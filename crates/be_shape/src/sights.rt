@@ -3,6 +3,7 @@
 ghost use Rattle.std.specs.Prelude.{◌≡◌, ◌∷◌, ◌&&◌, [], true, Option, Some, List, ℤ, IfSome, option_map};
 ghost use Rattle.be_model.specs.Forms.{attrs_rise};
 ghost use Rattle.be_model.specs.Matching.{attrs_of, values_of, is_assigned};
+ghost use Rattle.be_model.specs.Schemas.{numbered};
 ghost use Rattle.be_shape.specs.Glances.{has_in};
 ghost use Rattle.be_shape.specs.Lanes.{seen, is_single, are_single, lets_event};
 ghost use Rattle.be_shape.specs.Ranges.{is_rising};
@@ -154,7 +155,7 @@ impl<'a> Sight<'a> {
     }
 
     /// Whether the event has single values alone, which the table tells.
-    pub(crate) fn is_exact(&self) -> bool
+    pub fn is_exact(&self) -> bool
         ensures { result ≡ are_single self.now }
     {
         self.exact
@@ -165,6 +166,13 @@ impl<'a> Sight<'a> {
         ensures { result ≡ lets_event self.now (a, slot) }
     {
         lets(self.seen[usize::from(a)], slot)
+    }
+
+    /// What is seen of the attribute's values.
+    pub(crate) fn seen_of(&self, a: u8) -> u32
+        ensures { result ≡ seen (values_of self.now (numbered a)) }
+    {
+        self.seen[usize::from(a)]
     }
 
     /// Whether the event passes the lanes. None is left out, since which of them says no can't be foreseen.

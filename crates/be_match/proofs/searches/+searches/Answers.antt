@@ -1,4 +1,4 @@
-use Rattle.std.proofs.Common.{rules, drop, length, ◌≡◌, ℕ, List, true, ◌∷◌, [], ◌+◌, ◌*◌, ◌<◌, cond, sym, ap, ap₂, ◌∙◌, subst, arith, refl, ◌++◌}
+use Rattle.std.proofs.Common.{rules, drop, length, ◌≡◌, ℕ, List, true, ◌∷◌, [], ◌+◌, ◌*◌, ◌<◌, cond, sym, ap, ap₂, ◌∙◌, subst, arith, refl}
 use Rattle.be_shape.specs.declared.nodes.Node.TheViews.{out-Node, out-Part, the_lemmas}
 use Rattle.be_shape.specs.Plain.{plain, parts_as, half_as, part_as, parts_of}
 use Rattle.be_shape.specs.Shape.{NodeRange, whole, lower, upper}
@@ -41,12 +41,7 @@ search_node-plus-requires-clause-visits g t c =
     let e = c.args.e.now in
     let r = c.loop-found.within in
     let n = c.loop-found.here.now in
-    let of = g.C.Hits.item_of in
-    let r0 = g.C.Hits.held c.args.found.now in
-    let all = visited s e c.args.range (plain c.args.n.now) in
-    let now = c.loop-found.cost in
-    let r1 = g.C.Hits.held c.loop-found.found in
-    let k = rest_countable of e r0 r1 c.args.cost.now now all (visited s e r (plain n)) c.loop-found.invariant.3 c.requires.countable in
+    let k = rest_countable _ _ _ _ _ _ _ _ c.loop-found.invariant.3 c.requires.countable in
     omega (arith, k.few, (node_sizes s e r n).visits, ap (λ q. q.visits) c.leaf_cost.ensures)
 
 pub search_node-plus-requires-clause-tested : goal.search_node-plus-requires-clause-tested
@@ -55,12 +50,7 @@ search_node-plus-requires-clause-tested g t c =
     let e = c.args.e.now in
     let r = c.loop-found.within in
     let n = c.loop-found.here.now in
-    let of = g.C.Hits.item_of in
-    let r0 = g.C.Hits.held c.args.found.now in
-    let all = visited s e c.args.range (plain c.args.n.now) in
-    let now = c.loop-found.cost in
-    let r1 = g.C.Hits.held c.loop-found.found in
-    let k = rest_countable of e r0 r1 c.args.cost.now now all (visited s e r (plain n)) c.loop-found.invariant.3 c.requires.countable in
+    let k = rest_countable _ _ _ _ _ _ _ _ c.loop-found.invariant.3 c.requires.countable in
     omega (arith, k.few_rows, (node_sizes s e r n).tested, ap (λ q. q.tested) c.leaf_cost.ensures)
 
 pub search_node-returns-in_err-search_leaf-clause-refused : goal.search_node-returns-in_err-search_leaf-clause-refused
@@ -70,19 +60,13 @@ search_node-returns-in_err-search_leaf-clause-refused g t c =
     let r = c.loop-found.within in
     let n = c.loop-found.here.now in
     let of = g.C.Hits.item_of in
-    let r0 = g.C.Hits.held c.args.found.now in
-    let all = visited s e c.args.range (plain c.args.n.now) in
-    let now = c.loop-found.cost in
     let r1 = g.C.Hits.held c.loop-found.found in
     let z = no_room_in_node of e r1 r1 (out-Node n).leaf (visited_in_parts s e (parts_as (out-Node n).parts.items)) (visited_in_halves s e r n) in
-    on_refusal c.from_residual.result (r0.sure < length (hits_of of e (all_of all)))
-    (rest_refused of e r0 r1 c.args.cost.now now all (visited s e r (plain n)) c.loop-found.invariant.3 (subst (λ v. r1.sure < length (hits_of of e (all_of v))) (sym (leaf_and_below s e r n)) (z.here c.in_err-search_leaf.ensures.refused)))
+    on_refusal c.from_residual.result _
+    (rest_refused _ _ _ _ _ _ _ _ c.loop-found.invariant.3 (subst (λ v. r1.sure < length (hits_of of e (all_of v))) (sym (leaf_and_below s e r n)) (z.here c.in_err-search_leaf.ensures.refused)))
 
 pub search_node-returns-in_err-search_leaf-clause-grown : goal.search_node-returns-in_err-search_leaf-clause-grown
-search_node-returns-in_err-search_leaf-clause-grown g t c =
-    let r0 = g.C.Hits.held c.args.found.now in
-    let r1 = g.C.Hits.held c.loop-found.found in
-    grows_both r0 r1 (g.C.Hits.held c.search_leaf.new.found) c.loop-found.invariant.3.put.grown c.search_leaf.ensures.grown
+search_node-returns-in_err-search_leaf-clause-grown g t c = grows_both _ _ _ c.loop-found.invariant.3.put.grown c.search_leaf.ensures.grown
 
 pub search_node-search_parts-requires : goal.search_node-search_parts-requires
 search_node-search_parts-requires g t c =
@@ -90,12 +74,8 @@ search_node-search_parts-requires g t c =
     let e = c.args.e.now in
     let r = c.loop-found.within in
     let n = c.loop-found.here.now in
-    let of = g.C.Hits.item_of in
-    let r0 = g.C.Hits.held c.args.found.now in
-    let all = visited s e c.args.range (plain c.args.n.now) in
     let now = c.loop-found.cost in
-    let r1 = g.C.Hits.held c.loop-found.found in
-    let k = rest_countable of e r0 r1 c.args.cost.now now all (visited s e r (plain n)) c.loop-found.invariant.3 c.requires.countable in
+    let k = rest_countable _ _ _ _ _ _ _ _ c.loop-found.invariant.3 c.requires.countable in
     let leaf = c.plus.ensures ∙ ap (λ q. cost (now.visits + q.visits) (now.tested + q.tested)) c.leaf_cost.ensures in
     let countable : AreCountableWith c.plus.result (visited_in_parts s e (parts_as c.as_slice.result.now)) = parts_countable_with s e r n now c.plus.result c.as_slice.result.now k c.as_slice.ensures.value leaf in
     let below : parts_size c.as_slice.result.now < the_size n = search (rules, the_lemmas) in
@@ -109,24 +89,15 @@ search_node-returns-in_err-search_parts-clause-refused g t c =
     let r = c.loop-found.within in
     let n = c.loop-found.here.now in
     let of = g.C.Hits.item_of in
-    let r0 = g.C.Hits.held c.args.found.now in
-    let all = visited s e c.args.range (plain c.args.n.now) in
-    let now = c.loop-found.cost in
     let r1 = g.C.Hits.held c.loop-found.found in
     let r2 = g.C.Hits.held c.search_leaf.new.found in
     let z = no_room_in_node of e r1 r2 (out-Node n).leaf (visited_in_parts s e (parts_as (out-Node n).parts.items)) (visited_in_halves s e r n) in
     let at = subst (λ ps. r2.sure < length (hits_of of e (all_of (visited_in_parts s e (parts_as ps))))) c.as_slice.ensures.value c.in_err-search_parts.ensures.refused in
-    on_refusal c.from_residual-in_err-search_parts.result (r0.sure < length (hits_of of e (all_of all)))
-    (rest_refused of e r0 r1 c.args.cost.now now all (visited s e r (plain n)) c.loop-found.invariant.3 (subst (λ v. r1.sure < length (hits_of of e (all_of v))) (sym (leaf_and_below s e r n)) (z.in_parts c.in_ok-search_leaf.ensures.put at)))
+    on_refusal c.from_residual-in_err-search_parts.result _
+    (rest_refused _ _ _ _ _ _ _ _ c.loop-found.invariant.3 (subst (λ v. r1.sure < length (hits_of of e (all_of v))) (sym (leaf_and_below s e r n)) (z.in_parts c.in_ok-search_leaf.ensures.put at)))
 
 pub search_node-returns-in_err-search_parts-clause-grown : goal.search_node-returns-in_err-search_parts-clause-grown
-search_node-returns-in_err-search_parts-clause-grown g t c =
-    let r0 = g.C.Hits.held c.args.found.now in
-    let r1 = g.C.Hits.held c.loop-found.found in
-    let r2 = g.C.Hits.held c.search_leaf.new.found in
-    let r3 = g.C.Hits.held c.search_parts.new.found in
-    let one = grows_both r0 r1 r2 c.loop-found.invariant.3.put.grown c.search_leaf.ensures.grown in
-    grows_both r0 r2 r3 one c.search_parts.ensures.grown
+search_node-returns-in_err-search_parts-clause-grown g t c = grows_both _ _ _ (grows_both _ _ _ c.loop-found.invariant.3.put.grown c.search_leaf.ensures.grown) c.search_parts.ensures.grown
 
 pub search_node-search_half-requires : goal.search_node-search_half-requires
 search_node-search_half-requires g t c =
@@ -134,25 +105,17 @@ search_node-search_half-requires g t c =
     let e = c.args.e.now in
     let r = c.loop-found.within in
     let n = c.loop-found.here.now in
-    let of = g.C.Hits.item_of in
-    let r0 = g.C.Hits.held c.args.found.now in
-    let all = visited s e c.args.range (plain c.args.n.now) in
     let now = c.loop-found.cost in
-    let r1 = g.C.Hits.held c.loop-found.found in
     let leaf = c.plus.ensures ∙ ap (λ q. cost (now.visits + q.visits) (now.tested + q.tested)) c.leaf_cost.ensures in
-    let r2 = g.C.Hits.held c.search_leaf.new.found in
-    let r3 = g.C.Hits.held c.search_parts.new.found in
-    let was = c.args.cost.now in
     let is = c.search_parts.new.cost in
-    let below : IsDescending of e r0 r3 was is all (visited_in_halves s e r n) =
-    halves_left of e s r n r0 r1 r2 r3 was now c.plus.result is c.as_slice.result.now all c.loop-found.invariant.3 c.as_slice.ensures.value leaf c.in_ok-search_parts.ensures.cost c.in_ok-search_leaf.ensures.put c.in_ok-search_leaf.ensures.grown c.in_ok-search_parts.ensures.put c.in_ok-search_parts.ensures.grown in
+    let below = halves_left _ _ _ _ _ _ _ _ _ _ _ _ _ _ _ c.loop-found.invariant.3 c.as_slice.ensures.value leaf c.in_ok-search_parts.ensures.cost c.in_ok-search_leaf.ensures.put c.in_ok-search_leaf.ensures.grown c.in_ok-search_parts.ensures.put c.in_ok-search_parts.ensures.grown in
     let lo = c.lower_range-lower in
     let b = c.holds_value-in_low in
     let l = visited_in_half s e (lower r) (half_as (out-Node n).low) in
     let h = visited_in_half s e (upper r) (half_as (out-Node n).high) in
     let held : holds_value e lo.result ≡ true = sym b.ensures.value ∙ c.if-in_low.true in
     let counted : AreCountableWith is (visited_in_half s e lo.result (half_as (out-Node n).low)) =
-    subst (λ q. AreCountableWith is (visited_in_half s e q (half_as (out-Node n).low))) (sym lo.ensures.range) (first_countable is l h (rest_countable of e r0 r3 was is all (l ++ h) below c.requires.countable)) in
+    subst (λ q. AreCountableWith is (visited_in_half s e q (half_as (out-Node n).low))) (sym lo.ensures.range) (first_countable is l h (rest_countable _ _ _ _ _ _ _ _ below c.requires.countable)) in
     let deep = c.loop-found.invariant.0 in
     search (rules, the_lemmas)
 
@@ -163,33 +126,18 @@ search_node-returns-in_err-search_half-clause-refused g t c =
     let r = c.loop-found.within in
     let n = c.loop-found.here.now in
     let of = g.C.Hits.item_of in
-    let r0 = g.C.Hits.held c.args.found.now in
-    let all = visited s e c.args.range (plain c.args.n.now) in
     let now = c.loop-found.cost in
-    let r1 = g.C.Hits.held c.loop-found.found in
     let leaf = c.plus.ensures ∙ ap (λ q. cost (now.visits + q.visits) (now.tested + q.tested)) c.leaf_cost.ensures in
-    let r2 = g.C.Hits.held c.search_leaf.new.found in
     let r3 = g.C.Hits.held c.search_parts.new.found in
-    let was = c.args.cost.now in
-    let is = c.search_parts.new.cost in
-    let below : IsDescending of e r0 r3 was is all (visited_in_halves s e r n) =
-    halves_left of e s r n r0 r1 r2 r3 was now c.plus.result is c.as_slice.result.now all c.loop-found.invariant.3 c.as_slice.ensures.value leaf c.in_ok-search_parts.ensures.cost c.in_ok-search_leaf.ensures.put c.in_ok-search_leaf.ensures.grown c.in_ok-search_parts.ensures.put c.in_ok-search_parts.ensures.grown in
+    let below = halves_left _ _ _ _ _ _ _ _ _ _ _ _ _ _ _ c.loop-found.invariant.3 c.as_slice.ensures.value leaf c.in_ok-search_parts.ensures.cost c.in_ok-search_leaf.ensures.put c.in_ok-search_leaf.ensures.grown c.in_ok-search_parts.ensures.put c.in_ok-search_parts.ensures.grown in
     let lo = c.lower_range-lower in
     let l = visited_in_half s e (lower r) (half_as (out-Node n).low) in
     let h = visited_in_half s e (upper r) (half_as (out-Node n).high) in
     let at = subst (λ q. r3.sure < length (hits_of of e (all_of (visited_in_half s e q (half_as (out-Node n).low))))) lo.ensures.range c.in_err-search_half.ensures.refused in
-    on_refusal c.from_residual-in_err-search_half.result (r0.sure < length (hits_of of e (all_of all))) (rest_refused of e r0 r3 was is all (l ++ h) below (no_room_in_first of e r3 l h at))
+    on_refusal c.from_residual-in_err-search_half.result _ (rest_refused _ _ _ _ _ _ _ _ below (no_room_in_first of e r3 l h at))
 
 pub search_node-returns-in_err-search_half-clause-grown : goal.search_node-returns-in_err-search_half-clause-grown
-search_node-returns-in_err-search_half-clause-grown g t c =
-    let r0 = g.C.Hits.held c.args.found.now in
-    let r1 = g.C.Hits.held c.loop-found.found in
-    let r2 = g.C.Hits.held c.search_leaf.new.found in
-    let r3 = g.C.Hits.held c.search_parts.new.found in
-    let one = grows_both r0 r1 r2 c.loop-found.invariant.3.put.grown c.search_leaf.ensures.grown in
-    let two = grows_both r0 r2 r3 one c.search_parts.ensures.grown in
-    let r4 = g.C.Hits.held c.search_half.new.found in
-    grows_both r0 r3 r4 two c.search_half.ensures.grown
+search_node-returns-in_err-search_half-clause-grown g t c = grows_both _ _ _ (grows_both _ _ _ (grows_both _ _ _ c.loop-found.invariant.3.put.grown c.search_leaf.ensures.grown) c.search_parts.ensures.grown) c.search_half.ensures.grown
 
 pub search_node-search_half-requires-then-in_low : goal.search_node-search_half-requires-then-in_low
 search_node-search_half-requires-then-in_low g t c =
@@ -197,18 +145,10 @@ search_node-search_half-requires-then-in_low g t c =
     let e = c.args.e.now in
     let r = c.loop-found.within in
     let n = c.loop-found.here.now in
-    let of = g.C.Hits.item_of in
-    let r0 = g.C.Hits.held c.args.found.now in
-    let all = visited s e c.args.range (plain c.args.n.now) in
     let now = c.loop-found.cost in
-    let r1 = g.C.Hits.held c.loop-found.found in
     let leaf = c.plus.ensures ∙ ap (λ q. cost (now.visits + q.visits) (now.tested + q.tested)) c.leaf_cost.ensures in
-    let r2 = g.C.Hits.held c.search_leaf.new.found in
-    let r3 = g.C.Hits.held c.search_parts.new.found in
-    let was = c.args.cost.now in
     let is = c.search_parts.new.cost in
-    let below : IsDescending of e r0 r3 was is all (visited_in_halves s e r n) =
-    halves_left of e s r n r0 r1 r2 r3 was now c.plus.result is c.as_slice.result.now all c.loop-found.invariant.3 c.as_slice.ensures.value leaf c.in_ok-search_parts.ensures.cost c.in_ok-search_leaf.ensures.put c.in_ok-search_leaf.ensures.grown c.in_ok-search_parts.ensures.put c.in_ok-search_parts.ensures.grown in
+    let below = halves_left _ _ _ _ _ _ _ _ _ _ _ _ _ _ _ c.loop-found.invariant.3 c.as_slice.ensures.value leaf c.in_ok-search_parts.ensures.cost c.in_ok-search_leaf.ensures.put c.in_ok-search_leaf.ensures.grown c.in_ok-search_parts.ensures.put c.in_ok-search_parts.ensures.grown in
     let lo = c.lower_range-lower in
     let hi = c.upper_range-upper in
     let b = c.holds_value-in_low in
@@ -221,7 +161,7 @@ search_node-search_half-requires-then-in_low g t c =
     let rising : is_rising hi.result ≡ true = d.ensures.rising holds in
     let held : holds_value e hi.result ≡ true = sym d.ensures.value ∙ holds in
     let counted : AreCountableWith low (visited_in_half s e hi.result (half_as (out-Node n).high)) =
-    subst (λ q. AreCountableWith low (visited_in_half s e q (half_as (out-Node n).high))) (sym hi.ensures.range) (second_countable is low l h (rest_countable of e r0 r3 was is all (l ++ h) below c.requires.countable) low_cost) in
+    subst (λ q. AreCountableWith low (visited_in_half s e q (half_as (out-Node n).high))) (sym hi.ensures.range) (second_countable is low l h (rest_countable _ _ _ _ _ _ _ _ below c.requires.countable) low_cost) in
     let deep = c.loop-found.invariant.0 in
     search (rules, the_lemmas)
 
@@ -232,17 +172,10 @@ search_node-returns-in_err-search_half-2-clause-refused g t c =
     let r = c.loop-found.within in
     let n = c.loop-found.here.now in
     let of = g.C.Hits.item_of in
-    let r0 = g.C.Hits.held c.args.found.now in
-    let all = visited s e c.args.range (plain c.args.n.now) in
     let now = c.loop-found.cost in
-    let r1 = g.C.Hits.held c.loop-found.found in
     let leaf = c.plus.ensures ∙ ap (λ q. cost (now.visits + q.visits) (now.tested + q.tested)) c.leaf_cost.ensures in
-    let r2 = g.C.Hits.held c.search_leaf.new.found in
     let r3 = g.C.Hits.held c.search_parts.new.found in
-    let was = c.args.cost.now in
-    let is = c.search_parts.new.cost in
-    let below : IsDescending of e r0 r3 was is all (visited_in_halves s e r n) =
-    halves_left of e s r n r0 r1 r2 r3 was now c.plus.result is c.as_slice.result.now all c.loop-found.invariant.3 c.as_slice.ensures.value leaf c.in_ok-search_parts.ensures.cost c.in_ok-search_leaf.ensures.put c.in_ok-search_leaf.ensures.grown c.in_ok-search_parts.ensures.put c.in_ok-search_parts.ensures.grown in
+    let below = halves_left _ _ _ _ _ _ _ _ _ _ _ _ _ _ _ c.loop-found.invariant.3 c.as_slice.ensures.value leaf c.in_ok-search_parts.ensures.cost c.in_ok-search_leaf.ensures.put c.in_ok-search_leaf.ensures.grown c.in_ok-search_parts.ensures.put c.in_ok-search_parts.ensures.grown in
     let lo = c.lower_range-lower in
     let hi = c.upper_range-upper in
     let l = visited_in_half s e (lower r) (half_as (out-Node n).low) in
@@ -250,20 +183,11 @@ search_node-returns-in_err-search_half-2-clause-refused g t c =
     let r4 = g.C.Hits.held c.search_half.new.found in
     let low = subst (λ q. Adds r3 r4 (hits_of of e (all_of (visited_in_half s e q (half_as (out-Node n).low))))) lo.ensures.range c.in_ok-search_half.ensures.put in
     let at = subst (λ q. r4.sure < length (hits_of of e (all_of (visited_in_half s e q (half_as (out-Node n).high))))) hi.ensures.range c.in_err-search_half-2.ensures.refused in
-    on_refusal c.from_residual-in_err-search_half-2.result (r0.sure < length (hits_of of e (all_of all))) (rest_refused of e r0 r3 was is all (l ++ h) below (no_room_in_second of e r3 r4 l h low at))
+    on_refusal c.from_residual-in_err-search_half-2.result _ (rest_refused _ _ _ _ _ _ _ _ below (no_room_in_second of e r3 r4 l h low at))
 
 pub search_node-returns-in_err-search_half-2-clause-grown : goal.search_node-returns-in_err-search_half-2-clause-grown
 search_node-returns-in_err-search_half-2-clause-grown g t c =
-    let r0 = g.C.Hits.held c.args.found.now in
-    let r1 = g.C.Hits.held c.loop-found.found in
-    let r2 = g.C.Hits.held c.search_leaf.new.found in
-    let r3 = g.C.Hits.held c.search_parts.new.found in
-    let one = grows_both r0 r1 r2 c.loop-found.invariant.3.put.grown c.search_leaf.ensures.grown in
-    let two = grows_both r0 r2 r3 one c.search_parts.ensures.grown in
-    let r4 = g.C.Hits.held c.search_half.new.found in
-    let three = grows_both r0 r3 r4 two c.search_half.ensures.grown in
-    let r5 = g.C.Hits.held c.search_half-then-in_low.new.found in
-    grows_both r0 r4 r5 three c.search_half-then-in_low.ensures.grown
+    grows_both _ _ _ (grows_both _ _ _ (grows_both _ _ _ (grows_both _ _ _ c.loop-found.invariant.3.put.grown c.search_leaf.ensures.grown) c.search_parts.ensures.grown) c.search_half.ensures.grown) c.search_half-then-in_low.ensures.grown
 
 pub search_node-returns-in_ok-search_half-2-clause-put : goal.search_node-returns-in_ok-search_half-2-clause-put
 search_node-returns-in_ok-search_half-2-clause-put g t c =
@@ -272,17 +196,10 @@ search_node-returns-in_ok-search_half-2-clause-put g t c =
     let r = c.loop-found.within in
     let n = c.loop-found.here.now in
     let of = g.C.Hits.item_of in
-    let r0 = g.C.Hits.held c.args.found.now in
-    let all = visited s e c.args.range (plain c.args.n.now) in
     let now = c.loop-found.cost in
-    let r1 = g.C.Hits.held c.loop-found.found in
     let leaf = c.plus.ensures ∙ ap (λ q. cost (now.visits + q.visits) (now.tested + q.tested)) c.leaf_cost.ensures in
-    let r2 = g.C.Hits.held c.search_leaf.new.found in
     let r3 = g.C.Hits.held c.search_parts.new.found in
-    let was = c.args.cost.now in
-    let is = c.search_parts.new.cost in
-    let below : IsDescending of e r0 r3 was is all (visited_in_halves s e r n) =
-    halves_left of e s r n r0 r1 r2 r3 was now c.plus.result is c.as_slice.result.now all c.loop-found.invariant.3 c.as_slice.ensures.value leaf c.in_ok-search_parts.ensures.cost c.in_ok-search_leaf.ensures.put c.in_ok-search_leaf.ensures.grown c.in_ok-search_parts.ensures.put c.in_ok-search_parts.ensures.grown in
+    let below = halves_left _ _ _ _ _ _ _ _ _ _ _ _ _ _ _ c.loop-found.invariant.3 c.as_slice.ensures.value leaf c.in_ok-search_parts.ensures.cost c.in_ok-search_leaf.ensures.put c.in_ok-search_leaf.ensures.grown c.in_ok-search_parts.ensures.put c.in_ok-search_parts.ensures.grown in
     let lo = c.lower_range-lower in
     let hi = c.upper_range-upper in
     let l = visited_in_half s e (lower r) (half_as (out-Node n).low) in
@@ -291,7 +208,7 @@ search_node-returns-in_ok-search_half-2-clause-put g t c =
     let low = subst (λ q. Adds r3 r4 (hits_of of e (all_of (visited_in_half s e q (half_as (out-Node n).low))))) lo.ensures.range c.in_ok-search_half.ensures.put in
     let r5 = g.C.Hits.held c.search_half-then-in_low.new.found in
     let high = subst (λ q. Adds r4 r5 (hits_of of e (all_of (visited_in_half s e q (half_as (out-Node n).high))))) hi.ensures.range c.in_ok-search_half-2.ensures.put in
-    rest_put of e r0 r3 r5 was is all (l ++ h) below (put_both of e r3 r4 r5 l h low high)
+    rest_put _ _ _ _ _ _ _ _ _ below (put_both of e r3 r4 r5 l h low high)
 
 pub search_node-returns-in_ok-search_half-2-clause-cost : goal.search_node-returns-in_ok-search_half-2-clause-cost
 search_node-returns-in_ok-search_half-2-clause-cost g t c =
@@ -299,160 +216,83 @@ search_node-returns-in_ok-search_half-2-clause-cost g t c =
     let e = c.args.e.now in
     let r = c.loop-found.within in
     let n = c.loop-found.here.now in
-    let of = g.C.Hits.item_of in
-    let r0 = g.C.Hits.held c.args.found.now in
-    let all = visited s e c.args.range (plain c.args.n.now) in
     let now = c.loop-found.cost in
-    let r1 = g.C.Hits.held c.loop-found.found in
     let leaf = c.plus.ensures ∙ ap (λ q. cost (now.visits + q.visits) (now.tested + q.tested)) c.leaf_cost.ensures in
-    let r2 = g.C.Hits.held c.search_leaf.new.found in
-    let r3 = g.C.Hits.held c.search_parts.new.found in
-    let was = c.args.cost.now in
     let is = c.search_parts.new.cost in
-    let below : IsDescending of e r0 r3 was is all (visited_in_halves s e r n) =
-    halves_left of e s r n r0 r1 r2 r3 was now c.plus.result is c.as_slice.result.now all c.loop-found.invariant.3 c.as_slice.ensures.value leaf c.in_ok-search_parts.ensures.cost c.in_ok-search_leaf.ensures.put c.in_ok-search_leaf.ensures.grown c.in_ok-search_parts.ensures.put c.in_ok-search_parts.ensures.grown in
+    let below = halves_left _ _ _ _ _ _ _ _ _ _ _ _ _ _ _ c.loop-found.invariant.3 c.as_slice.ensures.value leaf c.in_ok-search_parts.ensures.cost c.in_ok-search_leaf.ensures.put c.in_ok-search_leaf.ensures.grown c.in_ok-search_parts.ensures.put c.in_ok-search_parts.ensures.grown in
     let lo = c.lower_range-lower in
     let hi = c.upper_range-upper in
     let l = visited_in_half s e (lower r) (half_as (out-Node n).low) in
     let h = visited_in_half s e (upper r) (half_as (out-Node n).high) in
     let low_cost = c.in_ok-search_half.ensures.cost ∙ ap (λ q. cost_with is (visited_in_half s e q (half_as (out-Node n).low))) lo.ensures.range in
     let high_cost = c.in_ok-search_half-2.ensures.cost ∙ ap (λ q. cost_with c.search_half.new.cost (visited_in_half s e q (half_as (out-Node n).high))) hi.ensures.range in
-    rest_counted of e r0 r3 was is c.search_half-then-in_low.new.cost all (l ++ h) below (both_counted is c.search_half.new.cost c.search_half-then-in_low.new.cost l h low_cost high_cost)
+    rest_counted _ _ _ _ _ _ _ _ _ below (both_counted is c.search_half.new.cost c.search_half-then-in_low.new.cost l h low_cost high_cost)
 
 pub search_node-returns-in_ok-search_half-2-clause-grown : goal.search_node-returns-in_ok-search_half-2-clause-grown
 search_node-returns-in_ok-search_half-2-clause-grown g t c =
-    let r0 = g.C.Hits.held c.args.found.now in
-    let r1 = g.C.Hits.held c.loop-found.found in
-    let r2 = g.C.Hits.held c.search_leaf.new.found in
-    let r3 = g.C.Hits.held c.search_parts.new.found in
-    let one = grows_both r0 r1 r2 c.loop-found.invariant.3.put.grown c.search_leaf.ensures.grown in
-    let two = grows_both r0 r2 r3 one c.search_parts.ensures.grown in
-    let r4 = g.C.Hits.held c.search_half.new.found in
-    let three = grows_both r0 r3 r4 two c.search_half.ensures.grown in
-    let r5 = g.C.Hits.held c.search_half-then-in_low.new.found in
-    grows_both r0 r4 r5 three c.search_half-then-in_low.ensures.grown
+    grows_both _ _ _ (grows_both _ _ _ (grows_both _ _ _ (grows_both _ _ _ c.loop-found.invariant.3.put.grown c.search_leaf.ensures.grown) c.search_parts.ensures.grown) c.search_half.ensures.grown) c.search_half-then-in_low.ensures.grown
 
 pub search_node-returns-else-in_low-clause-put : goal.search_node-returns-else-in_low-clause-put
 search_node-returns-else-in_low-clause-put g t c =
-    let s = c.args.s.now in
-    let e = c.args.e.now in
-    let r = c.loop-found.within in
-    let n = c.loop-found.here.now in
-    let of = g.C.Hits.item_of in
-    let r0 = g.C.Hits.held c.args.found.now in
-    let all = visited s e c.args.range (plain c.args.n.now) in
     let now = c.loop-found.cost in
-    let r1 = g.C.Hits.held c.loop-found.found in
     let leaf = c.plus.ensures ∙ ap (λ q. cost (now.visits + q.visits) (now.tested + q.tested)) c.leaf_cost.ensures in
-    let r2 = g.C.Hits.held c.search_leaf.new.found in
-    let r3 = g.C.Hits.held c.search_parts.new.found in
-    let was = c.args.cost.now in
-    let is = c.search_parts.new.cost in
-    let below : IsDescending of e r0 r3 was is all (visited_in_halves s e r n) =
-    halves_left of e s r n r0 r1 r2 r3 was now c.plus.result is c.as_slice.result.now all c.loop-found.invariant.3 c.as_slice.ensures.value leaf c.in_ok-search_parts.ensures.cost c.in_ok-search_leaf.ensures.put c.in_ok-search_leaf.ensures.grown c.in_ok-search_parts.ensures.put c.in_ok-search_parts.ensures.grown in
+    let below = halves_left _ _ _ _ _ _ _ _ _ _ _ _ _ _ _ c.loop-found.invariant.3 c.as_slice.ensures.value leaf c.in_ok-search_parts.ensures.cost c.in_ok-search_leaf.ensures.put c.in_ok-search_leaf.ensures.grown c.in_ok-search_parts.ensures.put c.in_ok-search_parts.ensures.grown in
     let lo = c.lower_range-lower in
     let hi = c.upper_range-upper in
     let b = c.holds_value-in_low in
     let d = c.holds_value-in_high in
-    let none = in_neither s e r n b.result d.result lo.result hi.result lo.ensures.range hi.ensures.range b.ensures.value d.ensures.value c.if-in_low-in_high.true c.if-in_low.false in
-    nothing_put of e r0 r3 was is all (visited_in_halves s e r n) below none
+    let none = in_neither _ _ _ _ _ _ _ _ lo.ensures.range hi.ensures.range b.ensures.value d.ensures.value c.if-in_low-in_high.true c.if-in_low.false in
+    nothing_put _ _ _ _ _ _ _ _ below none
 
 pub search_node-returns-else-in_low-clause-cost : goal.search_node-returns-else-in_low-clause-cost
 search_node-returns-else-in_low-clause-cost g t c =
-    let s = c.args.s.now in
-    let e = c.args.e.now in
-    let r = c.loop-found.within in
-    let n = c.loop-found.here.now in
-    let of = g.C.Hits.item_of in
-    let r0 = g.C.Hits.held c.args.found.now in
-    let all = visited s e c.args.range (plain c.args.n.now) in
     let now = c.loop-found.cost in
-    let r1 = g.C.Hits.held c.loop-found.found in
     let leaf = c.plus.ensures ∙ ap (λ q. cost (now.visits + q.visits) (now.tested + q.tested)) c.leaf_cost.ensures in
-    let r2 = g.C.Hits.held c.search_leaf.new.found in
-    let r3 = g.C.Hits.held c.search_parts.new.found in
-    let was = c.args.cost.now in
-    let is = c.search_parts.new.cost in
-    let below : IsDescending of e r0 r3 was is all (visited_in_halves s e r n) =
-    halves_left of e s r n r0 r1 r2 r3 was now c.plus.result is c.as_slice.result.now all c.loop-found.invariant.3 c.as_slice.ensures.value leaf c.in_ok-search_parts.ensures.cost c.in_ok-search_leaf.ensures.put c.in_ok-search_leaf.ensures.grown c.in_ok-search_parts.ensures.put c.in_ok-search_parts.ensures.grown in
+    let below = halves_left _ _ _ _ _ _ _ _ _ _ _ _ _ _ _ c.loop-found.invariant.3 c.as_slice.ensures.value leaf c.in_ok-search_parts.ensures.cost c.in_ok-search_leaf.ensures.put c.in_ok-search_leaf.ensures.grown c.in_ok-search_parts.ensures.put c.in_ok-search_parts.ensures.grown in
     let lo = c.lower_range-lower in
     let hi = c.upper_range-upper in
     let b = c.holds_value-in_low in
     let d = c.holds_value-in_high in
-    let none = in_neither s e r n b.result d.result lo.result hi.result lo.ensures.range hi.ensures.range b.ensures.value d.ensures.value c.if-in_low-in_high.true c.if-in_low.false in
-    nothing_counted of e r0 r3 was is all (visited_in_halves s e r n) below none
+    let none = in_neither _ _ _ _ _ _ _ _ lo.ensures.range hi.ensures.range b.ensures.value d.ensures.value c.if-in_low-in_high.true c.if-in_low.false in
+    nothing_counted _ _ _ _ _ _ _ _ below none
 
 pub search_node-returns-else-in_low-clause-grown : goal.search_node-returns-else-in_low-clause-grown
-search_node-returns-else-in_low-clause-grown g t c =
-    let r0 = g.C.Hits.held c.args.found.now in
-    let r1 = g.C.Hits.held c.loop-found.found in
-    let r2 = g.C.Hits.held c.search_leaf.new.found in
-    let r3 = g.C.Hits.held c.search_parts.new.found in
-    let one = grows_both r0 r1 r2 c.loop-found.invariant.3.put.grown c.search_leaf.ensures.grown in
-    grows_both r0 r2 r3 one c.search_parts.ensures.grown
+search_node-returns-else-in_low-clause-grown g t c = grows_both _ _ _ (grows_both _ _ _ c.loop-found.invariant.3.put.grown c.search_leaf.ensures.grown) c.search_parts.ensures.grown
 
 pub search_node-returns-in-None-clause-put : goal.search_node-returns-in-None-clause-put
 search_node-returns-in-None-clause-put g t c =
     let s = c.args.s.now in
     let e = c.args.e.now in
-    let r = c.loop-found.within in
-    let n = c.loop-found.here.now in
-    let of = g.C.Hits.item_of in
-    let r0 = g.C.Hits.held c.args.found.now in
-    let all = visited s e c.args.range (plain c.args.n.now) in
     let now = c.loop-found.cost in
-    let r1 = g.C.Hits.held c.loop-found.found in
     let leaf = c.plus.ensures ∙ ap (λ q. cost (now.visits + q.visits) (now.tested + q.tested)) c.leaf_cost.ensures in
-    let r2 = g.C.Hits.held c.search_leaf.new.found in
-    let r3 = g.C.Hits.held c.search_parts.new.found in
-    let was = c.args.cost.now in
-    let is = c.search_parts.new.cost in
-    let below : IsDescending of e r0 r3 was is all (visited_in_halves s e r n) =
-    halves_left of e s r n r0 r1 r2 r3 was now c.plus.result is c.as_slice.result.now all c.loop-found.invariant.3 c.as_slice.ensures.value leaf c.in_ok-search_parts.ensures.cost c.in_ok-search_leaf.ensures.put c.in_ok-search_leaf.ensures.grown c.in_ok-search_parts.ensures.put c.in_ok-search_parts.ensures.grown in
+    let below = halves_left _ _ _ _ _ _ _ _ _ _ _ _ _ _ _ c.loop-found.invariant.3 c.as_slice.ensures.value leaf c.in_ok-search_parts.ensures.cost c.in_ok-search_leaf.ensures.put c.in_ok-search_leaf.ensures.grown c.in_ok-search_parts.ensures.put c.in_ok-search_parts.ensures.grown in
     let lo = c.lower_range-lower in
     let hi = c.upper_range-upper in
     let b = c.holds_value-in_low in
     let d = c.holds_value-in_high in
     let q = cond b.result lo.result hi.result in
-    let in_half = in_chosen s e r n b.result d.result lo.result hi.result q c.chosen.result.now lo.ensures.range hi.ensures.range b.ensures.value d.ensures.value c.if-in_low-in_high.false refl c.chosen.ensures in
+    let in_half = in_chosen _ _ _ _ _ _ _ _ _ _ lo.ensures.range hi.ensures.range b.ensures.value d.ensures.value c.if-in_low-in_high.false refl c.chosen.ensures in
     let none = sym in_half ∙ ap (λ i. visited_in_half s e q (half_as i)) c.in-None.is in
-    nothing_put of e r0 r3 was is all (visited_in_halves s e r n) below none
+    nothing_put _ _ _ _ _ _ _ _ below none
 
 pub search_node-returns-in-None-clause-cost : goal.search_node-returns-in-None-clause-cost
 search_node-returns-in-None-clause-cost g t c =
     let s = c.args.s.now in
     let e = c.args.e.now in
-    let r = c.loop-found.within in
-    let n = c.loop-found.here.now in
-    let of = g.C.Hits.item_of in
-    let r0 = g.C.Hits.held c.args.found.now in
-    let all = visited s e c.args.range (plain c.args.n.now) in
     let now = c.loop-found.cost in
-    let r1 = g.C.Hits.held c.loop-found.found in
     let leaf = c.plus.ensures ∙ ap (λ q. cost (now.visits + q.visits) (now.tested + q.tested)) c.leaf_cost.ensures in
-    let r2 = g.C.Hits.held c.search_leaf.new.found in
-    let r3 = g.C.Hits.held c.search_parts.new.found in
-    let was = c.args.cost.now in
-    let is = c.search_parts.new.cost in
-    let below : IsDescending of e r0 r3 was is all (visited_in_halves s e r n) =
-    halves_left of e s r n r0 r1 r2 r3 was now c.plus.result is c.as_slice.result.now all c.loop-found.invariant.3 c.as_slice.ensures.value leaf c.in_ok-search_parts.ensures.cost c.in_ok-search_leaf.ensures.put c.in_ok-search_leaf.ensures.grown c.in_ok-search_parts.ensures.put c.in_ok-search_parts.ensures.grown in
+    let below = halves_left _ _ _ _ _ _ _ _ _ _ _ _ _ _ _ c.loop-found.invariant.3 c.as_slice.ensures.value leaf c.in_ok-search_parts.ensures.cost c.in_ok-search_leaf.ensures.put c.in_ok-search_leaf.ensures.grown c.in_ok-search_parts.ensures.put c.in_ok-search_parts.ensures.grown in
     let lo = c.lower_range-lower in
     let hi = c.upper_range-upper in
     let b = c.holds_value-in_low in
     let d = c.holds_value-in_high in
     let q = cond b.result lo.result hi.result in
-    let in_half = in_chosen s e r n b.result d.result lo.result hi.result q c.chosen.result.now lo.ensures.range hi.ensures.range b.ensures.value d.ensures.value c.if-in_low-in_high.false refl c.chosen.ensures in
+    let in_half = in_chosen _ _ _ _ _ _ _ _ _ _ lo.ensures.range hi.ensures.range b.ensures.value d.ensures.value c.if-in_low-in_high.false refl c.chosen.ensures in
     let none = sym in_half ∙ ap (λ i. visited_in_half s e q (half_as i)) c.in-None.is in
-    nothing_counted of e r0 r3 was is all (visited_in_halves s e r n) below none
+    nothing_counted _ _ _ _ _ _ _ _ below none
 
 pub search_node-returns-in-None-clause-grown : goal.search_node-returns-in-None-clause-grown
-search_node-returns-in-None-clause-grown g t c =
-    let r0 = g.C.Hits.held c.args.found.now in
-    let r1 = g.C.Hits.held c.loop-found.found in
-    let r2 = g.C.Hits.held c.search_leaf.new.found in
-    let r3 = g.C.Hits.held c.search_parts.new.found in
-    let one = grows_both r0 r1 r2 c.loop-found.invariant.3.put.grown c.search_leaf.ensures.grown in
-    grows_both r0 r2 r3 one c.search_parts.ensures.grown
+search_node-returns-in-None-clause-grown g t c = grows_both _ _ _ (grows_both _ _ _ c.loop-found.invariant.3.put.grown c.search_leaf.ensures.grown) c.search_parts.ensures.grown
 
 pub search_node-loop-found-preserved : goal.search_node-loop-found-preserved
 search_node-loop-found-preserved g t c =
@@ -464,14 +304,11 @@ search_node-loop-found-preserved g t c =
     let r0 = g.C.Hits.held c.args.found.now in
     let all = visited s e c.args.range (plain c.args.n.now) in
     let now = c.loop-found.cost in
-    let r1 = g.C.Hits.held c.loop-found.found in
     let leaf = c.plus.ensures ∙ ap (λ q. cost (now.visits + q.visits) (now.tested + q.tested)) c.leaf_cost.ensures in
-    let r2 = g.C.Hits.held c.search_leaf.new.found in
     let r3 = g.C.Hits.held c.search_parts.new.found in
     let was = c.args.cost.now in
     let is = c.search_parts.new.cost in
-    let below : IsDescending of e r0 r3 was is all (visited_in_halves s e r n) =
-    halves_left of e s r n r0 r1 r2 r3 was now c.plus.result is c.as_slice.result.now all c.loop-found.invariant.3 c.as_slice.ensures.value leaf c.in_ok-search_parts.ensures.cost c.in_ok-search_leaf.ensures.put c.in_ok-search_leaf.ensures.grown c.in_ok-search_parts.ensures.put c.in_ok-search_parts.ensures.grown in
+    let below = halves_left of e s r n _ _ _ _ _ _ _ _ _ _ c.loop-found.invariant.3 c.as_slice.ensures.value leaf c.in_ok-search_parts.ensures.cost c.in_ok-search_leaf.ensures.put c.in_ok-search_leaf.ensures.grown c.in_ok-search_parts.ensures.put c.in_ok-search_parts.ensures.grown in
     let lo = c.lower_range-lower in
     let hi = c.upper_range-upper in
     let b = c.holds_value-in_low in

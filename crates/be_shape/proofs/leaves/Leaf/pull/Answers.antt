@@ -4,6 +4,7 @@ use Rattle.std.specs.Arc.{arc_value}
 use Rattle.std.specs.List.{swap_remove}
 use Rattle.std.proofs.lemmas.List.Sorted.{IsPermutation-swap_remove}
 use Rattle.be_shape.specs.Leaves.{rows_of_places, are_rows}
+use Rattle.be_shape.specs.Large.{IsBeside}
 use Rattle.be_shape.proofs.LeafRows.{rows_length, row_there, row_some, rows_pulled, are_rows_pulled}
 use Rattle.be_shape.specs.Common.{AreCommon}
 use Rattle.be_shape.proofs.Commons.{pulled_common}
@@ -23,10 +24,13 @@ invariant_of-self c =
     let row = arc_value c.into_row-row.result in
     let moved = IsPermutation-swap_remove ps c.args.place k l c.swap_remove.ensures.value in
     let pulled = rows_pulled ps (swap_remove ps c.args.place k) k row c.into_row-row.ensures c.self.invariant.rows moved in
+    let as_slice_is = c.as_slice.ensures in
+    let swapped = as_slice_is ∙ c.swap_remove.ensures.items in
     record {
       rows = ap are_rows c.swap_remove.ensures.items ∙ are_rows_pulled ps (swap_remove ps c.args.place k) k row c.into_row-row.ensures c.self.invariant.rows moved;
       counted = sym c.len-self-inside.ensures.value;
       told = subst (λ xs. AreCommon (rows_of_places xs) c.self.inside.common) (sym c.swap_remove.ensures.items) (pulled_common (rows_of_places ps) (rows_of_places (swap_remove ps c.args.place k)) row c.self.inside.common pulled c.self.invariant.told);
+      beside = subst (λ xs. IsBeside xs c.note_pulled.new.large) as_slice_is (c.note_pulled.ensures ps k swapped c.self.invariant.beside);
     }
 
 pub returns-clause-row : goal.returns-clause-row

@@ -4,7 +4,7 @@ use Rattle.be_shape.specs.declared.leaves.Choice.{Choice}
 use Rattle.be_index.specs.Puts.{Adds, hits_of}
 use Rattle.be_index.proofs.Adding.{on_refusal, underway_next, underway_refused}
 use Rattle.be_match.proofs.Blocks.{in_range, next_at, sure_at, none_left, finished, underway, one_then, none_then, hits_covered}
-use Rattle.be_match.proofs.searches.search_block.Goals as goal
+use Rattle.be_match.proofs.searches.search_places.Goals as goal
 
 pub overflow_add-from : goal.overflow_add-from
 overflow_add-from g c =

@@ -3,7 +3,7 @@ use Rattle.be_model.specs.declared.changes.Row.{Row}
 use Rattle.be_index.specs.Puts.{hits_of}
 use Rattle.be_index.proofs.Adding.{IsUnderway}
 use Rattle.be_shape.specs.Chosen.{AreAt}
-use Rattle.be_match.proofs.searches.search_block.Given as goal
+use Rattle.be_match.proofs.searches.search_places.Given as goal
 
 -- what was put, and what is still to be asked of the rows at the places that were chosen
 abbrev pub invariant-loop-i : goal.invariant-loop-i
