@@ -1,7 +1,7 @@
 -- Columns of a block.
-use Rattle.std.proofs.Common.{◌≡◌, ⊎_elim, ◌==◌, ℕ, ◌+◌, ◌<◌, Bool, true, false, ◌&&◌, cond, suc, List, [], ◌∷◌, ◌++◌, length, map, take, set, get_or, slice_get, Some, refl, sym, ap, ap₂, subst, ◌∙◌, arith, get_or-set_other, get_or-set_same}
+use Rattle.std.proofs.Common.{◌≡◌, ⊎_elim, ◌==◌, ℕ, ◌+◌, ◌<◌, Bool, true, false, ◌&&◌, cond, suc, List, [], ◌∷◌, ◌++◌, length, map, take, set, get_or, slice_get, Some, refl, sym, ap, ap₂, subst, ◌∙◌, arith}
 use Rattle.std.proofs.lemmas.Bool.{cases_eq, and_parts, eqb-true}
-use Rattle.std.proofs.lemmas.List.{length-set, map-append, take-set, take_more_set, take_more, append-nil}
+use Rattle.std.proofs.lemmas.List.{map-append, take-set, take_more_set, take_more, append-nil}
 use Rattle.std.proofs.lemmas.List.Elements.{filter-append}
 use Rattle.std.proofs.lemmas.Option.{slice_get-get_or, slice_get_within, get_or_from_slice_get}
 use Rattle.be_model.specs.declared.changes.Row.{Row}
@@ -18,23 +18,6 @@ use Rattle.be_shape.specs.Lanes.{Slot, lets, seen, are_single, free, is_free}
 pub record AreFilled (f : ℕ → Bool) (xs : List Bool) (n : ℕ) : Type 0 where
   pub size : length xs ≡ 32
   pub each : (i : ℕ) → i < n → slice_get xs i ≡ Some (f i)
-
-pub filled_none : (f : ℕ → Bool) (xs : List Bool) → length xs ≡ 32 → AreFilled f xs 0
-filled_none f xs size = record { size = size; each = λ i h. absurd (omega (arith, h)) }
-
-pub filled_next : (f : ℕ → Bool) (xs : List Bool) (n : ℕ) (b : Bool) → n < 32 → b ≡ f n → AreFilled f xs n → AreFilled f (set xs n b) (n + 1)
-filled_next f xs n b few is was = record { size = size; each = each }
-  where
-    size : length (set xs n b) ≡ 32
-    size = length-set xs n b ∙ was.size
-
-    each : (i : ℕ) → i < n + 1 → slice_get (set xs n b) i ≡ Some (f i)
-    each i h =
-        let there : slice_get (set xs n b) i ≡ Some (get_or (set xs n b) i b) = slice_get-get_or (set xs n b) i b (omega (arith, size, few, h)) in
-        ⊎_elim
-        (λ same. there ∙ ap Some (ap (λ m. get_or (set xs n b) m b) same ∙ get_or-set_same xs n b b (omega (arith, was.size, few)) ∙ is ∙ ap f (sym same)))
-        (λ other. there ∙ ap Some (get_or-set_other xs n i b b other) ∙ sym (slice_get-get_or xs i b (omega (arith, was.size, few, h))) ∙ was.each i (omega (arith, h, other)))
-        (cases_eq i n)
 
 -- of the rows below this place the satisfied ones were noted
 abbrev pub AreCollected : List Bool → List ℕ → ℕ → ℕ → Type 0
