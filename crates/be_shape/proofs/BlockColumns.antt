@@ -9,7 +9,7 @@ use Rattle.be_model.specs.Matching.{Assignments, satisfies, satisfied}
 use Rattle.be_model.specs.Matching.{values_of}
 use Rattle.be_model.specs.Schemas.{numbered}
 use Rattle.be_shape.specs.declared.columns.Columns.{Columns}
-use Rattle.be_shape.specs.declared.held.Entry.{Entry}
+use Rattle.be_shape.specs.declared.columns.Entry.{Entry}
 use Rattle.be_shape.specs.Chosen.{AreRowsAt}
 use Rattle.be_shape.specs.Columns.{TellPassing, TellsRow, AreTold, AreColumnsOf, entry_at, slot_at, slots_at, lets_all}
 use Rattle.be_shape.specs.Lanes.{Slot, lets, seen, are_single, free, is_free}

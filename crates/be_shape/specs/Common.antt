@@ -46,7 +46,7 @@ abbrev pub IsTold : List ℕ → ℕ → RowAttrs → Type 0
 IsTold counts wanted l =
     (a : ℕ) → a < ATTRIBUTES → wanted ≤ slice_index_or counts a 0 → is_many l ≡ false → is_listed a l ≡ true
 
--- the rows of a leaf stand at its places; they are counted, what many of them have is told, and so is what stands beside them
+-- the rows of a leaf stand at its places; they are counted, what many of them have is told, and what stands beside them is of them
 pub record IsLeaf (count : ℕ) (common : RowAttrs) (places : List (Option Row)) (large : Option (Box Large)) : Type 0 where
   pub rows : are_rows places ≡ true
   pub counted : length places ≡ count

@@ -16,7 +16,7 @@ pub record TellBlocks (places : List (Option Row)) (columns : List (Option (Box 
   pub whole : 32 * length columns ≤ length places
   pub told : (b : ℕ) (c : Box Columns) → slice_get columns b ≡ Some (Some c) → AreColumnsOf c.value (rows_of_places (block_at b places))
 
--- what is told of a block was told of it before, and it's none of the blocks from `first` up to `end`
+-- what is told of a block was told of it before, of no more blocks, and of none from `first` up to `end`
 pub record AreForgotten (first end : ℕ) (old new : List (Option (Box Columns))) : Type 0 where
   pub few : length new ≤ length old
   pub was : (b : ℕ) (c : Box Columns) → slice_get new b ≡ Some (Some c) → slice_get old b ≡ Some (Some c)

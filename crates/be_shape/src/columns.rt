@@ -9,8 +9,7 @@ ghost use Rattle.be_shape.specs.Columns.{AreColumnsOf, AreTold, TellsRow, TellPa
 ghost use Rattle.be_shape.specs.Lanes.{lets, are_single};
 ghost use Rattle.be_shape.specs.Leaves.{are_rows, rows_of_places};
 
-use crate::held::Entry;
-use crate::lanes::{FREE, Slot, is_free, lets};
+use crate::lanes::{FREE, LaneSlots, Slot, is_free, lets};
 use crate::leaves::{BLOCK, kept_at};
 use crate::places::Kept;
 use crate::sights::Sight;
@@ -22,6 +21,13 @@ pub type Met = [u8; BLOCK];
 /// No place yet. A search fills its own in place.
 pub const NONE_MET: Met = [0; BLOCK];
 
+/// The slots of a row whose lanes are of one attribute, and its id.
+#[derive(Clone, Copy)]
+pub(crate) struct Entry {
+    pub(crate) slots: LaneSlots,
+    pub(crate) id: u32,
+}
+
 // Of each place whether its row is satisfied.
 type Passes = [bool; BLOCK];
 
@@ -29,18 +35,18 @@ type Passes = [bool; BLOCK];
 #[derive(Drop)]
 struct Column {
     lows: [u32; BLOCK],
-    mores: [u32; BLOCK],
+    widths: [u32; BLOCK],
 }
 
-/// What is told, column by column, of the rows of a block that have tests on one attribute alone, and no more. So a search of an event
-/// of single values needn't look at their places.
+/// What is told, column by column, of the rows of a block whose lanes are on one attribute and are their whole meaning. So a search of
+/// an event of single values needn't look at their places.
 #[derive(Drop)]
 pub struct Columns {
-    /// The attribute that all tests are on.
+    /// The attribute that all lanes are on.
     attr: u8,
     /// What lies beyond it satisfies no row of the block.
     hull: Slot,
-    /// No row has more than one test.
+    /// No row has more than one lane that isn't free.
     single: bool,
     first: Column,
     second: Column,
@@ -88,7 +94,7 @@ impl Column {
     fn blank() -> Column {
         Column {
             lows: [0; BLOCK],
-            mores: [u32::MAX; BLOCK],
+            widths: [u32::MAX; BLOCK],
         }
     }
 
@@ -99,7 +105,7 @@ impl Column {
         ensures others { (i : ℕ) → (i ≡ at → ⊥) → slot_at self.new i ≡ slot_at self.old i }
     {
         write(&mut self.lows, at, slot.0);
-        write(&mut self.mores, at, slot.1);
+        write(&mut self.widths, at, slot.1);
     }
 
     // The slot at a place.
@@ -107,7 +113,7 @@ impl Column {
         requires { at < 32 }
         ensures { result ≡ slot_at self.now at }
     {
-        (self.lows[at], self.mores[at])
+        (self.lows[at], self.widths[at])
     }
 
     // Notes of each slot whether it has the number. No slot makes a jump.
@@ -151,7 +157,7 @@ impl Columns {
         write(&mut self.ids, at, entry.id);
     }
 
-    // What is told of the rows, where each has all its tests on this attribute.
+    // What is told of the rows, where each has all its lanes on this attribute.
     fn fill(attr: u8, hull: Slot, places: &[Kept]) -> Option<Columns>
         requires rows { are_rows places.now ≡ true }
         requires many { length places.now ≡ 32 }
@@ -167,7 +173,7 @@ impl Columns {
         Some(columns)
     }
 
-    /// What is told of a block's rows, where each has its id told and tests on the one attribute alone, which are its whole meaning.
+    /// What is told of a block's rows, where each has an id of 32 bits and its lanes, all on one attribute, are its whole meaning.
     pub(crate) fn of(places: &[Kept]) -> Option<Columns>
         requires rows { are_rows places.now ≡ true }
         requires many { length places.now ≡ 32 }
@@ -201,7 +207,7 @@ impl Columns {
         }
     }
 
-    // The same. Where no row has more than one test the other slots have all numbers, and aren't looked at.
+    // The same. Where no row has more than one lane the other slots have all numbers, and aren't looked at.
     fn note_any(&self, x: u32, passes: &mut Passes)
         ensures { (rows : List Row) (i : ℕ) → AreTold self.now rows 32 → i < 32 → slice_get passes.new i ≡ Some (lets_all x (slots_at self.now i)) }
     {

@@ -7,12 +7,11 @@ ghost use Rattle.be_model.specs.declared.changes.Row.{Row};
 ghost use Rattle.be_model.specs.Matching.{Assignments, satisfies};
 ghost use Rattle.be_model.specs.Rows.{id_of};
 ghost use Rattle.be_shape.specs.declared.small_sets.Told.{Told};
-ghost use Rattle.be_shape.specs.Columns.{TellsRow, passes_on};
+ghost use Rattle.be_shape.specs.Columns.{MeansSlots, passes_on};
 ghost use Rattle.be_shape.specs.FewTests.{few_told};
 ghost use Rattle.be_shape.specs.Held.{short_id, row_of, note_of, short_of, set_note_of, told_of, few_in, few_with, IsToldIn};
 ghost use Rattle.be_shape.specs.Lanes.{lets_event, passes_lanes, are_single, HoldLanes};
 ghost use Rattle.be_shape.specs.SetNotes.{passes_note};
-ghost use Rattle.be_shape.specs.Told.{is_sure};
 
 use crate::few_tests::FewTests;
 use crate::lanes::{LaneAttrs, LaneSlots, Slot, is_free, lane_at};
@@ -59,13 +58,6 @@ pub(crate) enum Held {
 }
 
 const _: () = prove!(size_of::<Held>() == 40);
-
-/// The slots of a row whose lanes are of one attribute, and its id.
-#[derive(Clone, Copy)]
-pub(crate) struct Entry {
-    pub(crate) slots: LaneSlots,
-    pub(crate) id: u32,
-}
 
 // The id as a place has it.
 fn short_id(id: Id) -> u32
@@ -293,27 +285,14 @@ impl Held {
         self.lanes().0.first
     }
 
-    // Whether of events of single values the lanes let pass those that satisfy the row, and no others, and its id is told.
-    fn is_whole(&self) -> bool
+    /// The row's slots of the attribute, where the lanes, all of the attribute, are the row's whole meaning.
+    pub(crate) fn slots_on(&self, a: u8) -> Option<LaneSlots>
         requires { IsSome (row_of self.now) }
-        ensures sure { result ≡ true → is_sure (told_of self.now) ≡ true }
-        ensures id { result ≡ true → short_of self.now ≡ 16777215 → ⊥ }
-    {
-        self.told().is_sure() && self.short() != WIDE
-    }
-
-    /// The row's slots of the attribute, and its id, where this is told and the lanes, all of the attribute, are the row's whole
-    /// meaning.
-    pub(crate) fn entry(&self, a: u8) -> Option<Entry>
-        requires { IsSome (row_of self.now) }
-        ensures { (row : Row) → IsToldIn self.now → row_of self.now ≡ Some row → IfSome result (λ x. TellsRow a x row) }
+        ensures { (row : Row) → IsToldIn self.now → row_of self.now ≡ Some row → IfSome result (λ slots. MeansSlots a slots row) }
     {
         let (attrs, slots) = self.lanes();
-        if self.is_whole() && are_on(a, *attrs, slots) {
-            Some(Entry {
-                slots: *slots,
-                id: self.short(),
-            })
+        if self.told().is_sure() && are_on(a, *attrs, slots) {
+            Some(*slots)
         } else {
             None
         }

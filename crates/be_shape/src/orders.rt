@@ -12,7 +12,7 @@ const UP_TO: u8 = 0;
 const FROM: u8 = 1;
 // Those between two bounds.
 const BETWEEN: u8 = 2;
-// Several tests on one attribute.
+// Several lanes on one attribute.
 const SEVERAL: u8 = 3;
 // Any others, and blanks.
 const OTHER: u8 = 4;
@@ -45,7 +45,7 @@ fn class_of(sure: bool, attrs: LaneAttrs, slots: LaneSlots) -> u8 {
     }
 }
 
-// Of rows with one lane that isn't free. The greatest number that a value may have is the last but one of 32 bits.
+// Of rows with one lane that isn't free. The last number of 32 bits but one stands for no bound.
 fn class_of_one(slot: Slot) -> u8 {
     let (low, more) = slot;
     if low == 0 {

@@ -14,9 +14,10 @@ ghost use Rattle.be_shape.specs.Lanes.{are_single};
 ghost use Rattle.be_shape.specs.Listed.{attrs_of};
 ghost use Rattle.be_shape.specs.Told.{extent_of};
 
+use crate::columns::Entry;
 use crate::few_tests::FewTests;
 use crate::glances::Glance;
-use crate::held::{Entry, Held, WIDE};
+use crate::held::{Held, WIDE};
 use crate::listings::RowAttrs;
 use crate::orders::Order;
 use crate::sights::Sight;
@@ -150,13 +151,22 @@ impl Kept {
         self.held.first_attr()
     }
 
-    /// The row's slots of the attribute, and its id, where this is told and all tests are on the attribute, and no more is to be
-    /// asked.
+    /// The row's slots of the attribute, where all lanes are on it and are the row's whole meaning, and its id, where that has 32 bits. The
+    /// row is looked at only where 24 bits don't tell it.
     pub(crate) fn entry(&self, a: u8) -> Option<Entry>
         requires { IsSome self.now }
         ensures { (row : Row) → self.now ≡ Some row → IfSome result (λ x. TellsRow a x row) }
     {
-        self.held.entry(a)
+        let slots = self.held.slots_on(a)?;
+        let id = self.id().0;
+        if id <= u64::from(u32::MAX) {
+            Some(Entry {
+                slots,
+                id: id as u32,
+            })
+        } else {
+            None
+        }
     }
 
     // Whether an event of single values satisfies the row. What is told of a set may say no before the row is read.
