@@ -5,7 +5,7 @@ use be_base::AttrNo;
 use be_event::read_event;
 use be_match::{cost_of, find_in};
 use be_model::{Cost, Found, Hop, Path, Schema};
-use be_shape::Tree;
+use be_shape::{BLOCK, Tree};
 use std::alloc::Global;
 use std::sync::Arc;
 use worked_help::{Seen, look};
@@ -86,6 +86,23 @@ pub fn at(alloc: Global, tree: &Tree, text: &[u8]) -> Option<(Option<(AttrNo, i6
     let path = path_of(alloc, text)?;
     let node = tree.at(&path)?;
     Some((tree.range_at(&path), node.leaf.len() as u64))
+}
+
+/// Of how many blocks of a node's leaf the rows are told column by column, and how many blocks there are.
+pub fn columns(alloc: Global, tree: &Tree, text: &[u8]) -> Option<(u64, u64)> {
+    let path = path_of(alloc, text)?;
+    let leaf = &tree.at(&path)?.leaf;
+    let mut told = 0u64;
+    let mut blocks = 0u64;
+    for at in 0..leaf.len() {
+        if at % BLOCK == 0 {
+            blocks = blocks.saturating_add(1);
+            if leaf.columns(at).is_some() {
+                told = told.saturating_add(1);
+            }
+        }
+    }
+    Some((told, blocks))
 }
 
 /// Whether all nodes are placed, drawn, pruned and settled, and how many rows there are, with their digest.

@@ -42,6 +42,7 @@ fn asked(alloc: Global, grown: &mut Grown, command: &str, text: &str) -> Result<
         "cost" => told(alloc, looks::cost(alloc, &grown.tree, bytes)),
         "root" => told(alloc, looks::at_root(alloc, &grown.tree, bytes)),
         "at" => told(alloc, looks::at(alloc, &grown.tree, bytes)),
+        "columns" => told(alloc, looks::columns(alloc, &grown.tree, bytes)),
         "look" => told(alloc, looks::looked(alloc, &grown.tree)),
         "pick" => told(alloc, scores::pick(alloc, &grown.tree.schema, text)),
         "weight" => told(alloc, scores::weighed(alloc, &grown.tree.schema, text)),
