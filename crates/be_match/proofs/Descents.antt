@@ -1,73 +1,145 @@
--- A search that descends from node to node: what it put and counted so far, and what it is still to visit.
-use Rattle.std.proofs.Common.{◌≡◌, ◌+◌, ◌<◌, List, ◌∷◌, ◌++◌, [], length, length-append, refl, sym, ap, ap₂, ◌∙◌, subst, arith}
+-- A search that goes from node to node, or from part to part: what it put and counted so far, and what it is still to visit.
+use Rattle.std.proofs.Common.{◌≡◌, ◌+◌, ◌<◌, Bool, true, false, cond, List, ◌∷◌, ◌++◌, [], Option, length, length-append, refl, sym, ap, ap₂, ◌∙◌, subst, arith}
+use Rattle.std.specs.Bool.{beq}
+use Rattle.std.proofs.lemmas.List.{append_assoc, append-nil}
+use Rattle.std.specs.Global.{Box}
 use Rattle.be_model.specs.declared.changes.Row.{Row}
 use Rattle.be_model.specs.declared.costs.Cost.{Cost}
-use Rattle.be_model.specs.Costs.{cost}
 use Rattle.be_model.specs.Schemas.{Attributes}
 use Rattle.be_model.specs.Matching.{Assignments}
 use Rattle.be_shape.specs.declared.nodes.Node.{Node}
 use Rattle.be_shape.specs.declared.nodes.Part.{Part}
 use Rattle.be_shape.specs.declared.nodes.Node.TheViews.{out-Node}
-use Rattle.be_shape.specs.Plain.{plain, parts_as}
+use Rattle.be_shape.specs.Plain.{Half, no_half, half, leaf_of, plain, parts_as, half_as}
 use Rattle.be_shape.specs.Shape.{NodeRange}
 use Rattle.be_shape.specs.Search.{visited, visited_in_parts, all_of}
+use Rattle.be_shape.proofs.Plains.{plain_out}
 use Rattle.be_index.specs.Puts.{Held, Adds, Grows, hits_of}
 use Rattle.be_index.proofs.Adding.{IsUnderway, adds_none, underway_next}
-use Rattle.be_match.specs.Leaves.{AreCountableWith, cost_with}
+use Rattle.be_match.specs.Ahead.{ahead_below, ahead_in_parts, ahead_in_half, CountsOthers, AreOthersCountable}
+use Rattle.be_match.specs.Leaves.{cost_with}
 use Rattle.be_match.proofs.Blocks.{underway}
-use Rattle.be_match.proofs.Counted.{none_counted}
-use Rattle.be_match.proofs.Fronts.{hits_levels}
+use Rattle.be_match.proofs.Fronts.{hits_leaves, hits_levels}
+use Rattle.be_match.proofs.AheadSizes.{AreNoMore, ahead_of_node}
 use Rattle.be_match.proofs.Halves.{visited_in_halves, leaf_and_below}
 use Rattle.be_match.proofs.Sizes.{rows_append}
 
--- of all the leaves that are to be visited, the rest is still to be visited
-pub record IsDescending {X : Type 0} (of : Row → X) (e : Assignments) (from now : Held X) (was is : Cost) (all rest : List (List Row)) : Type 0 where
-  pub visits : is.visits + length rest ≡ was.visits + length all
-  pub tested : is.tested + length (all_of rest) ≡ was.tested + length (all_of all)
+-- all these leaves are to be visited, and the rest still is. At the start `before` were counted ahead, now `ahead` are
+pub record IsDescending {X : Type 0} (of : Row → X) (e : Assignments) (from now : Held X) (was is : Cost) (before all ahead rest : List (List Row)) : Type 0 where
+  pub visits : is.visits + length rest + length before ≡ was.visits + length all + length ahead
+  pub tested : is.tested + length (all_of rest) + length (all_of before) ≡ was.tested + length (all_of all) + length (all_of ahead)
   pub put : IsUnderway from now (hits_of of e (all_of rest)) (hits_of of e (all_of all))
 
 -- nothing was visited yet
-pub descent_begins : {X : Type 0} (of : Row → X) (e : Assignments) (a : Held X) (c : Cost) (all : List (List Row)) → IsDescending of e a a c c all all
-descent_begins of e a c all = record { visits = refl; tested = refl; put = underway a (hits_of of e (all_of all)) }
+pub descent_begins : {X : Type 0} (of : Row → X) (e : Assignments) (a : Held X) (c : Cost) (before all : List (List Row)) → IsDescending of e a a c c before all before all
+descent_begins of e a c before all = record { visits = refl; tested = refl; put = underway a (hits_of of e (all_of all)) }
 
 -- 64 bits count the rest too
-pub rest_countable : {X : Type 0} (of : Row → X) (e : Assignments) (a b : Held X) (c d : Cost) (all rest : List (List Row)) → IsDescending of e a b c d all rest → AreCountableWith c all → AreCountableWith d rest
-rest_countable of e a b c d all rest h k = record { few = omega (arith, h.visits, k.few); few_rows = omega (arith, h.tested, k.few_rows) }
+pub rest_countable : {X : Type 0} (of : Row → X) (e : Assignments) (a b : Held X) (c d : Cost) (before all ahead rest : List (List Row)) → IsDescending of e a b c d before all ahead rest → AreOthersCountable c before all
+    → AreOthersCountable d ahead rest
+rest_countable of e a b c d before all ahead rest h k = record { few = omega (arith, h.visits, k.few); few_rows = omega (arith, h.tested, k.few_rows) }
 
 -- the rest was put and counted: all was
-pub rest_put : {X : Type 0} (of : Row → X) (e : Assignments) (a b b1 : Held X) (c d : Cost) (all rest : List (List Row)) → IsDescending of e a b c d all rest → Adds b b1 (hits_of of e (all_of rest)) → Adds a b1 (hits_of of e (all_of all))
-rest_put of e a b b1 c d all rest h x = record { put = x.put ∙ h.put.put; kept = omega (arith, h.put.kept, x.kept) }
+pub rest_put : {X : Type 0} (of : Row → X) (e : Assignments) (a b b1 : Held X) (c d : Cost) (before all ahead rest : List (List Row)) → IsDescending of e a b c d before all ahead rest → Adds b b1 (hits_of of e (all_of rest))
+    → Adds a b1 (hits_of of e (all_of all))
+rest_put of e a b b1 c d before all ahead rest h x = record { put = x.put ∙ h.put.put; kept = omega (arith, h.put.kept, x.kept) }
 
-pub rest_counted : {X : Type 0} (of : Row → X) (e : Assignments) (a b : Held X) (c d d1 : Cost) (all rest : List (List Row)) → IsDescending of e a b c d all rest → d1 ≡ cost_with d rest → d1 ≡ cost_with c all
-rest_counted of e a b c d d1 all rest h k = k ∙ ap₂ cost h.visits h.tested
+pub rest_counted : {X : Type 0} (of : Row → X) (e : Assignments) (a b : Held X) (c d d1 : Cost) (before all ahead rest : List (List Row)) → IsDescending of e a b c d before all ahead rest → CountsOthers d d1 ahead rest
+    → CountsOthers c d1 before all
+rest_counted of e a b c d d1 before all ahead rest h k = record { visits = omega (arith, h.visits, k.visits); tested = omega (arith, h.tested, k.tested) }
 
 -- nothing is left to visit: all was put and counted
-pub nothing_put : {X : Type 0} (of : Row → X) (e : Assignments) (a b : Held X) (c d : Cost) (all rest : List (List Row)) → IsDescending of e a b c d all rest → rest ≡ [] → Adds a b (hits_of of e (all_of all))
-nothing_put of e a b c d all rest h none = rest_put of e a b b c d all rest h (subst (λ v. Adds b b (hits_of of e (all_of v))) (sym none) (adds_none b))
+pub nothing_put : {X : Type 0} (of : Row → X) (e : Assignments) (a b : Held X) (c d : Cost) (before all ahead rest : List (List Row)) → IsDescending of e a b c d before all ahead rest → rest ≡ []
+    → Adds a b (hits_of of e (all_of all))
+nothing_put of e a b c d before all ahead rest h none = rest_put of e a b b c d before all ahead rest h (subst (λ v. Adds b b (hits_of of e (all_of v))) (sym none) (adds_none b))
 
-pub nothing_counted : {X : Type 0} (of : Row → X) (e : Assignments) (a b : Held X) (c d : Cost) (all rest : List (List Row)) → IsDescending of e a b c d all rest → rest ≡ [] → d ≡ cost_with c all
-nothing_counted of e a b c d all rest h none = rest_counted of e a b c d d all rest h (none_counted d ∙ ap (cost_with d) (sym none))
+pub nothing_counted : {X : Type 0} (of : Row → X) (e : Assignments) (a b : Held X) (c d : Cost) (before all ahead rest : List (List Row)) → IsDescending of e a b c d before all ahead rest → ahead ≡ [] → rest ≡ []
+    → CountsOthers c d before all
+nothing_counted of e a b c d before all ahead rest h none_ahead none =
+    record {
+      visits = omega (arith, h.visits, ap length none_ahead, ap length none);
+      tested = omega (arith, h.tested, ap (λ v. length (all_of v)) none_ahead, ap (λ v. length (all_of v)) none);
+    }
 
 -- where there is surely no room for the rest, there was none for all
-pub rest_refused : {X : Type 0} (of : Row → X) (e : Assignments) (a b : Held X) (c d : Cost) (all rest : List (List Row)) → IsDescending of e a b c d all rest → b.sure < length (hits_of of e (all_of rest))
-    → a.sure < length (hits_of of e (all_of all))
-rest_refused of e a b c d all rest h l = omega (arith, h.put.kept, l)
+pub rest_refused : {X : Type 0} (of : Row → X) (e : Assignments) (a b : Held X) (c d : Cost) (before all ahead rest : List (List Row)) → IsDescending of e a b c d before all ahead rest
+    → b.sure < length (hits_of of e (all_of rest)) → a.sure < length (hits_of of e (all_of all))
+rest_refused of e a b c d before all ahead rest h l = omega (arith, h.put.kept, l)
+
+-- the first of the rest were visited: the others are still to be visited
+pub first_done : {X : Type 0} (of : Row → X) (e : Assignments) (a b b1 : Held X) (c d d1 : Cost) (before all ahead rest f g v w : List (List Row)) → IsDescending of e a b c d before all ahead rest
+    → ahead ≡ f ++ g → rest ≡ v ++ w → CountsOthers d d1 f v → Adds b b1 (hits_of of e (all_of v)) → Grows b b1 → IsDescending of e a b1 c d1 before all g w
+first_done of e a b b1 c d d1 before all ahead rest f g v w h front is k x grown =
+    let two = ap (λ leaves. hits_of of e (all_of leaves)) is ∙ hits_leaves of e v w in
+    record {
+      visits = omega (arith, h.visits, k.visits, ap length front, ap length is, length-append f g, length-append v w);
+      tested = omega (arith, h.tested, k.tested, ap (λ q. length (all_of q)) front, ap (λ q. length (all_of q)) is, rows_append f g, rows_append v w);
+      put = underway_next a b b1 (hits_of of e (all_of rest)) (hits_of of e (all_of v)) (hits_of of e (all_of w)) (hits_of of e (all_of all)) two h.put x grown;
+    }
+
+-- 64 bits count the first of the rest
+pub first_countable : (c : Cost) (ahead rest f g v w : List (List Row)) → AreOthersCountable c ahead rest → ahead ≡ f ++ g → rest ≡ v ++ w → AreNoMore g w → AreOthersCountable c f v
+first_countable c ahead rest f g v w k front is few =
+    record {
+      few = omega (arith, k.few, few.few, ap length front, ap length is, length-append f g, length-append v w);
+      few_rows = omega (arith, k.few_rows, few.few_rows, ap (λ q. length (all_of q)) front, ap (λ q. length (all_of q)) is, rows_append f g, rows_append v w);
+    }
+
+-- ahead in the halves of a node, where these are entered
+abbrev pub ahead_in_halves : Bool → Bool → Node → List (List Row)
+ahead_in_halves in_low in_high n = ahead_in_half in_low (half_as (out-Node n).low) ++ ahead_in_half in_high (half_as (out-Node n).high)
 
 -- the leaf and the parts of a node were visited: its halves are still to be visited
-pub halves_left : {X : Type 0} (of : Row → X) (e : Assignments) (s : Attributes) (r : NodeRange) (n : Node) (a b b1 b2 : Held X) (c d d1 d2 : Cost) (ps : List Part) (all : List (List Row))
-    → IsDescending of e a b c d all (visited s e r (plain n)) → ps ≡ (out-Node n).parts.items → d1 ≡ cost (d.visits + 1) (d.tested + length (out-Node n).leaf) → d2 ≡ cost_with d1 (visited_in_parts s e (parts_as ps))
-    → Adds b b1 (hits_of of e (out-Node n).leaf) → Grows b b1 → Adds b1 b2 (hits_of of e (all_of (visited_in_parts s e (parts_as ps)))) → Grows b1 b2 → IsDescending of e a b2 c d2 all (visited_in_halves s e r n)
-halves_left of e s r n a b b1 b2 c d d1 d2 ps all h are k1 k2 x1 g1 x2 g2 =
+pub halves_left : {X : Type 0} (of : Row → X) (e : Assignments) (s : Attributes) (r : NodeRange) (n : Node) (in_low in_high : Bool) (a b b1 b2 : Held X) (c d d1 d2 : Cost) (ps : List Part) (before all : List (List Row))
+    → IsDescending of e a b c d before all (leaf_of (plain n) ∷ []) (visited s e r (plain n)) → ps ≡ (out-Node n).parts.items → d1 ≡ cost_with d (ahead_below e in_low in_high (plain n))
+    → CountsOthers d1 d2 (ahead_in_parts e (parts_as ps)) (visited_in_parts s e (parts_as ps)) → Adds b b1 (hits_of of e (out-Node n).leaf) → Grows b b1
+    → Adds b1 b2 (hits_of of e (all_of (visited_in_parts s e (parts_as ps)))) → Grows b1 b2 → IsDescending of e a b2 c d2 before all (ahead_in_halves in_low in_high n) (visited_in_halves s e r n)
+halves_left of e s r n in_low in_high a b b1 b2 c d d1 d2 ps before all h are k1 k2 x1 g1 x2 g2 =
     let leaf = (out-Node n).leaf in
     let p = visited_in_parts s e (parts_as ps) in
     let q = visited_in_halves s e r n in
+    let fp = ahead_in_parts e (parts_as ps) in
+    let fq = ahead_in_halves in_low in_high n in
     let is : visited s e r (plain n) ≡ leaf ∷ p ++ q = leaf_and_below s e r n ∙ ap (λ i. leaf ∷ visited_in_parts s e (parts_as i) ++ q) (sym are) in
+    let fl = ahead_in_half in_low (half_as (out-Node n).low) in
+    let fh = ahead_in_half in_high (half_as (out-Node n).high) in
+    let front : ahead_below e in_low in_high (plain n) ≡ fp ++ fq = ahead_of_node e n in_low in_high ps are ∙ append_assoc fp fl fh in
+    let here : length (all_of (leaf_of (plain n) ∷ [])) ≡ length leaf = ap (λ i. length (all_of (leaf_of i ∷ []))) (plain_out n) ∙ length-append leaf [] ∙ omega arith in
     let y = hits_of of e leaf in
     let z = hits_of of e (all_of p) in
     let w = hits_of of e (all_of q) in
     let levels = ap (λ v. hits_of of e (all_of v)) is ∙ hits_levels of e leaf p q in
     record {
-      visits = omega (arith, h.visits, ap length is, length-append p q, ap (λ i. i.visits) k1, ap (λ i. i.visits) k2);
-      tested = omega (arith, h.tested, ap (λ v. length (all_of v)) is, length-append leaf (all_of (p ++ q)), rows_append p q, ap (λ i. i.tested) k1, ap (λ i. i.tested) k2);
+      visits = omega (arith, h.visits, ap length is, length-append p q, ap length front, length-append fp fq, ap (λ i. i.visits) k1, k2.visits);
+      tested = omega (arith, h.tested, here, ap (λ v. length (all_of v)) is, length-append leaf (all_of (p ++ q)), rows_append p q, ap (λ v. length (all_of v)) front, rows_append fp fq, ap (λ i. i.tested) k1, k2.tested);
       put = underway_next a b1 b2 (z ++ w) z w (hits_of of e (all_of all)) refl (underway_next a b b1 (hits_of of e (all_of (visited s e r (plain n)))) y (z ++ w) (hits_of of e (all_of all)) levels h.put x1 g1) x2 g2;
     }
+
+-- nothing is ahead in a half that isn't entered
+none_entered : (h : Half) → ahead_in_half false h ≡ []
+none_entered no_half = refl
+none_entered (half n) = refl
+
+-- where both are entered
+pub both_entered : {X : Type 0} (of : Row → X) (e : Assignments) (a b : Held X) (c d : Cost) (n : Node) (x y : Bool) (before all rest : List (List Row)) → IsDescending of e a b c d before all (ahead_in_halves x y n) rest → beq x y ≡ true → x ≡ true
+    → IsDescending of e a b c d before all (ahead_in_halves true true n) rest
+both_entered of e a b c d n true true before all rest h alike entered = h
+both_entered of e a b c d n true false before all rest h alike entered = absurd (cc)
+both_entered of e a b c d n false y before all rest h alike entered = absurd (cc)
+
+-- where neither half is entered
+pub neither_ahead : (n : Node) (b d : Bool) → beq b d ≡ true → b ≡ false → ahead_in_halves b d n ≡ []
+neither_ahead n false false alike left = ap₂ (λ x y. x ++ y) (none_entered (half_as (out-Node n).low)) (none_entered (half_as (out-Node n).high))
+neither_ahead n false true alike left = absurd (cc)
+neither_ahead n true d alike left = absurd (cc)
+
+-- where just one is
+pub chosen_ahead : (n : Node) (b d : Bool) (h : Option (Box Node)) → beq b d ≡ false → h ≡ cond b (out-Node n).low (out-Node n).high → ahead_in_halves b d n ≡ ahead_in_half true (half_as h)
+chosen_ahead n true true h differ is = absurd (cc)
+chosen_ahead n false false h differ is = absurd (cc)
+chosen_ahead n true false h differ is =
+    let low = ahead_in_half true (half_as (out-Node n).low) in
+    ap (λ q. low ++ q) (none_entered (half_as (out-Node n).high)) ∙ append-nil low ∙ ap (λ i. ahead_in_half true (half_as i)) (sym is)
+chosen_ahead n false true h differ is =
+    let high = ahead_in_half true (half_as (out-Node n).high) in
+    ap (λ q. q ++ high) (none_entered (half_as (out-Node n).low)) ∙ ap (λ i. ahead_in_half true (half_as i)) (sym is)

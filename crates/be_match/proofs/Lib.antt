@@ -2,6 +2,7 @@ pub mod Sizes
 pub mod Halves
 pub mod Counted
 pub mod Fronts
+pub mod AheadSizes
 pub mod Blocks
 pub mod MetRows
 pub mod Descents

@@ -10,7 +10,7 @@ ghost use Rattle.be_shape.specs.Plain.{plain, contents};
 ghost use Rattle.be_shape.specs.Search.{visits, tested};
 ghost use Rattle.be_index.specs.Puts.{KeepsPlaces, PutsHits};
 
-use crate::counts::node_cost;
+use crate::counts::{leaf_cost, node_cost};
 use crate::searches::search_node;
 use be_base::NoMemory;
 use be_index::Hits;
@@ -37,7 +37,8 @@ pub fn find_in<C: Hits>(t: &Tree, e: &Event, found: &mut C) -> Result<Cost, NoMe
     let mut seen = NOTHING_SEEN;
     fill_seen(&mut seen, e);
     let sight = Sight::of(e, &seen);
-    let mut cost = Cost::none();
+    // The leaf of a node is counted before the node is searched.
+    let mut cost = leaf_cost(&t.root.leaf);
     match search_node(&t.root, s, &sight, None, found, &mut cost) {
         Ok(()) => Ok(cost),
         Err(NoMemory) => {

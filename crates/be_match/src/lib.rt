@@ -6,6 +6,7 @@
 //! bound is shown is in proofs/VisitsBound and proofs/TestedBound.
 #![tactic(auto)]
 
+mod ahead;
 mod counts;
 mod finds;
 mod searches;

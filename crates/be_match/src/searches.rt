@@ -6,14 +6,14 @@ ghost use Rattle.be_model.specs.declared.changes.Row.{Row};
 ghost use Rattle.be_model.specs.Matching.{satisfies};
 ghost use Rattle.be_shape.specs.Columns.{AreColumnsOf};
 ghost use Rattle.be_shape.specs.Lanes.{are_single};
-ghost use Rattle.be_shape.specs.Plain.{plain, parts_as, half_as, part_as, parts_of};
+ghost use Rattle.be_shape.specs.Plain.{plain, parts_as, half_as, part_as, parts_of, leaf_of};
 ghost use Rattle.be_shape.specs.Shape.{lower, upper};
 ghost use Rattle.be_shape.specs.Ranges.{is_bounded, is_rising};
 ghost use Rattle.be_shape.specs.Search.{visited, visited_in_parts, visited_in_half, all_of, holds_value};
 ghost use Rattle.be_index.specs.Puts.{Adds, Grows, hits_of};
-ghost use Rattle.be_match.specs.Leaves.{AreCountableWith, cost_with};
+ghost use Rattle.be_match.specs.Ahead.{AreOthersCountable, CountsOthers, ahead_in_parts, ahead_in_half};
 
-use crate::counts::leaf_cost;
+use crate::ahead::count_ahead;
 use be_base::NoMemory;
 use be_index::Hits;
 use be_model::{Cost, Row, Schema};
@@ -23,8 +23,8 @@ use be_shape::{
 };
 use std::sync::Arc;
 
-// Appends what the event satisfies in a node and in all below it. Where one half alone holds a value of the event, the search goes
-// on there, without a call.
+// Appends what the event satisfies in a node and in all below it. The leaf of the node is counted before. Where one half alone holds a
+// value of the event, the search goes on there, without a call.
 #[cycle(searches)]
 pub(crate) fn search_node<C: Hits>(
     n: &Node,
@@ -36,22 +36,22 @@ pub(crate) fn search_node<C: Hits>(
 ) -> Result<(), NoMemory>
     requires bounded { is_bounded range ≡ true }
     requires rising { is_rising range ≡ true }
-    requires countable { AreCountableWith cost.old (visited s.now e.now range (plain n.now)) }
+    requires countable { AreOthersCountable cost.old (leaf_of (plain n.now) ∷ []) (visited s.now e.now range (plain n.now)) }
     ensures put { OnOk result (Adds (C.held found.old) (C.held found.new) (hits_of C.item_of e.now (all_of (visited s.now e.now range (plain n.now))))) }
     ensures refused { OnErr result ((C.held found.old).sure < length (hits_of C.item_of e.now (all_of (visited s.now e.now range (plain n.now))))) }
-    ensures cost { OnOk result (cost.new ≡ cost_with cost.old (visited s.now e.now range (plain n.now))) }
+    ensures cost { OnOk result (CountsOthers cost.old cost.new (leaf_of (plain n.now) ∷ []) (visited s.now e.now range (plain n.now))) }
     ensures grown { Grows (C.held found.old) (C.held found.new) }
 {
     let mut here = n;
     let mut within = range;
     loop {
-        *cost = cost.plus(leaf_cost(&here.leaf));
-        search_leaf(&here.leaf, e, found)?;
-        search_parts(here.parts.as_slice(), s, e, found, cost)?;
         let lower = lower_range(within);
         let upper = upper_range(within);
         let in_low = e.holds_value(lower);
         let in_high = e.holds_value(upper);
+        count_ahead(here, e, in_low, in_high, cost);
+        search_leaf(&here.leaf, e, found)?;
+        search_parts(here.parts.as_slice(), s, e, found, cost)?;
         if in_low == in_high {
             if in_low {
                 search_half(&here.low, s, e, lower, found, cost)?;
@@ -67,6 +67,7 @@ pub(crate) fn search_node<C: Hits>(
     }
 }
 
+// Appends what it satisfies in parts. The leaves of the roots that are entered are counted before.
 #[cycle(searches)]
 fn search_parts<C: Hits>(
     parts: &[Part],
@@ -75,10 +76,10 @@ fn search_parts<C: Hits>(
     found: &mut C,
     cost: &mut Cost,
 ) -> Result<(), NoMemory>
-    requires countable { AreCountableWith cost.old (visited_in_parts s.now e.now (parts_as parts.now)) }
+    requires countable { AreOthersCountable cost.old (ahead_in_parts e.now (parts_as parts.now)) (visited_in_parts s.now e.now (parts_as parts.now)) }
     ensures put { OnOk result (Adds (C.held found.old) (C.held found.new) (hits_of C.item_of e.now (all_of (visited_in_parts s.now e.now (parts_as parts.now))))) }
     ensures refused { OnErr result ((C.held found.old).sure < length (hits_of C.item_of e.now (all_of (visited_in_parts s.now e.now (parts_as parts.now))))) }
-    ensures cost { OnOk result (cost.new ≡ cost_with cost.old (visited_in_parts s.now e.now (parts_as parts.now))) }
+    ensures cost { OnOk result (CountsOthers cost.old cost.new (ahead_in_parts e.now (parts_as parts.now)) (visited_in_parts s.now e.now (parts_as parts.now))) }
     ensures grown { Grows (C.held found.old) (C.held found.new) }
 {
     for part in parts {
@@ -87,6 +88,7 @@ fn search_parts<C: Hits>(
     Ok(())
 }
 
+// In one part. Where the root is entered, its leaf is counted before.
 #[cycle(searches)]
 fn search_part<C: Hits>(
     part: &Part,
@@ -95,10 +97,10 @@ fn search_part<C: Hits>(
     found: &mut C,
     cost: &mut Cost,
 ) -> Result<(), NoMemory>
-    requires countable { AreCountableWith cost.old (visited_in_parts s.now e.now (parts_of (part_as part.now ∷ []))) }
+    requires countable { AreOthersCountable cost.old (ahead_in_parts e.now (parts_of (part_as part.now ∷ []))) (visited_in_parts s.now e.now (parts_of (part_as part.now ∷ []))) }
     ensures put { OnOk result (Adds (C.held found.old) (C.held found.new) (hits_of C.item_of e.now (all_of (visited_in_parts s.now e.now (parts_of (part_as part.now ∷ [])))))) }
     ensures refused { OnErr result ((C.held found.old).sure < length (hits_of C.item_of e.now (all_of (visited_in_parts s.now e.now (parts_of (part_as part.now ∷ [])))))) }
-    ensures cost { OnOk result (cost.new ≡ cost_with cost.old (visited_in_parts s.now e.now (parts_of (part_as part.now ∷ [])))) }
+    ensures cost { OnOk result (CountsOthers cost.old cost.new (ahead_in_parts e.now (parts_of (part_as part.now ∷ []))) (visited_in_parts s.now e.now (parts_of (part_as part.now ∷ [])))) }
     ensures grown { Grows (C.held found.old) (C.held found.new) }
 {
     if e.assigns(part.attr) {
@@ -108,7 +110,7 @@ fn search_part<C: Hits>(
     }
 }
 
-// A half of this range, which holds a value of the event.
+// In a half of this range, which holds a value of the event. Its leaf is counted before.
 #[cycle(searches)]
 fn search_half<C: Hits>(
     half: &Option<Box<Node>>,
@@ -121,10 +123,10 @@ fn search_half<C: Hits>(
     requires bounded { is_bounded range ≡ true }
     requires rising { is_rising range ≡ true }
     requires holds { holds_value e.now range ≡ true }
-    requires countable { AreCountableWith cost.old (visited_in_half s.now e.now range (half_as half.now)) }
+    requires countable { AreOthersCountable cost.old (ahead_in_half true (half_as half.now)) (visited_in_half s.now e.now range (half_as half.now)) }
     ensures put { OnOk result (Adds (C.held found.old) (C.held found.new) (hits_of C.item_of e.now (all_of (visited_in_half s.now e.now range (half_as half.now))))) }
     ensures refused { OnErr result ((C.held found.old).sure < length (hits_of C.item_of e.now (all_of (visited_in_half s.now e.now range (half_as half.now))))) }
-    ensures cost { OnOk result (cost.new ≡ cost_with cost.old (visited_in_half s.now e.now range (half_as half.now))) }
+    ensures cost { OnOk result (CountsOthers cost.old cost.new (ahead_in_half true (half_as half.now)) (visited_in_half s.now e.now range (half_as half.now))) }
     ensures grown { Grows (C.held found.old) (C.held found.new) }
 {
     match half {

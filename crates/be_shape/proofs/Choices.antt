@@ -74,3 +74,8 @@ covers_next e rows from n k k' chosen c b place is may sure there room was = by_
 pub all_covered : (e : Assignments) (rows : List Row) (from n : ℕ) (chosen : List Choice) → n ≡ min 32 (length (drop from rows)) → Covers e rows from n chosen → Covers e rows from 32 chosen
 all_covered e rows from n chosen h was =
     record { found = was.found; at = was.at; sure = was.sure; all = was.all ∙ ap (λ m. met_from e rows from m) h ∙ ap (satisfied e) (take_min 32 (drop from rows)) }
+
+-- the same of rows and values that are these
+pub all_covered_there : (e f : Assignments) (rows others : List Row) (from n : ℕ) (chosen : List Choice) → f ≡ e → others ≡ rows → n ≡ min 32 (length (drop from rows)) → Covers f others from n chosen → Covers e rows from 32 chosen
+all_covered_there e f rows others from n chosen same are h was =
+    all_covered e rows from n chosen h (subst (λ x. Covers x rows from n chosen) same (subst (λ xs. Covers f xs from n chosen) are was))

@@ -1,6 +1,6 @@
 //! Rows that stand together.
 
-ghost use Rattle.std.specs.Prelude.{◌≡◌, ◌↔◌, ◌<◌, ◌≤◌, true, IsTrue, [], ◌∷◌, ◌++◌, length, take, drop, slice_get, Some, option_map, IsSome, IsPermutation, IfSome, IfNone, IsOk, OnOk, OnErr, IfErr};
+ghost use Rattle.std.specs.Prelude.{◌≡◌, ◌↔◌, ◌+◌, ◌<◌, ◌≤◌, true, IsTrue, [], ◌∷◌, ◌++◌, length, take, drop, slice_get, Some, option_map, IsSome, IsPermutation, IfSome, IfNone, IsOk, OnOk, OnErr, IfErr};
 ghost use Rattle.std.specs.List.{Contains, remove};
 ghost use Rattle.be_model.specs.Hulls.{span_in};
 ghost use Rattle.be_model.specs.Lies.{row_lies};
@@ -8,6 +8,7 @@ ghost use Rattle.be_model.specs.Rows.{has, id_of};
 ghost use Rattle.be_shape.specs.Chosen.{Covers};
 ghost use Rattle.be_shape.specs.Columns.{AreColumnsOf};
 ghost use Rattle.be_shape.specs.Common.{AreCommon};
+ghost use Rattle.be_shape.specs.Lanes.{are_single};
 ghost use Rattle.be_shape.specs.Leaves.{are_rows, rows_of_places};
 ghost use Rattle.be_shape.specs.Listed.{attrs_of};
 ghost use Rattle.std.specs.Arc.{arc_value};
@@ -78,6 +79,33 @@ pub(crate) fn kept_at(places: &[Kept], place: usize) -> &Kept
     &places[place]
 }
 
+// Chooses among so many places from one on. Whether the event is of single values stands in `exact`: each call says it for sure, so
+// that the loop doesn't ask.
+#[inline(always)]
+fn choose_among(
+    places: &[Kept],
+    from: usize,
+    many: usize,
+    exact: bool,
+    e: &Sight,
+    chosen: &mut Chosen,
+) -> usize
+    requires rows { are_rows places.now ≡ true }
+    requires within { from + many ≤ length places.now }
+    requires block { many ≤ 32 }
+    requires exact { exact ≡ are_single e.now }
+    ensures few { result ≤ 32 }
+    ensures places { Covers e.now (rows_of_places places.now) from many (take result chosen.new) }
+{
+    let mut count = 0;
+    for at in 0..many {
+        let (may, sure) = kept_at(places, from + at).ask(exact, e);
+        chosen[count] = Choice { at: at as u8, sure };
+        count += usize::from(may);
+    }
+    count
+}
+
 impl Leaf {
     /// No rows. It takes no memory.
     pub fn make(alloc: Global) -> Leaf
@@ -136,14 +164,11 @@ impl Leaf {
         let places = self.places.as_slice();
         let sight = e.again();
         let many = (self.len() - from).min(BLOCK);
-        let exact = sight.is_exact();
-        let mut count = 0;
-        for at in 0..many {
-            let (may, sure) = kept_at(places, from + at).ask(exact, &sight);
-            chosen[count] = Choice { at: at as u8, sure };
-            count += usize::from(may);
+        if sight.is_exact() {
+            choose_among(places, from, many, true, &sight, chosen)
+        } else {
+            choose_among(places, from, many, false, &sight, chosen)
         }
-        count
     }
 
     /// What is told, column by column, of the rows of the block that begins at this place.

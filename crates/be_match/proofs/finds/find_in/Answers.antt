@@ -1,4 +1,4 @@
-use Rattle.std.proofs.Common.{◌<◌, length, map, None, sym, ap, ◌∙◌, subst}
+use Rattle.std.proofs.Common.{◌≡◌, ◌<◌, length, map, None, sym, ap, ◌∙◌, subst}
 use Rattle.std.specs.Arc.{arc_value}
 use Rattle.be_model.specs.declared.changes.Row.{Row}
 use Rattle.be_model.specs.Schemas.{IsSchema}
@@ -6,11 +6,13 @@ use Rattle.be_model.specs.Matching.{satisfies, satisfied}
 use Rattle.be_model.specs.ByIds.{rows_of}
 use Rattle.be_model.proofs.RowsByIds.{filter_permuted}
 use Rattle.std.proofs.lemmas.List.Sorted.{IsPermutation-sym}
-use Rattle.be_shape.specs.Plain.{plain, rows_below, contents}
+use Rattle.be_model.specs.Costs.{cost}
+use Rattle.be_shape.specs.Plain.{plain, leaf_of, rows_below, contents}
+use Rattle.be_shape.proofs.Plains.{plain_out}
 use Rattle.be_shape.specs.Search.{visited, all_of}
 use Rattle.be_index.specs.Puts.{Adds, hits_of}
 use Rattle.be_match.specs.Leaves.{AreCountable}
-use Rattle.be_match.proofs.Counted.{countable_with_none, costs_alone}
+use Rattle.be_match.proofs.Counted.{others_countable, costs_alone}
 use Rattle.be_match.proofs.Within.{searched, countable, within_bound, all_found, no_room_in_tree}
 use Rattle.be_match.proofs.finds.find_in.Goals as goal
 
@@ -21,7 +23,8 @@ search_node-requires-clause-countable g c =
     let e = c.args.e.now in
     let n = plain t.root in
     let w = searched t e (subst IsSchema c.deref.ensures c.count.ensures.form) c.items.ensures.form c.requires in
-    countable_with_none c.none-cost.result (visited c.deref-s.result.now c.of-sight.result None n) c.none-cost.ensures (subst (λ x. AreCountable (visited c.deref-s.result.now x None n)) (sym c.of-sight.ensures) (subst (λ a. AreCountable (visited a e None n)) (sym c.deref-s.ensures) (countable s e n w)))
+    let leaf : c.leaf_cost-cost.result ≡ cost 1 (length (leaf_of n)) = c.leaf_cost-cost.ensures ∙ ap (λ i. cost 1 (length (leaf_of i))) (sym (plain_out t.root)) in
+    others_countable c.leaf_cost-cost.result (leaf_of n) (visited c.deref-s.result.now c.of-sight.result None n) leaf (subst (λ x. AreCountable (visited c.deref-s.result.now x None n)) (sym c.of-sight.ensures) (subst (λ a. AreCountable (visited a e None n)) (sym c.deref-s.ensures) (countable s e n w)))
 
 pub returns-in-Ok-clause-found : goal.returns-in-Ok-clause-found
 returns-in-Ok-clause-found g c =
@@ -58,6 +61,7 @@ returns-in-Ok-clause-bound g c =
     let e = c.args.e.now in
     let n = plain t.root in
     let w = searched t e (subst IsSchema c.deref.ensures c.count.ensures.form) c.items.ensures.form c.requires in
-    let alone = costs_alone c.none-cost.result c.search_node.new.cost (visited c.deref-s.result.now c.of-sight.result None n) c.none-cost.ensures c.in-Ok.ensures.cost in
+    let leaf : c.leaf_cost-cost.result ≡ cost 1 (length (leaf_of n)) = c.leaf_cost-cost.ensures ∙ ap (λ i. cost 1 (length (leaf_of i))) (sym (plain_out t.root)) in
+    let alone = costs_alone c.leaf_cost-cost.result c.search_node.new.cost (leaf_of n) (visited c.deref-s.result.now c.of-sight.result None n) leaf c.in-Ok.ensures.cost in
     within_bound s e n c.search_node.new.cost w (alone.visits ∙ ap (λ x. length (visited c.deref-s.result.now x None n)) c.of-sight.ensures ∙ ap (λ a. length (visited a e None n)) c.deref-s.ensures)
     (alone.tested ∙ ap (λ x. length (all_of (visited c.deref-s.result.now x None n))) c.of-sight.ensures ∙ ap (λ a. length (all_of (visited a e None n))) c.deref-s.ensures)

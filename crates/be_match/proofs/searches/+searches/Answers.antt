@@ -1,19 +1,19 @@
-use Rattle.std.proofs.Common.{rules, drop, length, ◌≡◌, ℕ, List, true, ◌∷◌, [], ◌+◌, ◌*◌, ◌<◌, cond, sym, ap, ap₂, ◌∙◌, subst, arith, refl}
+use Rattle.std.proofs.Common.{rules, drop, length, ◌≡◌, ℕ, List, true, ◌∷◌, ◌++◌, [], ◌+◌, ◌*◌, ◌<◌, cond, sym, ap, ap₂, ◌∙◌, subst, arith, refl}
 use Rattle.be_shape.specs.declared.nodes.Node.TheViews.{out-Node, out-Part, the_lemmas}
-use Rattle.be_shape.specs.Plain.{plain, parts_as, half_as, part_as, parts_of}
+use Rattle.be_shape.specs.Plain.{plain, parts_as, half_as, part_as, parts_of, leaf_of}
 use Rattle.be_shape.specs.Shape.{NodeRange, whole, lower, upper}
 use Rattle.be_shape.specs.Ranges.{is_bounded, is_rising}
 use Rattle.be_shape.specs.Search.{visited, visited_in_parts, visited_in_half, all_of, holds_value}
 use Rattle.be_model.specs.Matching.{is_assigned}
-use Rattle.be_model.specs.Costs.{cost}
-use Rattle.be_match.specs.Leaves.{AreCountableWith, cost_with}
+use Rattle.be_match.specs.Ahead.{AreOthersCountable, CountsOthers, ahead_in_parts, ahead_in_half}
 use Rattle.be_index.specs.Puts.{Adds, hits_of}
-use Rattle.be_index.proofs.Adding.{on_refusal, grows_both, underway_next, underway_refused}
+use Rattle.be_index.proofs.Adding.{on_refusal, grows_both, underway_refused}
 use Rattle.be_match.proofs.Fronts.{hits_leaves, no_room_in_first, no_room_in_node, no_room_in_second, put_both}
 use Rattle.be_match.proofs.Halves.{visited_in_halves, leaf_and_below, of_either, one_passes, same, in_chosen, in_neither}
-use Rattle.be_match.proofs.Sizes.{node_sizes, visited_from, parts_sizes}
-use Rattle.be_match.proofs.Descents.{IsDescending, descent_begins, rest_countable, rest_put, rest_counted, rest_refused, halves_left, nothing_put, nothing_counted}
-use Rattle.be_match.proofs.Counted.{parts_countable_with, first_countable, second_countable, both_counted, part_countable_with}
+use Rattle.be_match.proofs.Sizes.{visited_from}
+use Rattle.be_match.proofs.Descents.{IsDescending, descent_begins, rest_countable, rest_put, rest_counted, rest_refused, first_done, first_countable, ahead_in_halves, halves_left, both_entered, neither_ahead, chosen_ahead, nothing_put, nothing_counted}
+use Rattle.be_match.proofs.AheadSizes.{ahead_countable, ahead_from, half_no_more, parts_no_more}
+use Rattle.be_match.proofs.Counted.{parts_others_countable, part_others_countable}
 use denote.Param.Weighed.{most}
 use Rattle.be_shape.specs.declared.nodes.Part.{Part}
 use Rattle.be_shape.proofs.nodes.Part.TheLaws.{the_size as part_size}
@@ -32,26 +32,17 @@ search_node-loop-found-init g t c =
       omega arith,
       c.requires.bounded,
       c.requires.rising,
-      descent_begins g.C.Hits.item_of e (g.C.Hits.held c.args.found.now) c.args.cost.now all,
+      descent_begins g.C.Hits.item_of e (g.C.Hits.held c.args.found.now) c.args.cost.now (leaf_of (plain c.args.n.now) ∷ []) all,
     )
 
-pub search_node-plus-requires-clause-visits : goal.search_node-plus-requires-clause-visits
-search_node-plus-requires-clause-visits g t c =
+pub search_node-count_ahead-requires : goal.search_node-count_ahead-requires
+search_node-count_ahead-requires g t c =
     let s = c.args.s.now in
     let e = c.args.e.now in
-    let r = c.loop-found.within in
-    let n = c.loop-found.here.now in
-    let k = rest_countable _ _ _ _ _ _ _ _ c.loop-found.invariant.3 c.requires.countable in
-    omega (arith, k.few, (node_sizes s e r n).visits, ap (λ q. q.visits) c.leaf_cost.ensures)
-
-pub search_node-plus-requires-clause-tested : goal.search_node-plus-requires-clause-tested
-search_node-plus-requires-clause-tested g t c =
-    let s = c.args.s.now in
-    let e = c.args.e.now in
-    let r = c.loop-found.within in
-    let n = c.loop-found.here.now in
-    let k = rest_countable _ _ _ _ _ _ _ _ c.loop-found.invariant.3 c.requires.countable in
-    omega (arith, k.few_rows, (node_sizes s e r n).tested, ap (λ q. q.tested) c.leaf_cost.ensures)
+    let k = rest_countable _ _ _ _ _ _ _ _ _ _ c.loop-found.invariant.3 c.requires.countable in
+    let counted = ahead_countable s e c.loop-found.within c.lower_range-lower.result c.upper_range-upper.result (plain c.loop-found.here.now) c.loop-found.cost c.holds_value-in_low.result c.holds_value-in_high.result c.lower_range-lower.ensures.range c.upper_range-upper.ensures.range
+    c.holds_value-in_low.ensures.value c.holds_value-in_high.ensures.value k in
+    record { countable = counted }
 
 pub search_node-returns-in_err-search_leaf-clause-refused : goal.search_node-returns-in_err-search_leaf-clause-refused
 search_node-returns-in_err-search_leaf-clause-refused g t c =
@@ -63,7 +54,7 @@ search_node-returns-in_err-search_leaf-clause-refused g t c =
     let r1 = g.C.Hits.held c.loop-found.found in
     let z = no_room_in_node of e r1 r1 (out-Node n).leaf (visited_in_parts s e (parts_as (out-Node n).parts.items)) (visited_in_halves s e r n) in
     on_refusal c.from_residual.result _
-    (rest_refused _ _ _ _ _ _ _ _ c.loop-found.invariant.3 (subst (λ v. r1.sure < length (hits_of of e (all_of v))) (sym (leaf_and_below s e r n)) (z.here c.in_err-search_leaf.ensures.refused)))
+    (rest_refused _ _ _ _ _ _ _ _ _ _ c.loop-found.invariant.3 (subst (λ v. r1.sure < length (hits_of of e (all_of v))) (sym (leaf_and_below s e r n)) (z.here c.in_err-search_leaf.ensures.refused)))
 
 pub search_node-returns-in_err-search_leaf-clause-grown : goal.search_node-returns-in_err-search_leaf-clause-grown
 search_node-returns-in_err-search_leaf-clause-grown g t c = grows_both _ _ _ c.loop-found.invariant.3.put.grown c.search_leaf.ensures.grown
@@ -75,9 +66,10 @@ search_node-search_parts-requires g t c =
     let r = c.loop-found.within in
     let n = c.loop-found.here.now in
     let now = c.loop-found.cost in
-    let k = rest_countable _ _ _ _ _ _ _ _ c.loop-found.invariant.3 c.requires.countable in
-    let leaf = c.plus.ensures ∙ ap (λ q. cost (now.visits + q.visits) (now.tested + q.tested)) c.leaf_cost.ensures in
-    let countable : AreCountableWith c.plus.result (visited_in_parts s e (parts_as c.as_slice.result.now)) = parts_countable_with s e r n now c.plus.result c.as_slice.result.now k c.as_slice.ensures.value leaf in
+    let k = rest_countable _ _ _ _ _ _ _ _ _ _ c.loop-found.invariant.3 c.requires.countable in
+    let countable : AreOthersCountable c.count_ahead.new.cost (ahead_in_parts e (parts_as c.as_slice.result.now)) (visited_in_parts s e (parts_as c.as_slice.result.now)) =
+    parts_others_countable s e r c.lower_range-lower.result c.upper_range-upper.result n now c.count_ahead.new.cost c.holds_value-in_low.result c.holds_value-in_high.result c.as_slice.result.now c.lower_range-lower.ensures.range c.upper_range-upper.ensures.range
+    c.holds_value-in_low.ensures.value c.holds_value-in_high.ensures.value k c.as_slice.ensures.value c.count_ahead.ensures in
     let below : parts_size c.as_slice.result.now < the_size n = search (rules, the_lemmas) in
     let falls : 2 * parts_size c.as_slice.result.now + 1 < t = omega (arith, below, c.loop-found.invariant.0, c.decreases) in
     search (rules, the_lemmas)
@@ -94,7 +86,7 @@ search_node-returns-in_err-search_parts-clause-refused g t c =
     let z = no_room_in_node of e r1 r2 (out-Node n).leaf (visited_in_parts s e (parts_as (out-Node n).parts.items)) (visited_in_halves s e r n) in
     let at = subst (λ ps. r2.sure < length (hits_of of e (all_of (visited_in_parts s e (parts_as ps))))) c.as_slice.ensures.value c.in_err-search_parts.ensures.refused in
     on_refusal c.from_residual-in_err-search_parts.result _
-    (rest_refused _ _ _ _ _ _ _ _ c.loop-found.invariant.3 (subst (λ v. r1.sure < length (hits_of of e (all_of v))) (sym (leaf_and_below s e r n)) (z.in_parts c.in_ok-search_leaf.ensures.put at)))
+    (rest_refused _ _ _ _ _ _ _ _ _ _ c.loop-found.invariant.3 (subst (λ v. r1.sure < length (hits_of of e (all_of v))) (sym (leaf_and_below s e r n)) (z.in_parts c.in_ok-search_leaf.ensures.put at)))
 
 pub search_node-returns-in_err-search_parts-clause-grown : goal.search_node-returns-in_err-search_parts-clause-grown
 search_node-returns-in_err-search_parts-clause-grown g t c = grows_both _ _ _ (grows_both _ _ _ c.loop-found.invariant.3.put.grown c.search_leaf.ensures.grown) c.search_parts.ensures.grown
@@ -106,16 +98,21 @@ search_node-search_half-requires g t c =
     let r = c.loop-found.within in
     let n = c.loop-found.here.now in
     let now = c.loop-found.cost in
-    let leaf = c.plus.ensures ∙ ap (λ q. cost (now.visits + q.visits) (now.tested + q.tested)) c.leaf_cost.ensures in
     let is = c.search_parts.new.cost in
-    let below = halves_left _ _ _ _ _ _ _ _ _ _ _ _ _ _ _ c.loop-found.invariant.3 c.as_slice.ensures.value leaf c.in_ok-search_parts.ensures.cost c.in_ok-search_leaf.ensures.put c.in_ok-search_leaf.ensures.grown c.in_ok-search_parts.ensures.put c.in_ok-search_parts.ensures.grown in
+    let below = halves_left _ _ _ _ _ _ _ _ _ _ _ _ _ _ _ _ _ _ c.loop-found.invariant.3 c.as_slice.ensures.value c.count_ahead.ensures c.in_ok-search_parts.ensures.cost c.in_ok-search_leaf.ensures.put c.in_ok-search_leaf.ensures.grown c.in_ok-search_parts.ensures.put c.in_ok-search_parts.ensures.grown in
     let lo = c.lower_range-lower in
     let b = c.holds_value-in_low in
     let l = visited_in_half s e (lower r) (half_as (out-Node n).low) in
     let h = visited_in_half s e (upper r) (half_as (out-Node n).high) in
     let held : holds_value e lo.result ≡ true = sym b.ensures.value ∙ c.if-in_low.true in
-    let counted : AreCountableWith is (visited_in_half s e lo.result (half_as (out-Node n).low)) =
-    subst (λ q. AreCountableWith is (visited_in_half s e q (half_as (out-Node n).low))) (sym lo.ensures.range) (first_countable is l h (rest_countable _ _ _ _ _ _ _ _ below c.requires.countable)) in
+    let hi = c.upper_range-upper in
+    let d = c.holds_value-in_high in
+    let both = both_entered _ _ _ _ _ _ _ _ _ _ _ _ below c.if-in_low-in_high.true c.if-in_low.true in
+    let fl = ahead_in_half true (half_as (out-Node n).low) in
+    let fh = ahead_in_half true (half_as (out-Node n).high) in
+    let few = half_no_more s e (upper r) (half_as (out-Node n).high) true (sym (same b.result d.result c.if-in_low-in_high.true ∙ c.if-in_low.true) ∙ d.ensures.value ∙ ap (holds_value e) hi.ensures.range) in
+    let counted : AreOthersCountable is fl (visited_in_half s e lo.result (half_as (out-Node n).low)) =
+    subst (λ q. AreOthersCountable is fl (visited_in_half s e q (half_as (out-Node n).low))) (sym lo.ensures.range) (first_countable is (fl ++ fh) (l ++ h) fl fh l h (rest_countable _ _ _ _ _ _ _ _ _ _ both c.requires.countable) refl refl few) in
     let deep = c.loop-found.invariant.0 in
     search (rules, the_lemmas)
 
@@ -127,14 +124,13 @@ search_node-returns-in_err-search_half-clause-refused g t c =
     let n = c.loop-found.here.now in
     let of = g.C.Hits.item_of in
     let now = c.loop-found.cost in
-    let leaf = c.plus.ensures ∙ ap (λ q. cost (now.visits + q.visits) (now.tested + q.tested)) c.leaf_cost.ensures in
     let r3 = g.C.Hits.held c.search_parts.new.found in
-    let below = halves_left _ _ _ _ _ _ _ _ _ _ _ _ _ _ _ c.loop-found.invariant.3 c.as_slice.ensures.value leaf c.in_ok-search_parts.ensures.cost c.in_ok-search_leaf.ensures.put c.in_ok-search_leaf.ensures.grown c.in_ok-search_parts.ensures.put c.in_ok-search_parts.ensures.grown in
+    let below = halves_left _ _ _ _ _ _ _ _ _ _ _ _ _ _ _ _ _ _ c.loop-found.invariant.3 c.as_slice.ensures.value c.count_ahead.ensures c.in_ok-search_parts.ensures.cost c.in_ok-search_leaf.ensures.put c.in_ok-search_leaf.ensures.grown c.in_ok-search_parts.ensures.put c.in_ok-search_parts.ensures.grown in
     let lo = c.lower_range-lower in
     let l = visited_in_half s e (lower r) (half_as (out-Node n).low) in
     let h = visited_in_half s e (upper r) (half_as (out-Node n).high) in
     let at = subst (λ q. r3.sure < length (hits_of of e (all_of (visited_in_half s e q (half_as (out-Node n).low))))) lo.ensures.range c.in_err-search_half.ensures.refused in
-    on_refusal c.from_residual-in_err-search_half.result _ (rest_refused _ _ _ _ _ _ _ _ below (no_room_in_first of e r3 l h at))
+    on_refusal c.from_residual-in_err-search_half.result _ (rest_refused _ _ _ _ _ _ _ _ _ _ below (no_room_in_first of e r3 l h at))
 
 pub search_node-returns-in_err-search_half-clause-grown : goal.search_node-returns-in_err-search_half-clause-grown
 search_node-returns-in_err-search_half-clause-grown g t c = grows_both _ _ _ (grows_both _ _ _ (grows_both _ _ _ c.loop-found.invariant.3.put.grown c.search_leaf.ensures.grown) c.search_parts.ensures.grown) c.search_half.ensures.grown
@@ -146,22 +142,28 @@ search_node-search_half-requires-then-in_low g t c =
     let r = c.loop-found.within in
     let n = c.loop-found.here.now in
     let now = c.loop-found.cost in
-    let leaf = c.plus.ensures ∙ ap (λ q. cost (now.visits + q.visits) (now.tested + q.tested)) c.leaf_cost.ensures in
     let is = c.search_parts.new.cost in
-    let below = halves_left _ _ _ _ _ _ _ _ _ _ _ _ _ _ _ c.loop-found.invariant.3 c.as_slice.ensures.value leaf c.in_ok-search_parts.ensures.cost c.in_ok-search_leaf.ensures.put c.in_ok-search_leaf.ensures.grown c.in_ok-search_parts.ensures.put c.in_ok-search_parts.ensures.grown in
+    let below = halves_left _ _ _ _ _ _ _ _ _ _ _ _ _ _ _ _ _ _ c.loop-found.invariant.3 c.as_slice.ensures.value c.count_ahead.ensures c.in_ok-search_parts.ensures.cost c.in_ok-search_leaf.ensures.put c.in_ok-search_leaf.ensures.grown c.in_ok-search_parts.ensures.put c.in_ok-search_parts.ensures.grown in
     let lo = c.lower_range-lower in
     let hi = c.upper_range-upper in
     let b = c.holds_value-in_low in
     let d = c.holds_value-in_high in
     let l = visited_in_half s e (lower r) (half_as (out-Node n).low) in
     let h = visited_in_half s e (upper r) (half_as (out-Node n).high) in
-    let low_cost = c.in_ok-search_half.ensures.cost ∙ ap (λ q. cost_with is (visited_in_half s e q (half_as (out-Node n).low))) lo.ensures.range in
+    let both = both_entered _ _ _ _ _ _ _ _ _ _ _ _ below c.if-in_low-in_high.true c.if-in_low.true in
+    let fl = ahead_in_half true (half_as (out-Node n).low) in
+    let fh = ahead_in_half true (half_as (out-Node n).high) in
+    let r3 = g.C.Hits.held c.search_parts.new.found in
+    let r4 = g.C.Hits.held c.search_half.new.found in
+    let low_put = subst (λ q. Adds r3 r4 (hits_of g.C.Hits.item_of e (all_of (visited_in_half s e q (half_as (out-Node n).low))))) lo.ensures.range c.in_ok-search_half.ensures.put in
+    let low_cost = subst (λ q. CountsOthers is c.search_half.new.cost fl (visited_in_half s e q (half_as (out-Node n).low))) lo.ensures.range c.in_ok-search_half.ensures.cost in
+    let left = first_done _ _ _ _ _ _ _ _ _ _ _ _ _ _ _ _ both refl refl low_cost low_put c.in_ok-search_half.ensures.grown in
     let low = c.search_half.new.cost in
     let holds : d.result ≡ true = same b.result d.result c.if-in_low-in_high.true ∙ c.if-in_low.true in
     let rising : is_rising hi.result ≡ true = d.ensures.rising holds in
     let held : holds_value e hi.result ≡ true = sym d.ensures.value ∙ holds in
-    let counted : AreCountableWith low (visited_in_half s e hi.result (half_as (out-Node n).high)) =
-    subst (λ q. AreCountableWith low (visited_in_half s e q (half_as (out-Node n).high))) (sym hi.ensures.range) (second_countable is low l h (rest_countable _ _ _ _ _ _ _ _ below c.requires.countable) low_cost) in
+    let counted : AreOthersCountable low fh (visited_in_half s e hi.result (half_as (out-Node n).high)) =
+    subst (λ q. AreOthersCountable low fh (visited_in_half s e q (half_as (out-Node n).high))) (sym hi.ensures.range) (rest_countable _ _ _ _ _ _ _ _ _ _ left c.requires.countable) in
     let deep = c.loop-found.invariant.0 in
     search (rules, the_lemmas)
 
@@ -173,9 +175,8 @@ search_node-returns-in_err-search_half-2-clause-refused g t c =
     let n = c.loop-found.here.now in
     let of = g.C.Hits.item_of in
     let now = c.loop-found.cost in
-    let leaf = c.plus.ensures ∙ ap (λ q. cost (now.visits + q.visits) (now.tested + q.tested)) c.leaf_cost.ensures in
     let r3 = g.C.Hits.held c.search_parts.new.found in
-    let below = halves_left _ _ _ _ _ _ _ _ _ _ _ _ _ _ _ c.loop-found.invariant.3 c.as_slice.ensures.value leaf c.in_ok-search_parts.ensures.cost c.in_ok-search_leaf.ensures.put c.in_ok-search_leaf.ensures.grown c.in_ok-search_parts.ensures.put c.in_ok-search_parts.ensures.grown in
+    let below = halves_left _ _ _ _ _ _ _ _ _ _ _ _ _ _ _ _ _ _ c.loop-found.invariant.3 c.as_slice.ensures.value c.count_ahead.ensures c.in_ok-search_parts.ensures.cost c.in_ok-search_leaf.ensures.put c.in_ok-search_leaf.ensures.grown c.in_ok-search_parts.ensures.put c.in_ok-search_parts.ensures.grown in
     let lo = c.lower_range-lower in
     let hi = c.upper_range-upper in
     let l = visited_in_half s e (lower r) (half_as (out-Node n).low) in
@@ -183,7 +184,7 @@ search_node-returns-in_err-search_half-2-clause-refused g t c =
     let r4 = g.C.Hits.held c.search_half.new.found in
     let low = subst (λ q. Adds r3 r4 (hits_of of e (all_of (visited_in_half s e q (half_as (out-Node n).low))))) lo.ensures.range c.in_ok-search_half.ensures.put in
     let at = subst (λ q. r4.sure < length (hits_of of e (all_of (visited_in_half s e q (half_as (out-Node n).high))))) hi.ensures.range c.in_err-search_half-2.ensures.refused in
-    on_refusal c.from_residual-in_err-search_half-2.result _ (rest_refused _ _ _ _ _ _ _ _ below (no_room_in_second of e r3 r4 l h low at))
+    on_refusal c.from_residual-in_err-search_half-2.result _ (rest_refused _ _ _ _ _ _ _ _ _ _ below (no_room_in_second of e r3 r4 l h low at))
 
 pub search_node-returns-in_err-search_half-2-clause-grown : goal.search_node-returns-in_err-search_half-2-clause-grown
 search_node-returns-in_err-search_half-2-clause-grown g t c =
@@ -197,9 +198,8 @@ search_node-returns-in_ok-search_half-2-clause-put g t c =
     let n = c.loop-found.here.now in
     let of = g.C.Hits.item_of in
     let now = c.loop-found.cost in
-    let leaf = c.plus.ensures ∙ ap (λ q. cost (now.visits + q.visits) (now.tested + q.tested)) c.leaf_cost.ensures in
     let r3 = g.C.Hits.held c.search_parts.new.found in
-    let below = halves_left _ _ _ _ _ _ _ _ _ _ _ _ _ _ _ c.loop-found.invariant.3 c.as_slice.ensures.value leaf c.in_ok-search_parts.ensures.cost c.in_ok-search_leaf.ensures.put c.in_ok-search_leaf.ensures.grown c.in_ok-search_parts.ensures.put c.in_ok-search_parts.ensures.grown in
+    let below = halves_left _ _ _ _ _ _ _ _ _ _ _ _ _ _ _ _ _ _ c.loop-found.invariant.3 c.as_slice.ensures.value c.count_ahead.ensures c.in_ok-search_parts.ensures.cost c.in_ok-search_leaf.ensures.put c.in_ok-search_leaf.ensures.grown c.in_ok-search_parts.ensures.put c.in_ok-search_parts.ensures.grown in
     let lo = c.lower_range-lower in
     let hi = c.upper_range-upper in
     let l = visited_in_half s e (lower r) (half_as (out-Node n).low) in
@@ -208,7 +208,7 @@ search_node-returns-in_ok-search_half-2-clause-put g t c =
     let low = subst (λ q. Adds r3 r4 (hits_of of e (all_of (visited_in_half s e q (half_as (out-Node n).low))))) lo.ensures.range c.in_ok-search_half.ensures.put in
     let r5 = g.C.Hits.held c.search_half-then-in_low.new.found in
     let high = subst (λ q. Adds r4 r5 (hits_of of e (all_of (visited_in_half s e q (half_as (out-Node n).high))))) hi.ensures.range c.in_ok-search_half-2.ensures.put in
-    rest_put _ _ _ _ _ _ _ _ _ below (put_both of e r3 r4 r5 l h low high)
+    rest_put _ _ _ _ _ _ _ _ _ _ _ below (put_both of e r3 r4 r5 l h low high)
 
 pub search_node-returns-in_ok-search_half-2-clause-cost : goal.search_node-returns-in_ok-search_half-2-clause-cost
 search_node-returns-in_ok-search_half-2-clause-cost g t c =
@@ -217,16 +217,22 @@ search_node-returns-in_ok-search_half-2-clause-cost g t c =
     let r = c.loop-found.within in
     let n = c.loop-found.here.now in
     let now = c.loop-found.cost in
-    let leaf = c.plus.ensures ∙ ap (λ q. cost (now.visits + q.visits) (now.tested + q.tested)) c.leaf_cost.ensures in
     let is = c.search_parts.new.cost in
-    let below = halves_left _ _ _ _ _ _ _ _ _ _ _ _ _ _ _ c.loop-found.invariant.3 c.as_slice.ensures.value leaf c.in_ok-search_parts.ensures.cost c.in_ok-search_leaf.ensures.put c.in_ok-search_leaf.ensures.grown c.in_ok-search_parts.ensures.put c.in_ok-search_parts.ensures.grown in
+    let below = halves_left _ _ _ _ _ _ _ _ _ _ _ _ _ _ _ _ _ _ c.loop-found.invariant.3 c.as_slice.ensures.value c.count_ahead.ensures c.in_ok-search_parts.ensures.cost c.in_ok-search_leaf.ensures.put c.in_ok-search_leaf.ensures.grown c.in_ok-search_parts.ensures.put c.in_ok-search_parts.ensures.grown in
     let lo = c.lower_range-lower in
     let hi = c.upper_range-upper in
     let l = visited_in_half s e (lower r) (half_as (out-Node n).low) in
     let h = visited_in_half s e (upper r) (half_as (out-Node n).high) in
-    let low_cost = c.in_ok-search_half.ensures.cost ∙ ap (λ q. cost_with is (visited_in_half s e q (half_as (out-Node n).low))) lo.ensures.range in
-    let high_cost = c.in_ok-search_half-2.ensures.cost ∙ ap (λ q. cost_with c.search_half.new.cost (visited_in_half s e q (half_as (out-Node n).high))) hi.ensures.range in
-    rest_counted _ _ _ _ _ _ _ _ _ below (both_counted is c.search_half.new.cost c.search_half-then-in_low.new.cost l h low_cost high_cost)
+    let both = both_entered _ _ _ _ _ _ _ _ _ _ _ _ below c.if-in_low-in_high.true c.if-in_low.true in
+    let fl = ahead_in_half true (half_as (out-Node n).low) in
+    let fh = ahead_in_half true (half_as (out-Node n).high) in
+    let r3 = g.C.Hits.held c.search_parts.new.found in
+    let r4 = g.C.Hits.held c.search_half.new.found in
+    let low_put = subst (λ q. Adds r3 r4 (hits_of g.C.Hits.item_of e (all_of (visited_in_half s e q (half_as (out-Node n).low))))) lo.ensures.range c.in_ok-search_half.ensures.put in
+    let low_cost = subst (λ q. CountsOthers is c.search_half.new.cost fl (visited_in_half s e q (half_as (out-Node n).low))) lo.ensures.range c.in_ok-search_half.ensures.cost in
+    let left = first_done _ _ _ _ _ _ _ _ _ _ _ _ _ _ _ _ both refl refl low_cost low_put c.in_ok-search_half.ensures.grown in
+    let high_cost = subst (λ q. CountsOthers c.search_half.new.cost c.search_half-then-in_low.new.cost fh (visited_in_half s e q (half_as (out-Node n).high))) hi.ensures.range c.in_ok-search_half-2.ensures.cost in
+    rest_counted _ _ _ _ _ _ _ _ _ _ _ left high_cost
 
 pub search_node-returns-in_ok-search_half-2-clause-grown : goal.search_node-returns-in_ok-search_half-2-clause-grown
 search_node-returns-in_ok-search_half-2-clause-grown g t c =
@@ -235,26 +241,25 @@ search_node-returns-in_ok-search_half-2-clause-grown g t c =
 pub search_node-returns-else-in_low-clause-put : goal.search_node-returns-else-in_low-clause-put
 search_node-returns-else-in_low-clause-put g t c =
     let now = c.loop-found.cost in
-    let leaf = c.plus.ensures ∙ ap (λ q. cost (now.visits + q.visits) (now.tested + q.tested)) c.leaf_cost.ensures in
-    let below = halves_left _ _ _ _ _ _ _ _ _ _ _ _ _ _ _ c.loop-found.invariant.3 c.as_slice.ensures.value leaf c.in_ok-search_parts.ensures.cost c.in_ok-search_leaf.ensures.put c.in_ok-search_leaf.ensures.grown c.in_ok-search_parts.ensures.put c.in_ok-search_parts.ensures.grown in
+    let below = halves_left _ _ _ _ _ _ _ _ _ _ _ _ _ _ _ _ _ _ c.loop-found.invariant.3 c.as_slice.ensures.value c.count_ahead.ensures c.in_ok-search_parts.ensures.cost c.in_ok-search_leaf.ensures.put c.in_ok-search_leaf.ensures.grown c.in_ok-search_parts.ensures.put c.in_ok-search_parts.ensures.grown in
     let lo = c.lower_range-lower in
     let hi = c.upper_range-upper in
     let b = c.holds_value-in_low in
     let d = c.holds_value-in_high in
     let none = in_neither _ _ _ _ _ _ _ _ lo.ensures.range hi.ensures.range b.ensures.value d.ensures.value c.if-in_low-in_high.true c.if-in_low.false in
-    nothing_put _ _ _ _ _ _ _ _ below none
+    nothing_put _ _ _ _ _ _ _ _ _ _ below none
 
 pub search_node-returns-else-in_low-clause-cost : goal.search_node-returns-else-in_low-clause-cost
 search_node-returns-else-in_low-clause-cost g t c =
     let now = c.loop-found.cost in
-    let leaf = c.plus.ensures ∙ ap (λ q. cost (now.visits + q.visits) (now.tested + q.tested)) c.leaf_cost.ensures in
-    let below = halves_left _ _ _ _ _ _ _ _ _ _ _ _ _ _ _ c.loop-found.invariant.3 c.as_slice.ensures.value leaf c.in_ok-search_parts.ensures.cost c.in_ok-search_leaf.ensures.put c.in_ok-search_leaf.ensures.grown c.in_ok-search_parts.ensures.put c.in_ok-search_parts.ensures.grown in
+    let below = halves_left _ _ _ _ _ _ _ _ _ _ _ _ _ _ _ _ _ _ c.loop-found.invariant.3 c.as_slice.ensures.value c.count_ahead.ensures c.in_ok-search_parts.ensures.cost c.in_ok-search_leaf.ensures.put c.in_ok-search_leaf.ensures.grown c.in_ok-search_parts.ensures.put c.in_ok-search_parts.ensures.grown in
     let lo = c.lower_range-lower in
     let hi = c.upper_range-upper in
     let b = c.holds_value-in_low in
     let d = c.holds_value-in_high in
     let none = in_neither _ _ _ _ _ _ _ _ lo.ensures.range hi.ensures.range b.ensures.value d.ensures.value c.if-in_low-in_high.true c.if-in_low.false in
-    nothing_counted _ _ _ _ _ _ _ _ below none
+    let front = neither_ahead c.loop-found.here.now b.result d.result c.if-in_low-in_high.true c.if-in_low.false in
+    nothing_counted _ _ _ _ _ _ _ _ _ _ below front none
 
 pub search_node-returns-else-in_low-clause-grown : goal.search_node-returns-else-in_low-clause-grown
 search_node-returns-else-in_low-clause-grown g t c = grows_both _ _ _ (grows_both _ _ _ c.loop-found.invariant.3.put.grown c.search_leaf.ensures.grown) c.search_parts.ensures.grown
@@ -264,8 +269,7 @@ search_node-returns-in-None-clause-put g t c =
     let s = c.args.s.now in
     let e = c.args.e.now in
     let now = c.loop-found.cost in
-    let leaf = c.plus.ensures ∙ ap (λ q. cost (now.visits + q.visits) (now.tested + q.tested)) c.leaf_cost.ensures in
-    let below = halves_left _ _ _ _ _ _ _ _ _ _ _ _ _ _ _ c.loop-found.invariant.3 c.as_slice.ensures.value leaf c.in_ok-search_parts.ensures.cost c.in_ok-search_leaf.ensures.put c.in_ok-search_leaf.ensures.grown c.in_ok-search_parts.ensures.put c.in_ok-search_parts.ensures.grown in
+    let below = halves_left _ _ _ _ _ _ _ _ _ _ _ _ _ _ _ _ _ _ c.loop-found.invariant.3 c.as_slice.ensures.value c.count_ahead.ensures c.in_ok-search_parts.ensures.cost c.in_ok-search_leaf.ensures.put c.in_ok-search_leaf.ensures.grown c.in_ok-search_parts.ensures.put c.in_ok-search_parts.ensures.grown in
     let lo = c.lower_range-lower in
     let hi = c.upper_range-upper in
     let b = c.holds_value-in_low in
@@ -273,15 +277,14 @@ search_node-returns-in-None-clause-put g t c =
     let q = cond b.result lo.result hi.result in
     let in_half = in_chosen _ _ _ _ _ _ _ _ _ _ lo.ensures.range hi.ensures.range b.ensures.value d.ensures.value c.if-in_low-in_high.false refl c.chosen.ensures in
     let none = sym in_half ∙ ap (λ i. visited_in_half s e q (half_as i)) c.in-None.is in
-    nothing_put _ _ _ _ _ _ _ _ below none
+    nothing_put _ _ _ _ _ _ _ _ _ _ below none
 
 pub search_node-returns-in-None-clause-cost : goal.search_node-returns-in-None-clause-cost
 search_node-returns-in-None-clause-cost g t c =
     let s = c.args.s.now in
     let e = c.args.e.now in
     let now = c.loop-found.cost in
-    let leaf = c.plus.ensures ∙ ap (λ q. cost (now.visits + q.visits) (now.tested + q.tested)) c.leaf_cost.ensures in
-    let below = halves_left _ _ _ _ _ _ _ _ _ _ _ _ _ _ _ c.loop-found.invariant.3 c.as_slice.ensures.value leaf c.in_ok-search_parts.ensures.cost c.in_ok-search_leaf.ensures.put c.in_ok-search_leaf.ensures.grown c.in_ok-search_parts.ensures.put c.in_ok-search_parts.ensures.grown in
+    let below = halves_left _ _ _ _ _ _ _ _ _ _ _ _ _ _ _ _ _ _ c.loop-found.invariant.3 c.as_slice.ensures.value c.count_ahead.ensures c.in_ok-search_parts.ensures.cost c.in_ok-search_leaf.ensures.put c.in_ok-search_leaf.ensures.grown c.in_ok-search_parts.ensures.put c.in_ok-search_parts.ensures.grown in
     let lo = c.lower_range-lower in
     let hi = c.upper_range-upper in
     let b = c.holds_value-in_low in
@@ -289,7 +292,8 @@ search_node-returns-in-None-clause-cost g t c =
     let q = cond b.result lo.result hi.result in
     let in_half = in_chosen _ _ _ _ _ _ _ _ _ _ lo.ensures.range hi.ensures.range b.ensures.value d.ensures.value c.if-in_low-in_high.false refl c.chosen.ensures in
     let none = sym in_half ∙ ap (λ i. visited_in_half s e q (half_as i)) c.in-None.is in
-    nothing_counted _ _ _ _ _ _ _ _ below none
+    let front = chosen_ahead c.loop-found.here.now b.result d.result c.chosen.result.now c.if-in_low-in_high.false c.chosen.ensures ∙ ap (λ i. ahead_in_half true (half_as i)) c.in-None.is in
+    nothing_counted _ _ _ _ _ _ _ _ _ _ below front none
 
 pub search_node-returns-in-None-clause-grown : goal.search_node-returns-in-None-clause-grown
 search_node-returns-in-None-clause-grown g t c = grows_both _ _ _ (grows_both _ _ _ c.loop-found.invariant.3.put.grown c.search_leaf.ensures.grown) c.search_parts.ensures.grown
@@ -304,11 +308,10 @@ search_node-loop-found-preserved g t c =
     let r0 = g.C.Hits.held c.args.found.now in
     let all = visited s e c.args.range (plain c.args.n.now) in
     let now = c.loop-found.cost in
-    let leaf = c.plus.ensures ∙ ap (λ q. cost (now.visits + q.visits) (now.tested + q.tested)) c.leaf_cost.ensures in
     let r3 = g.C.Hits.held c.search_parts.new.found in
     let was = c.args.cost.now in
     let is = c.search_parts.new.cost in
-    let below = halves_left of e s r n _ _ _ _ _ _ _ _ _ _ c.loop-found.invariant.3 c.as_slice.ensures.value leaf c.in_ok-search_parts.ensures.cost c.in_ok-search_leaf.ensures.put c.in_ok-search_leaf.ensures.grown c.in_ok-search_parts.ensures.put c.in_ok-search_parts.ensures.grown in
+    let below = halves_left of e s r n _ _ _ _ _ _ _ _ _ _ _ _ _ c.loop-found.invariant.3 c.as_slice.ensures.value c.count_ahead.ensures c.in_ok-search_parts.ensures.cost c.in_ok-search_leaf.ensures.put c.in_ok-search_leaf.ensures.grown c.in_ok-search_parts.ensures.put c.in_ok-search_parts.ensures.grown in
     let lo = c.lower_range-lower in
     let hi = c.upper_range-upper in
     let b = c.holds_value-in_low in
@@ -321,11 +324,14 @@ search_node-loop-found-preserved g t c =
     let bounded : is_bounded q ≡ true = subst (λ q. is_bounded q ≡ true) (sym at) (of_either (λ q. is_bounded q ≡ true) b.result lo.result hi.result lo.ensures.bounded hi.ensures.bounded) in
     let falls : the_size c.deref-here.result.now < the_size n = search (rules, the_lemmas) in
     let next : visited_in_halves s e r n ≡ visited s e q (plain c.deref-here.result.now) =
-    sym in_half ∙ ap (λ i. visited_in_half s e q (half_as i)) c.in-Some.is ∙ ap (λ b. cond b (visited s e q (plain c.in-Some.half.value)) []) holds.1 ∙ ap (λ i. visited s e q (plain i)) (sym c.deref-here.ensures) in (
+    sym in_half ∙ ap (λ i. visited_in_half s e q (half_as i)) c.in-Some.is ∙ ap (λ b. cond b (visited s e q (plain c.in-Some.half.value)) []) holds.1 ∙ ap (λ i. visited s e q (plain i)) (sym c.deref-here.ensures) in
+    let front : ahead_in_halves b.result d.result n ≡ leaf_of (plain c.deref-here.result.now) ∷ [] =
+    chosen_ahead n b.result d.result c.chosen.result.now c.if-in_low-in_high.false c.chosen.ensures ∙ ap (λ i. ahead_in_half true (half_as i)) c.in-Some.is ∙ ap (λ i. leaf_of (plain i) ∷ []) (sym c.deref-here.ensures) in (
       omega (arith, falls, c.loop-found.invariant.0),
       bounded,
       holds.0,
-      subst (IsDescending of e r0 r3 was is all) next below,
+      subst (IsDescending of e r0 r3 was is (leaf_of (plain c.args.n.now) ∷ []) all (leaf_of (plain c.deref-here.result.now) ∷ [])) next
+          (subst (λ f. IsDescending of e r0 r3 was is (leaf_of (plain c.args.n.now) ∷ []) all f (visited_in_halves s e r n)) front below),
     )
 
 pub search_part-search_node-requires : goal.search_part-search_node-requires
@@ -334,38 +340,32 @@ search_part-search_node-requires g t c =
     let e = c.args.e.now in
     let p = c.args.part.now in
     let h : is_assigned e (out-Part p).attr ≡ true = sym c.assigns.ensures ∙ c.if-assigns.true in
-    let counted : AreCountableWith c.args.cost.now (visited s e c.whole_range.result (plain c.deref.result.now)) =
-    subst (λ r. AreCountableWith c.args.cost.now (visited s e r (plain c.deref.result.now))) (sym c.whole_range.ensures.range) (subst (λ n. AreCountableWith c.args.cost.now (visited s e (whole s (out-Part p).attr) (plain n))) (sym c.deref.ensures) (part_countable_with s e p c.args.cost.now h c.requires.countable)) in
+    let counted : AreOthersCountable c.args.cost.now (leaf_of (plain c.deref.result.now) ∷ []) (visited s e c.whole_range.result (plain c.deref.result.now)) =
+    subst (λ r. AreOthersCountable c.args.cost.now (leaf_of (plain c.deref.result.now) ∷ []) (visited s e r (plain c.deref.result.now))) (sym c.whole_range.ensures.range)
+    (subst (λ n. AreOthersCountable c.args.cost.now (leaf_of (plain n) ∷ []) (visited s e (whole s (out-Part p).attr) (plain n))) (sym c.deref.ensures) (part_others_countable s e p c.args.cost.now h c.requires.countable)) in
     search (rules, the_lemmas)
 
 pub search_parts-search_part-requires : goal.search_parts-search_part-requires
 search_parts-search_part-requires g t c =
-    let k = c.requires.countable in
-    let i = c.loop-part.invariant in
-    let z = parts_sizes c.args.s.now c.args.e.now c.args.parts.now c.loop-part.part-index c.part-item.result (omega (arith, c.loop-part-test.true)) c.part-item.is in
-    let counted : AreCountableWith c.loop-part.cost (visited_in_parts c.args.s.now c.args.e.now (parts_of (part_as c.part-item.result ∷ []))) =
-    record { few = omega (arith, z.visits, k.few, i.0); few_rows = omega (arith, z.tested, k.few_rows, i.1) } in
-    search (rules, the_lemmas)
-
-pub search_parts-loop-part-preserved : goal.search_parts-loop-part-preserved
-search_parts-loop-part-preserved g t c =
-    let k = c.requires.countable in
-    let i = c.loop-part.invariant in
-    let z = parts_sizes c.args.s.now c.args.e.now c.args.parts.now c.loop-part.part-index c.part-item.result (omega (arith, c.loop-part-test.true)) c.part-item.is in
     let s = c.args.s.now in
     let e = c.args.e.now in
     let ps = c.args.parts.now in
     let n = c.loop-part.part-index in
     let p = c.part-item.result in
-    let first = visited_in_parts s e (parts_of (part_as p ∷ [])) in
-    let rest = visited_in_parts s e (parts_as (drop (n + 1) ps)) in
-    let of = g.C.Hits.item_of in
-    let two = ap (λ v. hits_of of e (all_of v)) (visited_from s e ps n p (omega (arith, c.loop-part-test.true)) c.part-item.is) ∙ hits_leaves of e first rest in (
-      omega (arith, z.visits, i.0, ap (λ x. x.visits) c.in_ok-search_part.ensures.cost),
-      omega (arith, z.tested, i.1, ap (λ x. x.tested) c.in_ok-search_part.ensures.cost),
-      underway_next _ _ (g.C.Hits.held c.search_part.new.found) (hits_of of e (all_of (visited_in_parts s e (parts_as (drop n ps))))) (hits_of of e (all_of first)) (hits_of of e (all_of rest))
-          (hits_of of e (all_of (visited_in_parts s e (parts_as ps)))) two i.2 c.in_ok-search_part.ensures.put c.in_ok-search_part.ensures.grown,
-    )
+    let within : n < length ps = omega (arith, c.loop-part-test.true) in
+    let counted : AreOthersCountable c.loop-part.cost (ahead_in_parts e (parts_of (part_as p ∷ []))) (visited_in_parts s e (parts_of (part_as p ∷ []))) =
+    first_countable _ _ _ _ _ _ _ (rest_countable _ _ _ _ _ _ _ _ _ _ c.loop-part.invariant c.requires.countable) (ahead_from e ps n p within c.part-item.is) (visited_from s e ps n p within c.part-item.is) (parts_no_more s e (parts_as (drop (n + 1) ps))) in
+    search (rules, the_lemmas)
+
+pub search_parts-loop-part-preserved : goal.search_parts-loop-part-preserved
+search_parts-loop-part-preserved g t c =
+    let s = c.args.s.now in
+    let e = c.args.e.now in
+    let ps = c.args.parts.now in
+    let n = c.loop-part.part-index in
+    let p = c.part-item.result in
+    let within : n < length ps = omega (arith, c.loop-part-test.true) in
+    first_done _ _ _ _ _ _ _ _ _ _ _ _ _ _ _ _ c.loop-part.invariant (ahead_from e ps n p within c.part-item.is) (visited_from s e ps n p within c.part-item.is) c.in_ok-search_part.ensures.cost c.in_ok-search_part.ensures.put c.in_ok-search_part.ensures.grown
 
 pub search_parts-returns-in_err-search_part-clause-refused : goal.search_parts-returns-in_err-search_part-clause-refused
 search_parts-returns-in_err-search_part-clause-refused g t c =
@@ -381,4 +381,4 @@ search_parts-returns-in_err-search_part-clause-refused g t c =
     let two = ap (λ v. hits_of of e (all_of v)) (visited_from s e ps n p (omega (arith, c.loop-part-test.true)) c.part-item.is) ∙ hits_leaves of e first rest in
     let i = c.loop-part.invariant in
     on_refusal c.from_residual.result ((g.C.Hits.held c.args.found.now).sure < length (hits_of of e (all_of all)))
-    (underway_refused _ _ (hits_of of e (all_of (visited_in_parts s e (parts_as (drop n ps))))) (hits_of of e (all_of first)) (hits_of of e (all_of rest)) (hits_of of e (all_of all)) two i.2 c.in_err-search_part.ensures.refused)
+    (underway_refused _ _ (hits_of of e (all_of (visited_in_parts s e (parts_as (drop n ps))))) (hits_of of e (all_of first)) (hits_of of e (all_of rest)) (hits_of of e (all_of all)) two i.put c.in_err-search_part.ensures.refused)
