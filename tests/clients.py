@@ -324,6 +324,14 @@ def restored_elsewhere():
     case("attempts within a second", 2 <= script.served - 1 <= 6, True)
 
 
+def bad_words():
+    """A port that there isn't, or a patience that is no number, ends the demo at once, with its words and no trace of its code."""
+    for words in ((), ("x",), ("0",), ("65536",), ("104419", "3"), ("7000", "x"), ("7000", "nan"), ("7000", "-3"), ("7000", "3", "127.0.0.1", "x")):
+        ended = subprocess.run([*COMMAND, *words], input=b"publish -\n", capture_output=True, check=False, timeout=WAIT)
+        said = ended.stderr.decode()
+        case(f"the words {words}", (ended.returncode, ended.stdout, "PORT [PATIENCE [HOST]]" in said, said.count("\n")), (1, b"", True, 1))
+
+
 def drive(schema):
     """The parts at once, since most of their time they wait."""
     load = schema + ".load"
@@ -332,7 +340,7 @@ def drive(schema):
     with open(load, "w", encoding="ascii") as file:
         file.write("ROW z price < 5\n")
     parts = [(by_the_page, schema, load), (at_once, schema), (broken_off, schema), (one_seat, schema), (given_up, schema)]
-    parts += [(rare,), (restored_elsewhere,)]
+    parts += [(rare,), (restored_elsewhere,), (bad_words,)]
 
     def run(part, *words):
         try:

@@ -509,6 +509,21 @@ def has_no_stream(c):
         raise Failed(f"get.py said {said + rest!r}, and printed {[*beats, line]}")
 
 
+def beats_without_a_leader(c):
+    """With --beat tell.py prints lines that say nothing while its leader is away too."""
+    with socket.create_server(("127.0.0.1", 0)) as door:
+        teller = c.start(sys.executable, CLUSTER / "tell.py", door.getsockname()[1], "--beat", "0.1", stdout=subprocess.PIPE, stderr=subprocess.PIPE)
+        session, _ = door.accept()
+        with session:
+            session.recv(100)
+            session.sendall(b"TAILED 0 0\n")
+    beats = [teller.stdout.readline() for _ in range(3)]
+    teller.kill()
+    _, said = teller.communicate()
+    if beats != [b"TAILED 0 0\n"] * 3 or b"no leader at port" not in said:
+        raise Failed(f"tell.py printed {beats}, and said {said!r}")
+
+
 def is_interrupted(c):
     """Ctrl-C ends the scripts by its signal, and without a word."""
     teller, putter = c.second
@@ -543,7 +558,7 @@ def is_away(c):
         raise Failed("a script ended with a traceback")
 
 
-CASES = [all_parts_run, outlives_put, outlives_tell, outlives_get, outlives_redis, outlives_mirrors, outlives_connection, has_two_tellers, is_the_leaders, are_mirrored, is_followed, ends_as_one, is_refilled, has_no_stream, waits_for_a_mirror, needs_an_answer, is_interrupted, is_refused, is_another_list, is_away]
+CASES = [all_parts_run, outlives_put, outlives_tell, outlives_get, outlives_redis, outlives_mirrors, outlives_connection, has_two_tellers, is_the_leaders, are_mirrored, is_followed, ends_as_one, is_refilled, has_no_stream, waits_for_a_mirror, needs_an_answer, beats_without_a_leader, is_interrupted, is_refused, is_another_list, is_away]
 
 
 def main(program, room):

@@ -93,12 +93,16 @@ func kindOf(err error) string {
 
 func main() {
 	words := os.Args[1:]
-	if len(words) < 1 || len(words) > 3 {
-		fmt.Fprintln(os.Stderr, "justmeadow: PORT [PATIENCE [HOST]]")
+	count := len(words)
+	if count <= 3 {
+		words = append(words, []string{"", "30", "127.0.0.1"}[count:]...)
+	}
+	port, noPort := strconv.ParseUint(words[0], 10, 16)
+	patience, noTime := time.ParseDuration(words[1] + "s")
+	if count > 3 || noPort != nil || port == 0 || noTime != nil || patience < 0 {
+		fmt.Fprintln(os.Stderr, "justmeadow: PORT [PATIENCE [HOST]]: a port from 1 to 65535, and for how many seconds to wait")
 		os.Exit(1)
 	}
-	words = append(words, []string{"", "30", "127.0.0.1"}[len(words):]...)
-	patience, _ := time.ParseDuration(words[1] + "s")
 	client, err := Connect(net.JoinHostPort(words[2], words[0]), patience)
 	if err != nil {
 		fmt.Fprintln(os.Stderr, "justmeadow:", err)

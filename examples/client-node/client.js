@@ -363,9 +363,12 @@ async function answer(client, line) {
   }
 }
 
-async function main(port, patience = '30', host = '127.0.0.1') {
-  if (!/^\d+$/.test(port)) throw new Error('PORT [PATIENCE [HOST]]');
-  const client = await Client.connect(Number(port), { host, patience: Number(patience) });
+async function main(port, patience = '30', host = '127.0.0.1', ...more) {
+  const [number, seconds] = [Number(port), Number(patience)];
+  if (more.length || !/^\d+$/.test(port) || number < 1 || number > 65535 || !(seconds >= 0 && seconds <= 1e6)) {
+    throw new Error('PORT [PATIENCE [HOST]]: a port from 1 to 65535, and for how many seconds to wait');
+  }
+  const client = await Client.connect(number, { host, patience: seconds });
   for await (const line of readline.createInterface({ input: process.stdin })) {
     console.log(JSON.stringify(await answer(client, line)));
   }

@@ -231,6 +231,8 @@ class Connection(Session):
     `within` is given, a connection is lost that is silent for so many seconds while a reply is awaited."""
 
     def __init__(self, port, host="127.0.0.1", within=None):
+        if not 1 <= port <= 65535:  # the system would take what is left of 65536
+            raise ValueError(f"port {port} isn't from 1 to 65535")
         self.socket = socket.create_connection((host, port), timeout=within)
         self.socket.setsockopt(socket.IPPROTO_TCP, socket.TCP_NODELAY, 1)
         self.reader, self.writer = self.socket.makefile("rb"), self.socket.makefile("wb")
@@ -401,9 +403,17 @@ def answer(client, line):
         return {type(error).__name__.lower() if isinstance(error, (Refused, Ended, Unreadable)) else "wrong": str(error)}
 
 
-def main(port, patience="30", host="127.0.0.1"):
+def read_words(port, patience="30", host="127.0.0.1"):
+    """The port, the host and the patience that these words of a command line give. Raises ValueError where they give none."""
+    number, seconds = int(port), float(patience)
+    if not (1 <= number <= 65535 and 0 <= seconds <= 10**6):
+        raise ValueError
+    return number, host, seconds
+
+
+def main(port, host, patience):
     try:
-        with Client(int(port), host, float(patience)) as client:
+        with Client(port, host, patience) as client:
             for line in sys.stdin:
                 print(json.dumps(answer(client, line.rstrip("\n"))), flush=True)
     except Lost as error:
@@ -412,6 +422,8 @@ def main(port, patience="30", host="127.0.0.1"):
 if __name__ == "__main__":
     if sys.argv[1:] == ["--help"]:
         sys.exit(print(__doc__))
-    if not 1 <= len(sys.argv[1:]) <= 3 or not sys.argv[1].isdigit():
-        sys.exit("justmeadow: PORT [PATIENCE [HOST]]")
-    main(*sys.argv[1:])
+    try:
+        words = read_words(*sys.argv[1:])
+    except (TypeError, ValueError):
+        sys.exit("justmeadow: PORT [PATIENCE [HOST]]: a port from 1 to 65535, and for how many seconds to wait")
+    main(*words)

@@ -5,9 +5,9 @@
     examples/cluster/tell.py 7000
     examples/cluster/tell.py 7000 --beat 1 | ./justmeadow mirror examples/follower/schema.txt 7100 8 1000000
 
-With `--beat SECONDS` it prints a line `TAILED n 0`, which says nothing, where nothing came for so long while it is connected: a
-mirror whose connections were all served ends with the next line. Where the connection breaks it connects again, after growing
-pauses, compares the list with what it printed, and goes on behind that. Where the list is shorter, as of a mirror that was started
+With `--beat SECONDS` it prints a line `TAILED n 0`, which says nothing, where nothing came for so long: a mirror whose connections
+were all served ends with the next line. Where the connection breaks it connects again, after growing pauses, compares the list with
+what it printed, and goes on behind that. Then too it prints such lines, but not while it waits for an answer. Where the list is shorter, as of a mirror that was started
 anew, it says so and waits. It keeps 8 bytes for each change that it printed.
 
 Ends with 1 where it has no answer within PATIENCE seconds at the start, for which it holds one connection open, or where its output
@@ -36,6 +36,7 @@ class Teller:
         self.words = words
         self.told = array.array("q")  # the hash of each change that was printed
         self.has_answered = self.is_short = False
+        self.last = time.monotonic()  # when it last printed
 
     def run(self):
         """Connects again and again."""
@@ -61,7 +62,7 @@ class Teller:
             if fault != before:
                 say(f"no leader at port {self.words.port}, trying again: {fault}")
             before = fault
-            pause(wait)
+            self.rest(wait)
             wait = min(2 * wait, LONGEST_OF_OPEN if session else LONGEST_PAUSE)
 
     def fault(self, error):
@@ -71,7 +72,7 @@ class Teller:
 
     def go_on(self, session):
         """Compares the list with what was printed, and prints what is new, until the connection breaks."""
-        place, wait, last, beat = 0, SOON, time.monotonic(), self.words.beat
+        place, wait = 0, SOON
         while True:
             known = len(self.told)
             lines, length = asked(session, place, min(STEP, known - place) or STEP)
@@ -80,9 +81,8 @@ class Teller:
                 new = []
             else:
                 new = lines
-            if new or (beat and time.monotonic() - last >= beat):
-                show([*new, b"TAILED %d %d" % (length, len(new))])
-                last = time.monotonic()
+            if new or self.is_beat():
+                self.show([*new, b"TAILED %d %d" % (length, len(new))])
             self.told.extend(map(hash, new))
             place += len(lines)
             if lines:
@@ -90,6 +90,21 @@ class Teller:
             else:
                 pause(wait)
                 wait = min(2 * wait, LATER)
+
+    def is_beat(self):
+        return self.words.beat and time.monotonic() - self.last >= self.words.beat
+
+    def show(self, lines):
+        show(lines)
+        self.last = time.monotonic()
+
+    def rest(self, wait):
+        """A pause between two connections."""
+        until = time.monotonic() + wait
+        while (left := until - time.monotonic()) > 0:
+            pause(min(left, self.words.beat or left))
+            if self.has_answered and self.is_beat():
+                self.show([b"TAILED %d 0" % len(self.told)])
 
     def compare(self, place, lines, length):
         for at, line in enumerate(lines, place):
