@@ -1,8 +1,9 @@
 #!/usr/bin/env bash
 # Prints what a search takes, of 1,000, 10,000, 100,000 and 1,000,000 subscriptions of the generated kind (bench/generated.awk), like a
 # market's (bench/market.awk), and like those of a market with twenty attributes (bench/broad_market.awk): processor time as the program
-# measures it, the least of three. It builds, and so proves, a program of its own.
-#   bench/leaf_tests.sh COMMIT    the same of the crates of an earlier commit beside it, run in turns, and how many times as fast a search is now
+# measures it, the least of seven rounds, of 1,000,000 of three. It builds, and so proves, a program of its own.
+#   bench/leaf_tests.sh COMMIT    the same of the crates of an earlier commit beside it, run in turns, and how many times as long that took,
+#                                 the middle of the rounds
 #   BENCH_LEAF, BENCH_LEAF_BEFORE programs that were built so before, to be measured in place of new ones
 # shellcheck source=common.sh
 . "$(dirname "${BASH_SOURCE[0]}")/common.sh"
@@ -48,26 +49,35 @@ if [ -z "${BENCH_LEAF:-}" ]; then
     build "$top" "$room/now" && BENCH_LEAF="$own"
 fi
 
+# shortest PROGRAM: of its rounds, in millionths of a second
+shortest() { cut -d ' ' -f 2 "$room/found_$1.txt" | sort -n | awk 'NR == 1 { print $1 / 1000 }'; }
+
+# slower: how many times as long the earlier program took as the other, the middle of the rounds
+slower() {
+    paste -d ' ' "$room/found_BENCH_LEAF.txt" "$room/found_BENCH_LEAF_BEFORE.txt" | awk '{ print $4 / $2 }' |
+        sort -g | sed -n "$(((rounds + 1) / 2))p"
+}
+
 # search KIND TEXT SUBS EVENTS TIMES
 search() {
-    local program
+    local program round figure
     { schema "$1"; script "$1" "$3" "$4"; } >"$room/script.txt"
     rm -f "$room"/found_*.txt
-    for _ in 1 2 3; do
-        for program in BENCH_LEAF_BEFORE BENCH_LEAF; do
+    for ((round = 0; round < rounds; round++)); do
+        for program in BENCH_LEAF BENCH_LEAF_BEFORE; do
             [ -z "${!program:-}" ] || "${!program}" "$5" <"$room/script.txt" >>"$room/found_$program.txt" || fail "${!program} failed"
         done
     done
     [ "$(cut -d ' ' -f 1 "$room"/found_*.txt | sort -u | wc -l)" = 1 ] || fail "other rows were found"
-    sort -k2n "$room/found_BENCH_LEAF.txt" | head -n 1 >"$room/found.txt"
+    figure="$(printf '%.2f µs' "$(shortest BENCH_LEAF)")"
     if [ -n "${BENCH_LEAF_BEFORE:-}" ]; then
-        sort -k2n "$room/found_BENCH_LEAF_BEFORE.txt" | head -n 1 >>"$room/found.txt"
+        figure+="$(printf '; at %s %.2f µs, in the middle %.2f times as long' "${earlier:-an earlier commit}" "$(shortest BENCH_LEAF_BEFORE)" "$(slower)")"
     fi
-    row "a search of $(grouped "$3") subscriptions $2" "$(awk -v earlier="${earlier:-an earlier commit}" 'NR == 1 { now = $2; printf "%.2f µs", $2 / 1000 }
-        NR == 2 { printf "; at %s %.2f µs, %.2f times as long", earlier, $2 / 1000, $2 / now }' "$room/found.txt")"
+    row "a search of $(grouped "$3") subscriptions $2" "$figure"
 }
 
 for subs in 1000 10000 100000 1000000; do
+    rounds=$((subs > 100000 ? 3 : 7))
     search generated "of the generated kind" "$subs" $((subs > 100000 ? 100 : 1000)) $((200000 / subs + 1))
     search market "like a market's" "$subs" 10000 $((500000 / subs + 1))
     search broad_market "like a market's with twenty attributes" "$subs" $((subs > 100000 ? 300 : 3000)) $((300000 / subs + 1))

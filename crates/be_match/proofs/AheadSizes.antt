@@ -28,10 +28,14 @@ both_no_more : (f g v w : List (List Row)) → AreNoMore f v → AreNoMore g w �
 both_no_more f g v w h k =
     record { few = omega (arith, h.few, k.few, length-append f g, length-append v w); few_rows = omega (arith, h.few_rows, k.few_rows, rows_append f g, rows_append v w) }
 
-leaf_no_more : (s : Attributes) (e : Assignments) (r : NodeRange) (n : Plain) → AreNoMore (leaf_of n ∷ []) (visited s e r n)
+pub leaf_no_more : (s : Attributes) (e : Assignments) (r : NodeRange) (n : Plain) → AreNoMore (leaf_of n ∷ []) (visited s e r n)
 leaf_no_more s e r (node rows parts low high) =
     let rest = visited_in_parts s e parts ++ visited_in_half s e (lower r) low ++ visited_in_half s e (upper r) high in
     record { few = omega arith; few_rows = omega (arith, length-append rows [], length-append rows (all_of rest)) }
+
+-- its rows are these
+pub leaf_rows : (n : Node) → length (all_of (leaf_of (plain n) ∷ [])) ≡ length (out-Node n).leaf
+leaf_rows n = ap (λ i. length (all_of (leaf_of i ∷ []))) (plain_out n) ∙ length-append (out-Node n).leaf [] ∙ omega arith
 
 -- where a node is entered
 entered_no_more : (s : Attributes) (e : Assignments) (r : NodeRange) (n : Plain) (b : Bool) → AreNoMore (cond b (leaf_of n ∷ []) []) (cond b (visited s e r n) [])
@@ -48,10 +52,15 @@ pub half_no_more : (s : Attributes) (e : Assignments) (r : NodeRange) (h : Half)
 half_no_more s e r no_half b is = none_no_more
 half_no_more s e r (half n) b is = subst (λ x. AreNoMore (cond b (leaf_of n ∷ []) []) (cond x (visited s e r n) [])) is (entered_no_more s e r n b)
 
--- 64 bits count those ahead
-pub ahead_countable : (s : Attributes) (e : Assignments) (r lo hi : NodeRange) (n : Plain) (c : Cost) (b d : Bool) → lo ≡ lower r → hi ≡ upper r → b ≡ holds_value e lo → d ≡ holds_value e hi
+-- where they are said to be counted ahead, or none is
+pub where_no_more : (w : Bool) (f v : List (List Row)) → AreNoMore f v → AreNoMore (cond w f []) v
+where_no_more true f v h = h
+where_no_more false f v h = record { few = omega arith; few_rows = omega arith }
+
+-- 64 bits count those below a node
+below_countable : (s : Attributes) (e : Assignments) (r lo hi : NodeRange) (n : Plain) (c : Cost) (b d : Bool) → lo ≡ lower r → hi ≡ upper r → b ≡ holds_value e lo → d ≡ holds_value e hi
     → AreOthersCountable c (leaf_of n ∷ []) (visited s e r n) → AreCountableWith c (ahead_below e b d n)
-ahead_countable s e r lo hi (node rows parts low high) c b d el eh bl dh k =
+below_countable s e r lo hi (node rows parts low high) c b d el eh bl dh k =
     let p = visited_in_parts s e parts in
     let l = visited_in_half s e (lower r) low in
     let h = visited_in_half s e (upper r) high in
@@ -60,6 +69,14 @@ ahead_countable s e r lo hi (node rows parts low high) c b d el eh bl dh k =
     let fh = ahead_in_half d high in
     let w = both_no_more (fp ++ fl) fh (p ++ l) h (both_no_more fp fl p l (parts_no_more s e parts) (half_no_more s e (lower r) low b (bl ∙ ap (holds_value e) el))) (half_no_more s e (upper r) high d (dh ∙ ap (holds_value e) eh)) in
     record { few = omega (arith, k.few, w.few); few_rows = omega (arith, k.few_rows, w.few_rows, length-append rows [], length-append rows (all_of (p ++ l ++ h))) }
+
+-- 64 bits count those ahead
+pub ahead_countable : (s : Attributes) (e : Assignments) (r lo hi : NodeRange) (n : Plain) (c : Cost) (b d w : Bool) → lo ≡ lower r → hi ≡ upper r → b ≡ holds_value e lo → d ≡ holds_value e hi
+    → AreOthersCountable c (leaf_of n ∷ []) (visited s e r n) → AreCountableWith c (cond w (ahead_below e b d n) [])
+ahead_countable s e r lo hi n c b d true el eh bl dh k = below_countable s e r lo hi n c b d el eh bl dh k
+ahead_countable s e r lo hi n c b d false el eh bl dh k =
+    let few = leaf_no_more s e r n in
+    record { few = omega (arith, k.few, few.few); few_rows = omega (arith, k.few_rows, few.few_rows) }
 
 -- ahead in parts: in the first, and in the others
 first_ahead : (e : Assignments) (p : Part) (ps : List Part) → ahead_in_parts e (parts_as (p ∷ ps)) ≡ ahead_in_parts e (parts_of (part_as p ∷ [])) ++ ahead_in_parts e (parts_as ps)

@@ -13,14 +13,13 @@ use Rattle.be_shape.specs.declared.nodes.Node.TheViews.{out-Node}
 use Rattle.be_shape.specs.Plain.{Half, no_half, half, leaf_of, plain, parts_as, half_as}
 use Rattle.be_shape.specs.Shape.{NodeRange}
 use Rattle.be_shape.specs.Search.{visited, visited_in_parts, all_of}
-use Rattle.be_shape.proofs.Plains.{plain_out}
 use Rattle.be_index.specs.Puts.{Held, Adds, Grows, hits_of}
 use Rattle.be_index.proofs.Adding.{IsUnderway, adds_none, underway_next}
 use Rattle.be_match.specs.Ahead.{ahead_below, ahead_in_parts, ahead_in_half, CountsOthers, AreOthersCountable}
 use Rattle.be_match.specs.Leaves.{cost_with}
 use Rattle.be_match.proofs.Blocks.{underway}
 use Rattle.be_match.proofs.Fronts.{hits_leaves, hits_levels}
-use Rattle.be_match.proofs.AheadSizes.{AreNoMore, ahead_of_node}
+use Rattle.be_match.proofs.AheadSizes.{AreNoMore, leaf_rows, ahead_of_node}
 use Rattle.be_match.proofs.Halves.{visited_in_halves, leaf_and_below}
 use Rattle.be_match.proofs.Sizes.{rows_append}
 
@@ -89,30 +88,52 @@ first_countable c ahead rest f g v w k front is few =
 abbrev pub ahead_in_halves : Bool → Bool → Node → List (List Row)
 ahead_in_halves in_low in_high n = ahead_in_half in_low (half_as (out-Node n).low) ++ ahead_in_half in_high (half_as (out-Node n).high)
 
+-- what a search of a node visits: its leaf, its parts and its halves
+node_levels : (s : Attributes) (e : Assignments) (r : NodeRange) (n : Node) (ps : List Part) → ps ≡ (out-Node n).parts.items
+    → visited s e r (plain n) ≡ (out-Node n).leaf ∷ visited_in_parts s e (parts_as ps) ++ visited_in_halves s e r n
+node_levels s e r n ps are = leaf_and_below s e r n ∙ ap (λ i. (out-Node n).leaf ∷ visited_in_parts s e (parts_as i) ++ visited_in_halves s e r n) (sym are)
+
 -- the leaf and the parts of a node were visited: its halves are still to be visited
-pub halves_left : {X : Type 0} (of : Row → X) (e : Assignments) (s : Attributes) (r : NodeRange) (n : Node) (in_low in_high : Bool) (a b b1 b2 : Held X) (c d d1 d2 : Cost) (ps : List Part) (before all : List (List Row))
-    → IsDescending of e a b c d before all (leaf_of (plain n) ∷ []) (visited s e r (plain n)) → ps ≡ (out-Node n).parts.items → d1 ≡ cost_with d (ahead_below e in_low in_high (plain n))
-    → CountsOthers d1 d2 (ahead_in_parts e (parts_as ps)) (visited_in_parts s e (parts_as ps)) → Adds b b1 (hits_of of e (out-Node n).leaf) → Grows b b1
-    → Adds b1 b2 (hits_of of e (all_of (visited_in_parts s e (parts_as ps)))) → Grows b1 b2 → IsDescending of e a b2 c d2 before all (ahead_in_halves in_low in_high n) (visited_in_halves s e r n)
-halves_left of e s r n in_low in_high a b b1 b2 c d d1 d2 ps before all h are k1 k2 x1 g1 x2 g2 =
+halves_put : {X : Type 0} (of : Row → X) (e : Assignments) (s : Attributes) (r : NodeRange) (n : Node) (a b b1 b2 : Held X) (ps : List Part) (all : List (List Row))
+    → IsUnderway a b (hits_of of e (all_of (visited s e r (plain n)))) (hits_of of e (all_of all)) → ps ≡ (out-Node n).parts.items → Adds b b1 (hits_of of e (out-Node n).leaf) → Grows b b1
+    → Adds b1 b2 (hits_of of e (all_of (visited_in_parts s e (parts_as ps)))) → Grows b1 b2 → IsUnderway a b2 (hits_of of e (all_of (visited_in_halves s e r n))) (hits_of of e (all_of all))
+halves_put of e s r n a b b1 b2 ps all h are x1 g1 x2 g2 =
+    let p = visited_in_parts s e (parts_as ps) in
+    let q = visited_in_halves s e r n in
+    let y = hits_of of e (out-Node n).leaf in
+    let z = hits_of of e (all_of p) in
+    let w = hits_of of e (all_of q) in
+    let levels = ap (λ v. hits_of of e (all_of v)) (node_levels s e r n ps are) ∙ hits_levels of e (out-Node n).leaf p q in
+    underway_next a b1 b2 (z ++ w) z w (hits_of of e (all_of all)) refl (underway_next a b b1 (hits_of of e (all_of (visited s e r (plain n)))) y (z ++ w) (hits_of of e (all_of all)) levels h x1 g1) x2 g2
+
+pub halves_left : {X : Type 0} (of : Row → X) (e : Assignments) (s : Attributes) (r : NodeRange) (n : Node) (in_low in_high w : Bool) (a b b1 b2 : Held X) (c d d1 d2 : Cost) (ps : List Part) (before all : List (List Row))
+    → IsDescending of e a b c d before all (leaf_of (plain n) ∷ []) (visited s e r (plain n)) → ps ≡ (out-Node n).parts.items → d1 ≡ cost_with d (cond w (ahead_below e in_low in_high (plain n)) [])
+    → CountsOthers d1 d2 (cond w (ahead_in_parts e (parts_as ps)) []) (visited_in_parts s e (parts_as ps)) → Adds b b1 (hits_of of e (out-Node n).leaf) → Grows b b1
+    → Adds b1 b2 (hits_of of e (all_of (visited_in_parts s e (parts_as ps)))) → Grows b1 b2 → IsDescending of e a b2 c d2 before all (cond w (ahead_in_halves in_low in_high n) []) (visited_in_halves s e r n)
+halves_left of e s r n in_low in_high true a b b1 b2 c d d1 d2 ps before all h are k1 k2 x1 g1 x2 g2 =
     let leaf = (out-Node n).leaf in
     let p = visited_in_parts s e (parts_as ps) in
     let q = visited_in_halves s e r n in
     let fp = ahead_in_parts e (parts_as ps) in
     let fq = ahead_in_halves in_low in_high n in
-    let is : visited s e r (plain n) ≡ leaf ∷ p ++ q = leaf_and_below s e r n ∙ ap (λ i. leaf ∷ visited_in_parts s e (parts_as i) ++ q) (sym are) in
+    let is = node_levels s e r n ps are in
     let fl = ahead_in_half in_low (half_as (out-Node n).low) in
     let fh = ahead_in_half in_high (half_as (out-Node n).high) in
     let front : ahead_below e in_low in_high (plain n) ≡ fp ++ fq = ahead_of_node e n in_low in_high ps are ∙ append_assoc fp fl fh in
-    let here : length (all_of (leaf_of (plain n) ∷ [])) ≡ length leaf = ap (λ i. length (all_of (leaf_of i ∷ []))) (plain_out n) ∙ length-append leaf [] ∙ omega arith in
-    let y = hits_of of e leaf in
-    let z = hits_of of e (all_of p) in
-    let w = hits_of of e (all_of q) in
-    let levels = ap (λ v. hits_of of e (all_of v)) is ∙ hits_levels of e leaf p q in
     record {
       visits = omega (arith, h.visits, ap length is, length-append p q, ap length front, length-append fp fq, ap (λ i. i.visits) k1, k2.visits);
-      tested = omega (arith, h.tested, here, ap (λ v. length (all_of v)) is, length-append leaf (all_of (p ++ q)), rows_append p q, ap (λ v. length (all_of v)) front, rows_append fp fq, ap (λ i. i.tested) k1, k2.tested);
-      put = underway_next a b1 b2 (z ++ w) z w (hits_of of e (all_of all)) refl (underway_next a b b1 (hits_of of e (all_of (visited s e r (plain n)))) y (z ++ w) (hits_of of e (all_of all)) levels h.put x1 g1) x2 g2;
+      tested = omega (arith, h.tested, leaf_rows n, ap (λ v. length (all_of v)) is, length-append leaf (all_of (p ++ q)), rows_append p q, ap (λ v. length (all_of v)) front, rows_append fp fq, ap (λ i. i.tested) k1, k2.tested);
+      put = halves_put of e s r n a b b1 b2 ps all h.put are x1 g1 x2 g2;
+    }
+halves_left of e s r n in_low in_high false a b b1 b2 c d d1 d2 ps before all h are k1 k2 x1 g1 x2 g2 =
+    let leaf = (out-Node n).leaf in
+    let p = visited_in_parts s e (parts_as ps) in
+    let q = visited_in_halves s e r n in
+    let is = node_levels s e r n ps are in
+    record {
+      visits = omega (arith, h.visits, ap length is, length-append p q, ap (λ i. i.visits) k1, k2.visits);
+      tested = omega (arith, h.tested, leaf_rows n, ap (λ v. length (all_of v)) is, length-append leaf (all_of (p ++ q)), rows_append p q, ap (λ i. i.tested) k1, k2.tested);
+      put = halves_put of e s r n a b b1 b2 ps all h.put are x1 g1 x2 g2;
     }
 
 -- nothing is ahead in a half that isn't entered
@@ -121,11 +142,20 @@ none_entered no_half = refl
 none_entered (half n) = refl
 
 -- where both are entered
-pub both_entered : {X : Type 0} (of : Row → X) (e : Assignments) (a b : Held X) (c d : Cost) (n : Node) (x y : Bool) (before all rest : List (List Row)) → IsDescending of e a b c d before all (ahead_in_halves x y n) rest → beq x y ≡ true → x ≡ true
-    → IsDescending of e a b c d before all (ahead_in_halves true true n) rest
-both_entered of e a b c d n true true before all rest h alike entered = h
-both_entered of e a b c d n true false before all rest h alike entered = absurd (cc)
-both_entered of e a b c d n false y before all rest h alike entered = absurd (cc)
+pub both_ahead : (n : Node) (x y : Bool) → beq x y ≡ true → x ≡ true → ahead_in_halves x y n ≡ ahead_in_halves true true n
+both_ahead n true true alike entered = refl
+both_ahead n true false alike entered = absurd (cc)
+both_ahead n false y alike entered = absurd (cc)
+
+-- those of two, where they are said to be counted ahead
+pub where_both : (w : Bool) (f g : List (List Row)) → cond w (f ++ g) [] ≡ cond w f [] ++ cond w g []
+where_both true f g = refl
+where_both false f g = refl
+
+-- where there are none, none is counted ahead
+pub where_none : (w : Bool) (f : List (List Row)) → f ≡ [] → cond w f [] ≡ []
+where_none true f is = is
+where_none false f is = refl
 
 -- where neither half is entered
 pub neither_ahead : (n : Node) (b d : Bool) → beq b d ≡ true → b ≡ false → ahead_in_halves b d n ≡ []

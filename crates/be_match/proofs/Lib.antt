@@ -6,6 +6,7 @@ pub mod AheadSizes
 pub mod Blocks
 pub mod MetRows
 pub mod Descents
+pub mod Entered
 pub mod Exact
 pub mod Shares
 pub mod VisitsBound

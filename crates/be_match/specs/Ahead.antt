@@ -20,12 +20,12 @@ ahead_in_half enters (half n) = if enters then leaf_of n ∷ [] else []
 abbrev pub ahead_below : Assignments → Bool → Bool → Plain → List (List Row)
 ahead_below e in_low in_high (node rows parts low high) = ahead_in_parts e parts ++ ahead_in_half in_low low ++ ahead_in_half in_high high
 
--- the cost grew by what the leaves cost, less what those cost that were counted ahead
+-- the cost grew by what the leaves cost, less what those cost that were counted before
 pub record CountsOthers (was is : Cost) (ahead leaves : List (List Row)) : Type 0 where
   pub visits : is.visits + length ahead ≡ was.visits + length leaves
   pub tested : is.tested + length (all_of ahead) ≡ was.tested + length (all_of leaves)
 
--- 64 bits count the leaves too that weren't counted ahead
+-- 64 bits count the leaves too that weren't counted before
 pub record AreOthersCountable (c : Cost) (ahead leaves : List (List Row)) : Type 0 where
   pub few : c.visits + length leaves < 2 ^ 64 + length ahead
   pub few_rows : c.tested + length (all_of leaves) < 2 ^ 64 + length (all_of ahead)

@@ -13,7 +13,7 @@ ghost use Rattle.be_shape.specs.Search.{visited, visited_in_parts, visited_in_ha
 ghost use Rattle.be_index.specs.Puts.{Adds, Grows, hits_of};
 ghost use Rattle.be_match.specs.Ahead.{AreOthersCountable, CountsOthers, ahead_in_parts, ahead_in_half};
 
-use crate::ahead::count_ahead;
+use crate::ahead::{count_ahead, count_entered};
 use be_base::NoMemory;
 use be_index::Hits;
 use be_model::{Cost, Row, Schema};
@@ -22,6 +22,10 @@ use be_shape::{
     lower_range, upper_range, whole_range,
 };
 use std::sync::Arc;
+
+/// At a node where a search has counted so many, it counts those below ahead. A search that comes to so many is one of a large tree,
+/// and the nodes of a small tree stand in the processor's caches.
+const MANY_NODES: u64 = 256;
 
 // Appends what the event satisfies in a node and in all below it. The leaf of the node is counted before. Where one half alone holds a
 // value of the event, the search goes on there, without a call.
@@ -49,88 +53,99 @@ pub(crate) fn search_node<C: Hits>(
         let upper = upper_range(within);
         let in_low = e.holds_value(lower);
         let in_high = e.holds_value(upper);
-        count_ahead(here, e, in_low, in_high, cost);
+        let ahead = MANY_NODES <= cost.visits;
+        count_ahead(here, e, in_low, in_high, ahead, cost);
         search_leaf(&here.leaf, e, found)?;
-        search_parts(here.parts.as_slice(), s, e, found, cost)?;
+        search_parts(here.parts.as_slice(), s, e, ahead, found, cost)?;
         if in_low == in_high {
             if in_low {
-                search_half(&here.low, s, e, lower, found, cost)?;
-                search_half(&here.high, s, e, upper, found, cost)?;
+                search_half(&here.low, s, e, lower, ahead, found, cost)?;
+                search_half(&here.high, s, e, upper, ahead, found, cost)?;
             }
             return Ok(());
         }
         match chosen(in_low, &here.low, &here.high) {
-            Some(half) => here = half,
+            Some(half) => {
+                count_entered(half, ahead, cost);
+                here = half;
+            }
             None => return Ok(()),
         }
         within = chosen_range(in_low, within);
     }
 }
 
-// Appends what it satisfies in parts. The leaves of the roots that are entered are counted before.
+// Appends what it satisfies in parts. The leaf of each root that is entered is counted here, unless it was counted ahead.
 #[cycle(searches)]
 fn search_parts<C: Hits>(
     parts: &[Part],
     s: &Schema,
     e: &Sight,
+    ahead: bool,
     found: &mut C,
     cost: &mut Cost,
 ) -> Result<(), NoMemory>
-    requires countable { AreOthersCountable cost.old (ahead_in_parts e.now (parts_as parts.now)) (visited_in_parts s.now e.now (parts_as parts.now)) }
+    requires countable { AreOthersCountable cost.old (if ahead then ahead_in_parts e.now (parts_as parts.now) else []) (visited_in_parts s.now e.now (parts_as parts.now)) }
     ensures put { OnOk result (Adds (C.held found.old) (C.held found.new) (hits_of C.item_of e.now (all_of (visited_in_parts s.now e.now (parts_as parts.now))))) }
     ensures refused { OnErr result ((C.held found.old).sure < length (hits_of C.item_of e.now (all_of (visited_in_parts s.now e.now (parts_as parts.now))))) }
-    ensures cost { OnOk result (CountsOthers cost.old cost.new (ahead_in_parts e.now (parts_as parts.now)) (visited_in_parts s.now e.now (parts_as parts.now))) }
+    ensures cost { OnOk result (CountsOthers cost.old cost.new (if ahead then ahead_in_parts e.now (parts_as parts.now) else []) (visited_in_parts s.now e.now (parts_as parts.now))) }
     ensures grown { Grows (C.held found.old) (C.held found.new) }
 {
     for part in parts {
-        search_part(part, s, e, found, cost)?;
+        search_part(part, s, e, ahead, found, cost)?;
     }
     Ok(())
 }
 
-// In one part. Where the root is entered, its leaf is counted before.
+// In one part. Where the root is entered, its leaf is counted here, unless it was counted ahead.
 #[cycle(searches)]
 fn search_part<C: Hits>(
     part: &Part,
     s: &Schema,
     e: &Sight,
+    ahead: bool,
     found: &mut C,
     cost: &mut Cost,
 ) -> Result<(), NoMemory>
-    requires countable { AreOthersCountable cost.old (ahead_in_parts e.now (parts_of (part_as part.now ∷ []))) (visited_in_parts s.now e.now (parts_of (part_as part.now ∷ []))) }
+    requires countable { AreOthersCountable cost.old (if ahead then ahead_in_parts e.now (parts_of (part_as part.now ∷ [])) else []) (visited_in_parts s.now e.now (parts_of (part_as part.now ∷ []))) }
     ensures put { OnOk result (Adds (C.held found.old) (C.held found.new) (hits_of C.item_of e.now (all_of (visited_in_parts s.now e.now (parts_of (part_as part.now ∷ [])))))) }
     ensures refused { OnErr result ((C.held found.old).sure < length (hits_of C.item_of e.now (all_of (visited_in_parts s.now e.now (parts_of (part_as part.now ∷ [])))))) }
-    ensures cost { OnOk result (CountsOthers cost.old cost.new (ahead_in_parts e.now (parts_of (part_as part.now ∷ []))) (visited_in_parts s.now e.now (parts_of (part_as part.now ∷ [])))) }
+    ensures cost { OnOk result (CountsOthers cost.old cost.new (if ahead then ahead_in_parts e.now (parts_of (part_as part.now ∷ [])) else []) (visited_in_parts s.now e.now (parts_of (part_as part.now ∷ [])))) }
     ensures grown { Grows (C.held found.old) (C.held found.new) }
 {
     if e.assigns(part.attr) {
+        count_entered(&part.root, ahead, cost);
         search_node(&part.root, s, e, whole_range(s, part.attr), found, cost)
     } else {
         Ok(())
     }
 }
 
-// In a half of this range, which holds a value of the event. Its leaf is counted before.
+// In a half of this range, which holds a value of the event. Its leaf is counted here, unless it was counted ahead.
 #[cycle(searches)]
 fn search_half<C: Hits>(
     half: &Option<Box<Node>>,
     s: &Schema,
     e: &Sight,
     range: NodeRange,
+    ahead: bool,
     found: &mut C,
     cost: &mut Cost,
 ) -> Result<(), NoMemory>
     requires bounded { is_bounded range ≡ true }
     requires rising { is_rising range ≡ true }
     requires holds { holds_value e.now range ≡ true }
-    requires countable { AreOthersCountable cost.old (ahead_in_half true (half_as half.now)) (visited_in_half s.now e.now range (half_as half.now)) }
+    requires countable { AreOthersCountable cost.old (if ahead then ahead_in_half true (half_as half.now) else []) (visited_in_half s.now e.now range (half_as half.now)) }
     ensures put { OnOk result (Adds (C.held found.old) (C.held found.new) (hits_of C.item_of e.now (all_of (visited_in_half s.now e.now range (half_as half.now))))) }
     ensures refused { OnErr result ((C.held found.old).sure < length (hits_of C.item_of e.now (all_of (visited_in_half s.now e.now range (half_as half.now))))) }
-    ensures cost { OnOk result (CountsOthers cost.old cost.new (ahead_in_half true (half_as half.now)) (visited_in_half s.now e.now range (half_as half.now))) }
+    ensures cost { OnOk result (CountsOthers cost.old cost.new (if ahead then ahead_in_half true (half_as half.now) else []) (visited_in_half s.now e.now range (half_as half.now))) }
     ensures grown { Grows (C.held found.old) (C.held found.new) }
 {
     match half {
-        Some(n) => search_node(n, s, e, range, found, cost),
+        Some(n) => {
+            count_entered(n, ahead, cost);
+            search_node(n, s, e, range, found, cost)
+        }
         None => Ok(()),
     }
 }

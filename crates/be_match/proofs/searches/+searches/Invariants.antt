@@ -1,4 +1,4 @@
-use Rattle.std.proofs.Common.{◌≡◌, ◌≤◌, true, ◌∷◌, [], drop}
+use Rattle.std.proofs.Common.{◌≡◌, ◌≤◌, true, cond, ◌∷◌, [], drop}
 use Rattle.be_shape.specs.Plain.{plain, parts_as, leaf_of}
 use Rattle.be_shape.specs.Ranges.{is_bounded, is_rising}
 use Rattle.be_shape.specs.Search.{visited, visited_in_parts}
@@ -16,5 +16,6 @@ invariant-search_node-loop-found g l =
 -- what was counted and put, and what is still to be visited
 abbrev pub invariant-search_parts-loop-part : goal.invariant-search_parts-loop-part
 invariant-search_parts-loop-part g l =
-    IsDescending g.C.Hits.item_of l.e (g.C.Hits.held l.initial.found) (g.C.Hits.held l.found) l.initial.cost l.cost (ahead_in_parts l.e (parts_as l.parts)) (visited_in_parts l.s l.e (parts_as l.parts)) (ahead_in_parts l.e (parts_as (drop l.part-index l.parts)))
+    IsDescending g.C.Hits.item_of l.e (g.C.Hits.held l.initial.found) (g.C.Hits.held l.found) l.initial.cost l.cost (cond l.ahead (ahead_in_parts l.e (parts_as l.parts)) []) (visited_in_parts l.s l.e (parts_as l.parts))
+    (cond l.ahead (ahead_in_parts l.e (parts_as (drop l.part-index l.parts))) [])
     (visited_in_parts l.s l.e (parts_as (drop l.part-index l.parts)))

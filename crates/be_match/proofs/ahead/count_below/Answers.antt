@@ -5,7 +5,7 @@ use Rattle.be_shape.specs.Plain.{plain, half_as}
 use Rattle.be_shape.specs.Search.{all_of}
 use Rattle.be_match.specs.Ahead.{ahead_below, ahead_in_half}
 use Rattle.be_match.proofs.AheadSizes.{sizes_of_node}
-use Rattle.be_match.proofs.ahead.count_ahead.Goals as goal
+use Rattle.be_match.proofs.ahead.count_below.Goals as goal
 
 pub count_parts-requires : goal.count_parts-requires
 count_parts-requires c =
