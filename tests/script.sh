@@ -93,6 +93,11 @@ script heat there 1 missing --load there; same 'a load file where there is none'
 script run -- -x; same 'a name behind a separator' 6 'ran run -- -x\n' "justmeadow: there is no file '-x'\n"
 script serve there 7000 2 2; same 'no file is missing' 6 'ran serve there 7000 2 2\n' ''
 script mirror missing 7000 2 2; same 'a schema of mirror that is missing' 6 'ran mirror missing 7000 2 2\n' "justmeadow: there is no file 'missing'\n"
+script serve missing 0 1 1; same 'a port that the program refuses, and nothing of files' 6 'ran serve missing 0 1 1\n' ''
+script serve missing 7000 65 1; same 'too many seats' 6 'ran serve missing 7000 65 1\n' ''
+script serve missing 07000 64 1000000; same 'the greatest numbers' 6 'ran serve missing 07000 64 1000000\n' "justmeadow: there is no file 'missing'\n"
+script drill missing x there; same 'rounds that are no number' 6 'ran drill missing x there\n' ''
+script run missing --load -x; same 'a load file that the program refuses' 6 'ran run missing --load -x\n' ''
 script drill there 10 there missing; same 'a file of lines that is missing' 6 'ran drill there 10 there missing\n' "justmeadow: there is no file 'missing'\n"
 script follow missing there; same 'a schema that is missing' 6 'ran follow missing there\n' "justmeadow: there is no file 'missing'\n"
 script cover there there name; same 'a name is no file' 6 'ran cover there there name\n' ''

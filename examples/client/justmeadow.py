@@ -395,7 +395,7 @@ def answer(client, line):
     function, count = CALLS[call]
     given = words[0].split(" ", count - 1) if words and count else words
     if len(given) != count:
-        return {"wrong": f"{call} takes {('no words', 'one word', 'two words')[count]}, of which the last is the rest of the line"}
+        return {"wrong": f"{call} takes {('no words', 'the rest of the line as its word', 'a word and the rest of the line')[count]}"}
     try:
         result = function(client, *given)
         return [result.n, result] if isinstance(result, Told) else result
