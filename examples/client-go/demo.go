@@ -15,11 +15,29 @@ import (
 	"time"
 )
 
+// taken is how many words each call takes, of which the last is the rest of the line.
+var taken = map[string]int{
+	"subscribe": 2, "unsubscribe": 1, "publish": 1, "list": 0, "send": 1, "fetch": 1, "dump": 0, "tail": 2, "quit": 0, "kept": 0, "lines": 1,
+}
+
 // answer makes the call that the line names, and returns what is printed of it.
 func answer(client *Client, line string) (any, error) {
-	call, rest, _ := strings.Cut(line, " ")
-	first, second, _ := strings.Cut(rest, " ")
-	number := func(word string) int { number, _ := strconv.Atoi(word); return number }
+	call, rest, hasRest := strings.Cut(line, " ")
+	first, second, hasSecond := strings.Cut(rest, " ")
+	count, isCall := taken[call]
+	if !isCall {
+		return nil, fmt.Errorf("%w: there is no call %s", ErrWrong, call)
+	}
+	if hasRest != (count > 0) || (count == 2 && !hasSecond) {
+		words := []string{"no words", "the rest of the line as its word", "a word and the rest of the line"}[count]
+		return nil, fmt.Errorf("%w: %s takes %s", ErrWrong, call, words)
+	}
+	number := func(word string) int {
+		if number, err := strconv.Atoi(word); err == nil {
+			return number
+		}
+		return -1 // which the server refuses
+	}
 	printed := []any{}
 	switch call {
 	case "subscribe":
@@ -53,7 +71,7 @@ func answer(client *Client, line string) (any, error) {
 		}
 		return printed, err
 	}
-	return nil, fmt.Errorf("%w: there is no call %s", ErrWrong, call)
+	return nil, nil
 }
 
 func said(reply Reply, err error) (any, error) {

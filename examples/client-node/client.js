@@ -338,25 +338,30 @@ class Client {
   }
 }
 
+// the call, and how many words it takes, of which the last is the rest of the line
 const CALLS = {
-  subscribe: (client, rest) => client.subscribe(...fields(rest, 2)),
-  unsubscribe: (client, rest) => client.unsubscribe(rest),
-  publish: async (client, rest) => Object.values(await client.publish(rest)),
-  list: async (client) => Object.values(await client.list()),
-  send: async (client, rest) => Object.values(await client.send(rest)).slice(1),
-  fetch: async (client, rest) => (await client.fetch(rest)).map(({ name, event }) => [name, event]),
-  tail: async (client, rest) => Object.values(await client.tail(...fields(rest, 2))),
-  dump: (client) => client.dump(),
-  quit: (client) => client.quit(),
-  lines: async (client, rest) => (await Promise.all(rest.split(';').map((line) => client.ask(line)))).map((reply) => reply.text),
-  kept: (client) => Object.fromEntries([...client.subscriptions].map(([name, { n }]) => [name, n])),
+  subscribe: [2, (client, name, condition) => client.subscribe(name, condition)],
+  unsubscribe: [1, (client, name) => client.unsubscribe(name)],
+  publish: [1, async (client, event) => Object.values(await client.publish(event))],
+  list: [0, async (client) => Object.values(await client.list())],
+  send: [1, async (client, event) => Object.values(await client.send(event)).slice(1)],
+  fetch: [1, async (client, most) => (await client.fetch(most)).map(({ name, event }) => [name, event])],
+  tail: [2, async (client, place, most) => Object.values(await client.tail(place, most))],
+  dump: [0, (client) => client.dump()],
+  quit: [0, (client) => client.quit()],
+  lines: [1, async (client, rest) => (await Promise.all(rest.split(';').map((line) => client.ask(line)))).map((reply) => reply.text)],
+  kept: [0, (client) => Object.fromEntries([...client.subscriptions].map(([name, { n }]) => [name, n]))],
 };
+const TAKEN = ['no words', 'the rest of the line as its word', 'a word and the rest of the line'];
 
 async function answer(client, line) {
-  const [call, rest = ''] = fields(line, 2);
+  const [call, ...rest] = fields(line, 2);
   try {
     if (!Object.hasOwn(CALLS, call)) throw new Error(`there is no call ${call}`);
-    return await CALLS[call](client, rest);
+    const [count, made] = CALLS[call];
+    const words = rest.length && count ? fields(rest[0], count) : rest;
+    if (words.length !== count) throw new Error(`${call} takes ${TAKEN[count]}`);
+    return await made(client, ...words);
   } catch (error) {
     const kind = [Refused, Ended, Lost, Unreadable].find((it) => error.constructor === it);
     return { [kind?.name.toLowerCase() ?? 'wrong']: error.message };
