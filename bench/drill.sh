@@ -2,16 +2,16 @@
 # Prints how many events a second `drill` answers of 1, 2 and 4 files over 10,000 subscriptions, each file on a processor of its own,
 # how much more processor time an event takes at four files than at one, and how much longer three such files take beside a file
 # that writes; of the generated kind (bench/generated.awk) and like a market's (bench/market.awk). All times are less those of as
-# many empty files; each figure is the middle of nine rounds. An elapsed time has that of the transcripts in it, which one thread writes
-# at the end. Other work on the machine spoils the elapsed times most. Beside the processor time at four files stands that of four
-# programs at the same time with a file each: what the machine itself takes where four processors work. A round in which the file
-# that writes ends after the others isn't counted.
+# many empty files; each figure is the middle of 15 rounds. An elapsed time has that of the transcripts in it, which one thread writes
+# at the end. Other work on the machine spoils the elapsed times most. The processor time at four files also stands beside that of
+# four programs at the same time with a file each, which share nothing: they tell what the machine itself takes where four processors
+# work. A round in which the file that writes ends after the others isn't counted.
 # shellcheck source=common.sh
 . "$(dirname "${BASH_SOURCE[0]}")/common.sh"
 use_program
 subs="$(scaled 10000)"
 [ "$(nproc)" -ge 4 ] || echo "$(basename "$0"): four processors are wanted, and there are $(nproc)" >&2
-rounds=9
+rounds=15
 cd "$room" || exit 1
 : >none
 
@@ -60,7 +60,7 @@ ends_early() { [ "$(sed -n '/^== LOG/,$p' out | grep '^BYE' | head -n 1 | cut -d
 # measure KIND TEXT EVENTS CHANGES: the rows of a kind, with so many events a file. The writer's condition is one that hardly an event
 # satisfies.
 measure() {
-    local one two four condition times late=0
+    local one two four alone apart condition times late=0
     prepare "$1" "$3"
     condition="price < 5 and volume < 5"
     [ "$1" = market ] || condition="a0 < 5 and a1 < 5"
@@ -83,8 +83,9 @@ measure() {
     done
     one="$(middle "$3" 'events / ($3 - $1)')" two="$(middle "$3" '2 * events / ($7 - $5)')" four="$(middle "$3" '4 * events / ($11 - $9)')"
     row "events a second of \`drill\` of 1, 2 and 4 files over $(grouped "$subs") subscriptions $2" "$(grouped "$one"), $(grouped "$two") and $(grouped "$four")"
-    row "processor time an event at 4 files, $2" "$(figure '%.2f times that at one' "$(middle "$3" '($12 - $10) / 4 / ($4 - $2)')")"
-    row "processor time an event in 4 programs with a file each, $2" "$(figure '%.2f times that at one' "$(middle "$3" '($16 - $14) / 4 / ($4 - $2)')")"
+    alone="$(figure '%.2f times that at one' "$(middle "$3" '($12 - $10) / 4 / ($4 - $2)')")"
+    apart="$(figure '%.2f times that in 4 programs with a file each' "$(middle "$3" '($12 - $10) / ($16 - $14)')")"
+    row "processor time an event at 4 files, $2" "$alone, $apart"
     row "3 files $2 beside one that changes $(grouped "$4") times" "$(figure '%.2f times as long as alone' "$(middle "$3" '($19 - $9) / ($17 - $9)')")"
 }
 
