@@ -146,7 +146,7 @@ impl<I: Index> Board for LocalBoard<I> {
         ensures free { result ≡ Answer.NoMemory → is_live_name name (live self.old.list) ≡ false }
     {
         let answer = self.copy.subscribe(alloc, name, conj);
-        // That the list is well formed comes to light at the list, here and below.
+        // Called for its clause that the list is well formed.
         let _ = self.copy.read();
         answer
     }

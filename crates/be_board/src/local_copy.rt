@@ -80,7 +80,7 @@ impl<I: Index> LocalCopy<I> {
         ensures lies { all_lie (I.schema self.now.index) self.now.list ≡ true }
         ensures bounded { I.is_bounded self.now.index ≡ true }
     {
-        // That all rows lie in the schema comes to light at the list.
+        // Called for its clause that all rows lie in the schema.
         let _ = self.copy.log();
         &self.copy
     }

@@ -44,7 +44,7 @@ pub record IsStepped (can_step : Step → Bool) (IsMade : Step → Type 0) (IsUn
   pub nothing : done ≡ NotHere → IsUnchanged
   pub merge : is_merge step ≡ true → done ≢ Skipped
 
--- what an edit is answered where memory isn't wanting
+-- what an edit is answered: a change by whether it fits, unless it is refused, and a step as the index answers it
 abbrev pub AnswersEdit : Attributes → List Entry → (Step → Bool) → (Step → Type 0) → Type 0 → Edit → StepDone → Type 0
 AnswersEdit s h can_step IsMade IsUnchanged (Change c) done = done ≡ (if fits s h (entry_of (arc_value c)) then Done else NotHere)
 AnswersEdit s h can_step IsMade IsUnchanged (Reshape step) done = IsStepped can_step IsMade IsUnchanged step done

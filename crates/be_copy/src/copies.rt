@@ -34,7 +34,7 @@ pub struct Copy2<I: Index> {
     log: ChangeLog,
     index: I,
     register: Register,
-    // The names of the list's rows, one behind another. There are none from where memory was wanting to them.
+    // The names of the list's rows, one behind another. Once memory ran out for them, there are none.
     names: Option<SpacedNames>,
 }
 
@@ -95,7 +95,7 @@ impl<I: Index> Copy2<I> {
         ensures there { IfSome result (λ row. HasNameAt (live self.now.list) (id_of (arc_value row.now)) name.now) }
         ensures none { IfNone result (is_live_name name.now (live self.now.list) ≡ false) }
     {
-        // That ids rise comes to light at the length of the list.
+        // Called for its clause that ids rise.
         let _ = self.log.len();
         let wanted = Wanted::Named(name);
         first(&self.log, &self.index, &self.register, wanted, wanted.key())
@@ -110,7 +110,7 @@ impl<I: Index> Copy2<I> {
         ensures some { OnErr result (0 < length (session_rows session.0 (live self.now.list))) }
         ensures room { KeepsRoom found.old found.new }
     {
-        // That ids rise comes to light at the length of the list.
+        // Called for its clause that ids rise.
         let _ = self.log.len();
         found.clear();
         let wanted = Wanted::Of(session);
@@ -150,7 +150,7 @@ impl<I: Index> Copy2<I> {
     }
 }
 
-// Takes all the memory before it changes anything.
+// After a refusal the list and the index's rows are as before.
 fn take_in<I: Index>(
     log: &mut ChangeLog,
     index: &mut I,
@@ -207,7 +207,7 @@ fn change_rows<I: Index>(
     ensures schema { I.schema index.new ≡ I.schema index.old }
     ensures bounded { I.is_bounded index.new ≡ I.is_bounded index.old }
 {
-    // That ids rise comes to light at the length of the list.
+    // Called for its clause that ids rise.
     let _ = log.len();
     match change {
         Change::Sub { row, .. } => add_row(log, index, register, row),
@@ -238,7 +238,7 @@ fn add_row<I: Index>(
     ensures schema { I.schema index.new ≡ I.schema index.old }
     ensures bounded { I.is_bounded index.new ≡ I.is_bounded index.old }
 {
-    // That the id is low comes to light at the length of the list.
+    // Called for its clause that the list is short, and so the id low.
     let _ = log.len();
     let row = Arc::try_clone(row)?;
     put_row(index, register, row)

@@ -1,6 +1,6 @@
 //! The hits of an event by their ids and their names.
 
-ghost use Rattle.std.specs.Prelude.{◌≡◌, ◌<◌, ◌++◌, [], true, length, OnOk, OnErr, IfOk};
+ghost use Rattle.std.specs.Prelude.{◌≡◌, ◌<◌, ◌≤◌, ◌+◌, ◌++◌, [], true, length, OnOk, OnErr, IfOk};
 ghost use Rattle.be_model.specs.Bounds.{IsWithinBound};
 ghost use Rattle.be_model.specs.Lies.{event_lies};
 ghost use Rattle.be_model.specs.Matching.{FindsSome, satisfied};
@@ -45,8 +45,10 @@ impl<I: Index> Copy2<I> {
     pub fn count_hits(&self, event: &Event, ids: &mut Ids) -> Result<u64, NoMemory>
         requires { event_lies (I.schema self.now.index) event.now ≡ true }
         ensures count { IfOk result (λ n. n ≡ length (satisfied event.now (live_rows self.now.list))) }
-        // It is refused only where there is something to find.
+        // It is refused only where there are more of them than `ids` has room for, and so something to find.
+        ensures room { OnErr result (ids.old.spare + length ids.old.ids < length (satisfied event.now (live_rows self.now.list))) }
         ensures some { OnErr result (FindsSome event.now (live_rows self.now.list)) }
+        ensures kept { ids.old.spare + length ids.old.ids ≤ ids.new.spare + length ids.new.ids }
     {
         ids.clear();
         self.index().find(event, ids)?;
@@ -62,7 +64,7 @@ impl<I: Index> Copy2<I> {
         ensures bound { IfOk result (λ cost. I.is_bounded self.now.index ≡ true → IsWithinBound (I.schema self.now.index) event.now (live_rows self.now.list) cost) }
     {
         let index = self.index();
-        // That ids rise comes to light at the length of the list.
+        // Called for its clause that ids rise.
         let _ = self.log().len();
         ids.clear();
         let cost = index.find(event, ids)?;

@@ -1,7 +1,7 @@
 //! A list of changes, and an index that holds what is live in it.
 //!
-//! Its contract is that of `Copy2::absorb`: an edit is taken in whole or not at all, and the index's rows stay what is live
-//! in the list, whatever is handed in. A register beside the index finds the rows of a session, and those of a name, with hardly
+//! Its contract is that of `Copy2::absorb`: an edit changes the list wholly or not at all, and the index's rows stay what is
+//! live in the list, whatever is handed in. A register beside the index finds the rows of a session, and those of a name, with hardly
 //! a look at others. It stands on be_change and be_index. Begin reading at specs/Edits and src/copies.rt.
 #![tactic(auto)]
 

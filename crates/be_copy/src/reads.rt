@@ -30,7 +30,7 @@ impl<I: Index> Copy2<I> {
         ensures bound { IfOk result (λ cost. I.is_bounded self.now.index ≡ true → IsWithinBound (I.schema self.now.index) event.now (live_rows self.now.list) cost) }
     {
         let index = self.index();
-        // That ids rise comes to light at the length of the list.
+        // Called for its clause that ids rise.
         let _ = self.log().len();
         found.clear();
         let cost = index.find(event, found)?;

@@ -70,7 +70,7 @@ fn read_request(alloc: Global, schema: &Schema, cut: &Cut) -> Result<Request, No
     Ok(request)
 }
 
-// What the type of a refused name keeps comes to light here.
+// Called for what the type of a refused name keeps.
 fn show_name(request: &Request)
     ensures { (s : _) (t : _) → plain_request request.now ≡ asked.refused t → HasLines s (asked.refusal t) }
 {

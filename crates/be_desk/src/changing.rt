@@ -81,12 +81,12 @@ impl<T: Sheet<J>, J: Naming + BoxNames> Desk<T, J> {
         ensures formed { IsWellFormed seat.new.glass.known }
         ensures core { IsRunOfCore self.old self.new seat.old seat.new (request_of ask) result }
     {
-        // That at most one change is held, and then that the list is well formed, comes to light at the desk's length.
+        // Called for its clauses that at most one change is held, and then that the list is well formed.
         let _ = self.len();
         let answer = self.decide(rt, alloc, seat, ask);
         let _ = self.len();
         self.few(seat);
-        // That what the seat knows is well formed comes to light at its session.
+        // Called for its clause that what the seat knows is well formed.
         let _ = seat.session();
         answer
     }
@@ -185,7 +185,7 @@ impl<T: Sheet<J>, J: Naming + BoxNames> Desk<T, J> {
         ensures named { IfOk result (λ c. change_named seat.now.session (serial_in seat.now) (length self.now.list) (asked.subscribe name conj) ≡ entry_of c ∷ []) }
         ensures refused { IfErr result (λ a. (a ≢ Answer.NoMemory) → IsRefusal self.now.list seat.now.session (asked.subscribe name conj) a) }
     {
-        // That the list is well formed comes to light at its length.
+        // Called for its clause that the list is well formed.
         let m = self.press.len();
         match self.ledger.named(&name) {
             Some((id, _)) => return Err(Answer::Dup { m, id }),
@@ -290,7 +290,7 @@ fn append<T: Sheet<J>, J: Naming>(
     ensures press { (press.new.list ≡ ledger.new) × (press.new.published ≡ press.old.published) }
     ensures steps { (press.new.reshaped ≡ press.old.reshaped) × (press.new.steps ≡ press.old.steps) }
 {
-    // That the list is well formed comes to light at the press.
+    // Called for its clause that the list is well formed.
     let _ = press.len();
     let place = ledger.len();
     places.reserve(1)?;

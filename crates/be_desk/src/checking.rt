@@ -76,7 +76,7 @@ impl<T: Sheet<J>, J: Naming + BoxNames> Desk<T, J> {
         }
     }
 
-    // What holds of each record beside the list comes to light. To call it does nothing.
+    // Called for what holds of each record beside the list. It does nothing.
     fn meet_all(&self, seats: &[Seat<T, J>])
         ensures { All (IsBeside J.boxes self.now.list) seats.now }
     {

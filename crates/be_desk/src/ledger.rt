@@ -170,7 +170,7 @@ fn enter(
     ensures stands { OnOk result (AreStands stands.new (list.now.list ++ entry_of change.now ∷ [])) }
     ensures refused { OnErr result (IsLedger list.now.list register.new stands.new) }
 {
-    // That the list is short enough comes to light at its length.
+    // Called for its clause that the list is short enough.
     let _ = list.len();
     register.prepare(list, change)?;
     match stands.put(change) {

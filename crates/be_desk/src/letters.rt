@@ -52,7 +52,7 @@ impl<T: Sheet<J>, J: Naming + BoxNames> Seat<T, J> {
         ensures seat { self.new ≡ record self.old { glass = self.new.glass; passes = self.new.passes } }
     {
         let n = self.find(event, found)?;
-        // What the seat's type keeps comes to light here.
+        // Called for what the seat's type keeps.
         self.count();
         self.form();
         let Ok(letters) = make_letters(alloc, n, event, found.rows(), found.len()) else {
@@ -76,7 +76,7 @@ impl<T: Sheet<J>, J: Naming + BoxNames> Seat<T, J> {
         ensures offers { Offers (λ q mailbox. Held S.schema S.seats S.found q mailbox BOX_LETTERS) (length J.boxes) (map plain_letter letters.items) result self.old.passes self.new.passes }
     {
         self.form();
-        // That they are no more than can be counted comes to light here.
+        // Called for its clause that they are no more than can be counted.
         let _ = letters.len();
         let mut put = 0;
         for letter in letters {
@@ -97,7 +97,7 @@ impl<T: Sheet<J>, J: Naming + BoxNames> Seat<T, J> {
             (self.new.passes ≡ after_put self.old.passes (seat_of (length J.boxes) letter.session.0) (plain_letter letter))
             ((self.new.passes ≡ after_full self.old.passes) × Held S.schema S.seats S.found self.old.passes (seat_of (length J.boxes) letter.session.0) BOX_LETTERS) }
     {
-        // That the seat is one of those that have a mailbox comes to light at its number.
+        // Called for its clause that the seat is one of those that have a mailbox.
         let _ = self.passes.seat();
         let to = (letter.session.0 - 1) % mail.seats() as u64;
         match mail.put(rt, &mut self.passes, to as u32, letter) {
@@ -106,7 +106,7 @@ impl<T: Sheet<J>, J: Naming + BoxNames> Seat<T, J> {
         }
     }
 
-    // That each mailbox has its list, and that the count is not past its type's end, comes to light here.
+    // Called for its clauses that each mailbox has its list, and that the count is not past its type's end.
     fn form(&self)
         ensures form { AreOfSeat self.now.passes }
         ensures boxes { self.now.passes.boxes ≡ J.boxes }
@@ -146,7 +146,7 @@ impl<T: Sheet<J>, J: Naming + BoxNames> Seat<T, J> {
         requires schema { S.schema ≡ J.schema }
         ensures { IsEmptied J.schema (length J.boxes) self.old self.new }
     {
-        // That the count is not past its type's end comes to light here.
+        // Called for its clause that the count is not past its type's end.
         let _ = self.passes.empties();
         for _ in 0..BOX_LETTERS {
             let Some(_) = self.take(rt, mail) else {
@@ -166,7 +166,7 @@ impl<T: Sheet<J>, J: Naming + BoxNames> Seat<T, J> {
         ensures none { IfNone result (self.new.passes ≡ after_empty self.old.passes) }
         ensures empties { self.old.passes.empties ≤ last_count }
     {
-        // That the count is not past its type's end, and how many mailboxes there are, comes to light here.
+        // Called for its clauses that the count is not past its type's end, and how many mailboxes there are.
         let _ = (self.passes.empties(), mail.seats());
         let letter = mail.fetch(rt, &mut self.passes)?;
         let mine = letter.session.0 == self.session.0;

@@ -62,7 +62,7 @@ impl<T: Sheet<J>, J: Naming + BoxNames> Desk<T, J> {
     fn rows(&self) -> u64
         ensures { result ≡ length (live self.now.list) }
     {
-        // That the list is well formed comes to light at its length.
+        // Called for its clause that the list is well formed.
         let _ = self.press.len();
         self.ledger.rows()
     }

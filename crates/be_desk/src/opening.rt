@@ -127,7 +127,7 @@ fn listed<T: Sheet<J>, J: Naming>(alloc: Global, press: &Press<T, J>) -> Result<
     requires { press.now.published ≡ press.now.list }
     ensures { IfOk result (λ ledger. ledger ≡ press.now.list) }
 {
-    // That it is well formed comes to light at its length.
+    // Called for its clause that it is well formed.
     let _ = press.len();
     let mut changes: Vec<Arc<Change>> = Vec::new(alloc);
     press.changes(&mut changes)?;

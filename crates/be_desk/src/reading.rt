@@ -98,7 +98,7 @@ impl<T: Sheet<J>, J: Naming + BoxNames> Seat<T, J> {
     {
         self.count();
         let n = self.glass.all(found)?;
-        // That what is known lies in the schema comes to light at its length, here and below.
+        // Called for its clause that what is known lies in the schema.
         let _ = self.glass.front();
         Ok(n)
     }
@@ -124,7 +124,7 @@ impl<T: Sheet<J>, J: Naming + BoxNames> Seat<T, J> {
         Ok(n)
     }
 
-    // That no count is past its type's end, and that what is known is sound, comes to light here.
+    // Called for its clauses that no count is past its type's end, and that what is known is sound.
     pub(crate) fn count(&self)
         ensures reads { self.now.glass.reads ≤ last_count }
         ensures shuts { self.now.glass.shuts ≤ last_count }

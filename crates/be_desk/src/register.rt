@@ -60,7 +60,7 @@ impl Register {
         ensures put { OnOk result (IsRegister self.new (with_row list.now.list row.now)) }
         ensures refused { OnErr result (IsRegister self.new (live list.now.list)) }
     {
-        // That there are few rows comes to light at the list's length.
+        // Called for its clause that there are few rows.
         let _ = list.len();
         self.filed.put(row)?;
         self.count += 1;
@@ -99,7 +99,7 @@ impl Register {
         requires { IsRegister self.old (live list.now.list) }
         ensures { (n : ℕ) → IsRegister self.new (after_entry (live list.now.list) (length list.now.list) (left session.0 n)) }
     {
-        // That ids are small comes to light at the list's length.
+        // Called for its clause that ids are small.
         let _ = list.len();
         if self.filed.has_only(Wanted::Of(session)) {
             self.filed.clear();
@@ -167,7 +167,7 @@ impl Register {
         requires filed { IsRegister self.now (live list.now.list) }
         ensures { MatchOption result (find (wants wanted.entry) (live list.now.list) ≡ None) (λ r. find (wants wanted.entry) (live list.now.list) ≡ Some (r.0, arc_value r.1.now)) }
     {
-        // That ids are small comes to light at the list's length.
+        // Called for its clause that ids are small.
         let _ = list.len();
         let mut from = 0;
         while let Some(id) = self.filed.next(wanted, key, from) {

@@ -77,7 +77,7 @@ impl<T: Sheet<J>, J: Naming + BoxNames> Seat<T, J> {
         requires session { session.0 ≡ passes.seat + 1 }
         ensures { result ≡ new_seat glass.known session.0 passes }
     {
-        // That the seat is one of those that have a mailbox comes to light at its number.
+        // Called for its clause that the seat is one of those that have a mailbox.
         let _ = passes.seat();
         Seat {
             session,

@@ -72,7 +72,7 @@ fn is_due(log: &ChangeLog, number: u64, change: &Change) -> bool
     requires { number ≡ stand (session_of (entry_of change.now)) log.now.list }
     ensures { IsTrue result ↔ IsNext (session_of (entry_of change.now)) log.now.list (serial_of (entry_of change.now)) }
 {
-    // How long the list may be comes to light at its length.
+    // Called for its clause on how long the list may be.
     let _ = log.len();
     if number == COUNT_END {
         return false;
@@ -106,7 +106,7 @@ fn may_add<F: FeedList>(list: &F, session: SessionNo, row: &Row) -> bool
 fn may_remove<F: FeedList>(list: &F, session: SessionNo, name: &Name) -> bool
     ensures { IsTrue result ↔ (is_live_name_of session.0 name.now (live (F.list list.now)) ≡ true) }
 {
-    // That the list is well formed comes to light at its changes.
+    // Called for its clause that the list is well formed.
     let _ = list.log();
     match list.owner(name) {
         Some(owner) => owner.0 == session.0,

@@ -70,7 +70,7 @@ impl<I: Index> Followed<I> {
         ensures refused { OnErr result (changes.new.items ≡ changes.old.items) }
         ensures sound { Sound (I.schema self.now.index) self.now.list }
     {
-        // That the list is well formed and lies in the schema comes to light here.
+        // Called for its clause that the list is well formed and lies in the schema.
         let _ = self.len();
         let _ = self.copy.log();
         self.copy.tail(from, max, changes)
@@ -109,7 +109,7 @@ impl<I: Index> FeedList for Followed<I> {
     }
 
     fn append(&mut self, change: Arc<Change>) -> Result<(), NoMemory> {
-        // How long the list may be comes to light at its length.
+        // Called for its clause on how long the list may be.
         let _ = self.copy.log().len();
         let session = session_of(&change);
         let stand = stand_by(&change);

@@ -86,7 +86,7 @@ impl<'a, T: Sheet<J>, J: Naming + BoxNames, S: Post, R: Wait, const TENDS: u8> D
         requires lies { ask_lies J.schema ask ≡ true }
         ensures { Asked (board_of (min TENDS 1) J.schema self.old.calls self.old.seat) (board_of (min TENDS 1) J.schema self.new.calls self.new.seat) (request_of ask) result }
     {
-        // That the count isn't past its type's end comes to light here.
+        // Called for its clause that the count isn't past its type's end.
         let _ = self.seat.splits();
         let hub = self.hub;
         let mut guard = hub.desk.lock(self.rt);

@@ -88,7 +88,7 @@ fn compare<T: Sheet<J>, J: Naming + BoxNames, S: Post, R: Wait>(
     ensures letters { IfOk result (λ _. AreInOrder S.schema S.found J.boxes seats.items) }
     ensures fault { IfErr result (λ fault. IsFault J.boxes desk.now.published desk.now.list seats.items fault) }
 {
-    // That the list is well formed comes to light at its length.
+    // Called for its clause that the list is well formed.
     let _ = desk.len();
     let Ok(found) = desk.check_records(&seats) else {
         return Err(CloseFault::NoMemory);
@@ -97,7 +97,7 @@ fn compare<T: Sheet<J>, J: Naming + BoxNames, S: Post, R: Wait>(
     match found {
         Some(stray) => Err(CloseFault::Stray(stray)),
         None => {
-            // How many mailboxes there are comes to light here.
+            // Called for its clause on how many mailboxes there are.
             let _ = mail.seats();
             mail.settle(passes);
             Ok(())
@@ -142,7 +142,7 @@ fn part<T: Sheet<J>, J: Naming + BoxNames, R: Wait>(
     ensures shown { IfOk result (λ _. IsShown J.boxes desk.now.published seat) }
     ensures ahead { IfErr result (λ rift. IsAhead desk.now.published (numbers_of rift) seat) }
 {
-    // What its type keeps of its letters comes to light here.
+    // Called for what its type keeps of its letters.
     let _ = seat.session();
     let mut seat = seat;
     desk.show(rt, &mut seat);
@@ -150,7 +150,7 @@ fn part<T: Sheet<J>, J: Naming + BoxNames, R: Wait>(
         Some(rift) => Err(rift),
         None => {
             let passes = seat.into_passes();
-            // That each mailbox has its list comes to light here.
+            // Called for its clause that each mailbox has its list.
             let _ = passes.seat();
             Ok(passes)
         }

@@ -126,7 +126,7 @@ fn left_by<T: Sheet<J>, J: Naming + BoxNames>(
             end: _,
             asked: _,
         } = end;
-        // What its type keeps comes to light here.
+        // Called for what its type keeps.
         let _ = seat.session();
         shade = shade.or(seat.shade());
         if seats.push(seat).is_err() || transcripts.push(transcript).is_err() {

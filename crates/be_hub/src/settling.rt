@@ -102,7 +102,7 @@ fn part_links<T: Sheet<J>, J: Naming + BoxNames, L: Link + Drop>(
             asked: _,
             between: _,
         } = end;
-        // What its type keeps comes to light here.
+        // Called for what its type keeps.
         let _ = seat.session();
         sums.add(&count.sums());
         shade = shade.or(seat.shade());

@@ -15,12 +15,6 @@ hits_append of e xs ys = ap (map of) (filter-append (λ (row : Row). satisfies e
 pub adds_none : {X : Type 0} (a : Held X) → Adds a a []
 adds_none a = record { put = sym (append-nil a.items); kept = omega arith }
 
-pub adds_both : {X : Type 0} (a b c : Held X) (xs ys : List X) → Adds a b xs → Adds b c ys → Adds a c (xs ++ ys)
-adds_both a b c xs ys h k = record {
-  put = k.put ∙ ap (λ r. r ++ ys) h.put ∙ append_assoc a.items xs ys;
-  kept = omega (arith, h.kept, k.kept, length-append xs ys);
-}
-
 pub grows_both : {X : Type 0} (a b c : Held X) → Grows a b → Grows b c → Grows a c
 grows_both a b c h k = record { front = BeginsWith-along c.items b.items a.items k.front h.front; room = omega (arith, h.room, k.room) }
 

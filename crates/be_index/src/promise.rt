@@ -135,8 +135,8 @@ pub trait Index: Drop {
         ensures plan { IfOk result (λ step. step ≡ planned self.now) }
         ensures stands { IfSome (planned self.now) (λ step. can_step self.now step ≡ true) };
 
-    /// A step that stands, where one is found among those of about so many rows. The look begins at a place among the rows, or at the
-    /// first where there is none, and leaves the place where the next one begins: none, where it came to the last.
+    /// A step that stands, where one is found among those of about so many rows. The look begins at the node of a path, or at the
+    /// first where there is none, and leaves the path where the next one begins: none, where it came to the last.
     fn look_on(&self, from: &mut Option<Path>, most: u64) -> Result<Option<Step>, NoMemory>
         ensures stands { IfOk result (λ found. IfSome found (λ step. can_step self.now step ≡ true)) }
         ensures refused { OnErr result (from.new ≡ from.old) };

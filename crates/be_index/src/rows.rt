@@ -217,7 +217,7 @@ fn push_wanted<C: Hits>(row: &Arc<Row>, wanted: Wanted<'_>, found: &mut C) -> Re
 fn count_covered(rows: &BTreeMap<u64, Arc<Row>>, event: &Event) -> u64
     ensures { result ≡ count_by (is_covered event.now) (rows_of (map_in rows.now.entries)) }
 {
-    // That the count fits comes to light at the length of the map.
+    // It is asked for its clause that the count fits.
     let _ = rows.len();
     let mut count = 0;
     for (_, row) in rows {

@@ -11,8 +11,8 @@ use Rattle.be_shape.specs.declared.nodes.Node.{Node}
 use Rattle.be_shape.specs.declared.nodes.Part.{Part}
 use Rattle.be_shape.specs.declared.nodes.Node.TheViews.{out-Node}
 use Rattle.be_shape.specs.Plain.{Half, no_half, half, leaf_of, plain, parts_as, half_as}
-use Rattle.be_shape.specs.Shape.{NodeRange}
-use Rattle.be_shape.specs.Search.{visited, visited_in_parts, all_of}
+use Rattle.be_shape.specs.Shape.{NodeRange, lower, upper}
+use Rattle.be_shape.specs.Search.{visited, visited_in_parts, visited_in_half, all_of}
 use Rattle.be_index.specs.Puts.{Held, Adds, Grows, hits_of}
 use Rattle.be_index.proofs.Adding.{IsUnderway, adds_none, underway_next}
 use Rattle.be_match.specs.Ahead.{ahead_below, ahead_in_parts, ahead_in_half, CountsOthers, AreOthersCountable}
@@ -142,7 +142,7 @@ none_entered no_half = refl
 none_entered (half n) = refl
 
 -- where both are entered
-pub both_ahead : (n : Node) (x y : Bool) → beq x y ≡ true → x ≡ true → ahead_in_halves x y n ≡ ahead_in_halves true true n
+both_ahead : (n : Node) (x y : Bool) → beq x y ≡ true → x ≡ true → ahead_in_halves x y n ≡ ahead_in_halves true true n
 both_ahead n true true alike entered = refl
 both_ahead n true false alike entered = absurd (cc)
 both_ahead n false y alike entered = absurd (cc)
@@ -151,6 +151,25 @@ both_ahead n false y alike entered = absurd (cc)
 pub where_both : (w : Bool) (f g : List (List Row)) → cond w (f ++ g) [] ≡ cond w f [] ++ cond w g []
 where_both true f g = refl
 where_both false f g = refl
+
+-- those of the halves, where both are entered
+pub halves_front : (n : Node) (x y w : Bool) → beq x y ≡ true → x ≡ true
+    → cond w (ahead_in_halves x y n) [] ≡ cond w (ahead_in_half true (half_as (out-Node n).low)) [] ++ cond w (ahead_in_half true (half_as (out-Node n).high)) []
+halves_front n x y w alike entered = ap (λ f. cond w f []) (both_ahead n x y alike entered) ∙ where_both w (ahead_in_half true (half_as (out-Node n).low)) (ahead_in_half true (half_as (out-Node n).high))
+
+-- the low half was visited too: the high one is still to be visited
+pub high_left : {X : Type 0} (of : Row → X) (e : Assignments) (s : Attributes) (r lo : NodeRange) (n : Node) (x y w : Bool) (a b b1 : Held X) (c d d1 : Cost) (before all : List (List Row))
+    → IsDescending of e a b c d before all (cond w (ahead_in_halves x y n) []) (visited_in_halves s e r n) → beq x y ≡ true → x ≡ true → lo ≡ lower r
+    → CountsOthers d d1 (cond w (ahead_in_half true (half_as (out-Node n).low)) []) (visited_in_half s e lo (half_as (out-Node n).low)) → Adds b b1 (hits_of of e (all_of (visited_in_half s e lo (half_as (out-Node n).low))))
+    → Grows b b1 → IsDescending of e a b1 c d1 before all (cond w (ahead_in_half true (half_as (out-Node n).high)) []) (visited_in_half s e (upper r) (half_as (out-Node n).high))
+high_left of e s r lo n x y w a b b1 c d d1 before all h alike entered is k put grown =
+    let fl = cond w (ahead_in_half true (half_as (out-Node n).low)) [] in
+    let fh = cond w (ahead_in_half true (half_as (out-Node n).high)) [] in
+    let l = visited_in_half s e (lower r) (half_as (out-Node n).low) in
+    let u = visited_in_half s e (upper r) (half_as (out-Node n).high) in
+    let low_cost : CountsOthers d d1 fl l = subst (λ q. CountsOthers d d1 fl (visited_in_half s e q (half_as (out-Node n).low))) is k in
+    let low_put : Adds b b1 (hits_of of e (all_of l)) = subst (λ q. Adds b b1 (hits_of of e (all_of (visited_in_half s e q (half_as (out-Node n).low))))) is put in
+    first_done of e a b b1 c d d1 before all (cond w (ahead_in_halves x y n) []) (visited_in_halves s e r n) fl fh l u h (halves_front n x y w alike entered) refl low_cost low_put grown
 
 -- where there are none, none is counted ahead
 pub where_none : (w : Bool) (f : List (List Row)) → f ≡ [] → cond w f [] ≡ []

@@ -4,7 +4,7 @@ use Rattle.be_model.specs.declared.changes.Row.{Row}
 use Rattle.be_model.specs.Matching.{Assignments}
 use Rattle.be_shape.specs.Search.{all_of}
 use Rattle.be_index.specs.Puts.{Held, Adds, hits_of}
-use Rattle.be_index.proofs.Adding.{adds_both, hits_append}
+use Rattle.be_index.proofs.Adding.{hits_append}
 use Rattle.be_match.proofs.Sizes.{all_of_append}
 
 -- what is put of two lists of leaves
@@ -15,16 +15,9 @@ hits_leaves of e xs ys = ap (hits_of of e) (all_of_append xs ys) ∙ hits_append
 pub hits_levels : {X : Type 0} (of : Row → X) (e : Assignments) (leaf : List Row) (p h : List (List Row)) → hits_of of e (all_of (leaf ∷ p ++ h)) ≡ hits_of of e leaf ++ (hits_of of e (all_of p) ++ hits_of of e (all_of h))
 hits_levels of e leaf p h = hits_append of e leaf (all_of (p ++ h)) ∙ ap (λ q. hits_of of e leaf ++ q) (hits_leaves of e p h)
 
-pub put_both : {X : Type 0} (of : Row → X) (e : Assignments) (a b c : Held X) (xs ys : List (List Row)) → Adds a b (hits_of of e (all_of xs)) → Adds b c (hits_of of e (all_of ys)) → Adds a c (hits_of of e (all_of (xs ++ ys)))
-put_both of e a b c xs ys x y = subst (Adds a c) (sym (hits_leaves of e xs ys)) (adds_both a b c (hits_of of e (all_of xs)) (hits_of of e (all_of ys)) x y)
-
--- where there is surely no room for what is put of one of two lists of leaves, there is none for both
+-- where there is surely no room for what is put of the first of two lists of leaves, there is none for both
 pub no_room_in_first : {X : Type 0} (of : Row → X) (e : Assignments) (a : Held X) (xs ys : List (List Row)) → a.sure < length (hits_of of e (all_of xs)) → a.sure < length (hits_of of e (all_of (xs ++ ys)))
 no_room_in_first of e a xs ys l = omega (arith, l, ap length (hits_leaves of e xs ys), length-append (hits_of of e (all_of xs)) (hits_of of e (all_of ys)))
-
-pub no_room_in_second : {X : Type 0} (of : Row → X) (e : Assignments) (a b : Held X) (xs ys : List (List Row)) → Adds a b (hits_of of e (all_of xs)) → b.sure < length (hits_of of e (all_of ys)) → a.sure < length (hits_of of e (all_of (xs ++ ys)))
-no_room_in_second of e a b xs ys x l =
-    omega (arith, l, x.kept, ap length (hits_leaves of e xs ys), length-append (hits_of of e (all_of xs)) (hits_of of e (all_of ys)))
 
 -- where there is none for the leaf or for the parts, there is none for the node
 pub record NoRoomInNode {X : Type 0} (of : Row → X) (e : Assignments) (a b : Held X) (leaf : List Row) (p h : List (List Row)) : Type 0 where

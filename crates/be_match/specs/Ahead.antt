@@ -21,11 +21,11 @@ abbrev pub ahead_below : Assignments → Bool → Bool → Plain → List (List 
 ahead_below e in_low in_high (node rows parts low high) = ahead_in_parts e parts ++ ahead_in_half in_low low ++ ahead_in_half in_high high
 
 -- the cost grew by what the leaves cost, less what those cost that were counted before
-pub record CountsOthers (was is : Cost) (ahead leaves : List (List Row)) : Type 0 where
-  pub visits : is.visits + length ahead ≡ was.visits + length leaves
-  pub tested : is.tested + length (all_of ahead) ≡ was.tested + length (all_of leaves)
+pub record CountsOthers (was is : Cost) (before leaves : List (List Row)) : Type 0 where
+  pub visits : is.visits + length before ≡ was.visits + length leaves
+  pub tested : is.tested + length (all_of before) ≡ was.tested + length (all_of leaves)
 
 -- 64 bits count the leaves too that weren't counted before
-pub record AreOthersCountable (c : Cost) (ahead leaves : List (List Row)) : Type 0 where
-  pub few : c.visits + length leaves < 2 ^ 64 + length ahead
-  pub few_rows : c.tested + length (all_of leaves) < 2 ^ 64 + length (all_of ahead)
+pub record AreOthersCountable (c : Cost) (before leaves : List (List Row)) : Type 0 where
+  pub few : c.visits + length leaves < 2 ^ 64 + length before
+  pub few_rows : c.tested + length (all_of leaves) < 2 ^ 64 + length (all_of before)

@@ -30,6 +30,7 @@ pub fn find_in<C: Hits>(t: &Tree, e: &Event, found: &mut C) -> Result<Cost, NoMe
     // Each found row takes up no more than its own place.
     ensures kept { KeepsPlaces (C.held found.old) (C.held found.new) }
 {
+    // Called so that the proof knows how many attributes there are, and the form of the event.
     let _ = t.schema.count();
     let _ = e.items();
     let before = found.count();
@@ -55,6 +56,7 @@ pub fn cost_of(t: &Tree, e: &Event) -> Cost
     ensures tested { result.tested ≡ tested (arc_value t.now.schema) e.now (plain t.now.root) }
     ensures bound { IsWithinBound (arc_value t.now.schema) e.now (rows_of (contents (plain t.now.root))) result }
 {
+    // Called so that the proof knows how many attributes there are, and the form of the event.
     let _ = t.schema.count();
     let _ = e.items();
     node_cost(&t.root, &t.schema, e, None)

@@ -23,8 +23,8 @@ use be_shape::{
 };
 use std::sync::Arc;
 
-/// At a node where a search has counted so many, it counts those below ahead. A search that comes to so many is one of a large tree,
-/// and the nodes of a small tree stand in the processor's caches.
+// At a node where a search has counted so many, it counts those below ahead. A search that comes to so many is one of a large tree,
+// and the nodes of a small tree stand in the processor's caches.
 const MANY_NODES: u64 = 256;
 
 // Appends what the event satisfies in a node and in all below it. The leaf of the node is counted before. Where one half alone holds a
@@ -252,6 +252,7 @@ fn put_met<C: Hits>(
 {
     let id = columns.id(at);
     if !found.put_id(id)? {
+        // Called so that the proof knows how long a leaf can be.
         let _ = leaf.len();
         found.put(id, leaf.row(from + usize::from(at)))?;
     }
@@ -273,6 +274,7 @@ fn search_places<C: Hits>(
 {
     let mut chosen: Chosen = NONE_CHOSEN;
     let count = leaf.choose(from, e, &mut chosen);
+    // Called so that the proof knows how long a leaf can be.
     let _ = leaf.len();
     for i in 0..count {
         let choice = chosen[i];

@@ -44,7 +44,7 @@ pub fn dumped<T: Sheet<J>, J: Naming>(
 {
     room.reply.clear();
     let n = glass.all(&mut room.found)?;
-    // That what is known lies in the schema comes to light at its length, here and below.
+    // Called for its clause that what is known lies in the schema.
     let _ = glass.front();
     match write_rows(&mut room.reply, schema, n, room.found.rows()) {
         Ok(()) => Ok(()),

@@ -105,7 +105,7 @@ pub fn end_text(count: u64) -> ShortText
 pub fn note_head(n: u64, name: &Name) -> ShortText
     ensures { result.bytes ≡ ((codes "NOTE" ++ number n) ++ part name.now) ++ 32 ∷ [] }
 {
-    // How long a name is comes to light at a call on it.
+    // Called for its clause on how long a name is.
     let _form = name.bytes();
     let mut text = ShortText::new();
     push_one(&mut text, "NOTE", n);
@@ -170,7 +170,7 @@ fn push_named(text: &mut ShortText, word: &str, name: &Name)
     ensures exact { text.new.bytes ≡ word.now ++ part name.now }
     ensures short { length text.new.bytes ≤ 70 }
 {
-    // How long a name is comes to light at a call on it.
+    // Called for its clause on how long a name is.
     let _form = name.bytes();
     push(text, word);
     push(text, " ");

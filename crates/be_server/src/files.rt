@@ -59,7 +59,7 @@ pub(crate) fn load_schema<F: Shelf>(
 {
     let text = shelf.read_file(alloc, name)?;
     let schema = read_schema(alloc, text.as_slice())?;
-    // That a schema has its form comes to light at a call on it.
+    // Called for its clause that a schema has its form.
     let _form = schema.count();
     Ok(schema)
 }

@@ -70,7 +70,7 @@ fn serve<S: Source, K: Sink>(
     let Ok(mut board) = LocalBoard::open(alloc, BeTree::make(alloc, shared), rows) else {
         return SessionEnd::NoMemory;
     };
-    // That the list keeps the board's word comes to light at the list.
+    // Called for its clause that the list keeps the board's word.
     let _ = board.log();
     let end = serve_pair(alloc, &schema, &mut board, input, out);
     // The program ends behind this, and the system takes the board's memory back at once.

@@ -51,7 +51,7 @@ pub fn serve_link<B: Board, L: Link, G: Gate>(
     // All bytes that the link gives from first to last, and the objects that it borrows, are the same ones.
     ensures beside { KeepsBeside (L.kept_by_read link.old) (L.kept_by_read link.new) }
 {
-    // That the session is somebody's, and that the list is well formed, comes to light at a call on the board.
+    // Called for its clauses that the session is somebody's, and that the list is well formed.
     let _left = board.left();
     let mut room = Room::make(alloc);
     let mut session = Session {

@@ -21,7 +21,7 @@ pub record AreTwo (x z : ℤ) (ends : ℤ × ℤ) : Type 0 where
   pub high : ends.1 ≡ z
   pub small : z <ℤ greatest
 
--- these slots refuse what is strictly between two numbers of the set
+-- these slots refuse what is strictly between two neighbouring numbers of the set, and let the numbers themselves pass
 abbrev pub AreGaps : List ℤ → ℤ × ℤ → Slot × Slot → Type 0
 AreGaps [] ends gaps = ⊥
 AreGaps (x ∷ []) ends gaps = ⊥

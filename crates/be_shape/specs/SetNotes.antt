@@ -7,7 +7,8 @@ use Rattle.be_model.specs.Schemas.{numbered}
 use Rattle.be_shape.specs.Lanes.{raised, slot_of, Slot, Lane, Few, seen, is_single, are_single}
 use Rattle.be_shape.specs.Listed.{low_part}
 
--- the value that is seen is one of the ends of the slot, or has the lower bits of the number between them
+-- the value that is seen is one of the ends of the slot, or has these lower bits: those of the middle one of three numbers, or of the
+-- first of fewer
 abbrev pub may_be : Slot → ℕ → ℕ → Bool
 may_be slot middle x = (x == slot.0) || (x == (slot.0 + slot.1) % 4294967296) || (low_part x == middle)
 
@@ -27,7 +28,7 @@ passes_at at middle t e =
     if at == 1 then passes_set e middle t.first
     else (if at == 2 then passes_set e middle t.second else (if at == 3 then passes_set e middle t.third else true))
 
--- the same of what a set note says: the place of a lane, and the lower bits of the number between its ends
+-- the same of what a set note says: the place of a lane, and these bits
 abbrev pub passes_note : ℕ → Few → Assignments → Bool
 passes_note set_note t e = passes_at (set_note / 64) (set_note % 64) t e
 

@@ -26,8 +26,7 @@ use std::sync::Arc;
 pub(crate) const WIDE: u32 = 16777215;
 
 /// What a place has: a blank, or a row with its id, its set note and its lanes. The id takes 24 bits of `note`, and the set note 8.
-/// How much the lanes are of the row is told by the variant, as then a place takes 40 bytes; the fields stand in this order for the
-/// same.
+/// How much of the row the lanes are is told by the variant: so, and with the fields in this order, a place takes 40 bytes.
 #[derive(Drop)]
 pub(crate) enum Held {
     Blank,
@@ -183,7 +182,7 @@ impl Held {
         self.note() / 256
     }
 
-    // Which lane is of a small set, and the lower bits of the number between its ends.
+    // Which lane is of a small set, and the lower bits of the set's middle number, or of its first where it has fewer than three.
     fn set_note(&self) -> u8
         requires { IsSome (row_of self.now) }
         ensures { result ≡ set_note_of self.now }

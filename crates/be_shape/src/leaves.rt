@@ -46,7 +46,7 @@ pub type Chosen = [Choice; BLOCK];
 /// No place yet. A search fills its own in place.
 pub const NONE_CHOSEN: Chosen = [Choice { at: 0, sure: false }; BLOCK];
 
-/// Rows in some order. Up to 17 stand in place. What is asked of a leaf before its rows stands before them.
+/// Rows in some order. Up to 17 stand in place. The fields that a search reads before the rows stand before them.
 #[derive(Drop)]
 pub struct Leaf {
     count: usize,
@@ -79,7 +79,7 @@ pub(crate) fn kept_at(places: &[Kept], place: usize) -> &Kept
     &places[place]
 }
 
-// Chooses among so many places from one on. Whether the event is of single values stands in `exact`: each call says it for sure, so
+// Chooses among so many places from one on. Whether the event is of single values stands in `exact`: each call passes a constant, so
 // that the loop doesn't ask.
 #[inline(always)]
 fn choose_among(
@@ -223,7 +223,7 @@ impl Leaf {
         self.common
     }
 
-    /// Looks which these attributes are. Where a row was put or taken they aren't told until then.
+    /// Looks which these attributes are. `put` and `take` forget them.
     pub fn note_common(&mut self)
         ensures { self.new ≡ self.old }
     {

@@ -16,7 +16,7 @@ pub enum RowAttrs {
 }
 
 impl RowAttrs {
-    /// Whether they aren't listed.
+    /// Whether they aren't told.
     pub fn is_many(self) -> bool
         ensures { result ≡ is_many self }
     {

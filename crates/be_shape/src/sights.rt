@@ -185,8 +185,8 @@ impl<'a> Sight<'a> {
         first & (second & third)
     }
 
-    /// Whether what is seen of the attribute's values may be in the set whose ends are those of the slot, and whose number between
-    /// them has these lower bits.
+    /// Whether what is seen of the attribute's values may be in the set whose ends are those of the slot, and of which `middle_of` is
+    /// `middle`.
     pub(crate) fn may_be(&self, a: u8, slot: Slot, middle: u8) -> bool
         ensures { result ≡ passes_set self.now middle (a, slot) }
     {

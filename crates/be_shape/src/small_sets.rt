@@ -61,8 +61,8 @@ fn low_part(n: u32) -> u8
     (n % 64) as u8
 }
 
-/// Whether the value that is seen may be in the set whose ends are those of the slot, and whose number between them has these lower
-/// bits. No end is left out, since which of them it is can't be foreseen.
+/// Whether the value that is seen may be in the set whose ends are those of the slot, and of which `middle_of` is `middle`. No end is
+/// left out, since which of them it is can't be foreseen.
 pub(crate) fn may_be(slot: Slot, middle: u8, x: u32) -> bool
     ensures { result ≡ may_be slot middle x }
 {

@@ -102,7 +102,7 @@ impl Tally {
     }
 }
 
-// Whether the row, which stands at this place of the leaf, has more attributes than are listed.
+// Whether the place, at which the row stands, doesn't tell its attributes.
 #[tactic(auto, using(std::proofs::lemmas::Option::slice_get_within))]
 fn lists_many(leaf: &Leaf, place: usize, row: &Row) -> bool
     requires { slice_get leaf.now place ≡ Some row.now }
@@ -111,7 +111,7 @@ fn lists_many(leaf: &Leaf, place: usize, row: &Row) -> bool
     leaf.attrs(place).is_many()
 }
 
-// How many rows of the leaf have more attributes than are listed.
+// Of how many rows of the leaf the attributes aren't told.
 fn count_many(leaf: &Leaf) -> usize
     ensures { result ≡ count_by lists_many leaf.now }
 {

@@ -47,7 +47,7 @@ fn seats_of<T: Sheet<J>, J: Naming + BoxNames>(
             end: _,
             asked: _,
         } = end;
-        // What its type keeps comes to light here.
+        // Called for what its type keeps.
         let _ = seat.session();
         if seats.push(seat).is_err() {
             return None;

@@ -75,7 +75,7 @@ impl<B: Board> Board for BalkyBoard<B> {
     {
         self.leaves = self.leaves.saturating_add(1);
         if self.refuse.contains(&self.leaves) {
-            // That what is known is well formed comes to light here.
+            // Called for its clause that what is known is well formed.
             let _ = self.board.left();
             return Answer::NoMemory;
         }

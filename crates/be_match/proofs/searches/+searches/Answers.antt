@@ -11,10 +11,10 @@ use Rattle.be_match.specs.Ahead.{AreOthersCountable, CountsOthers, ahead_in_part
 use Rattle.be_match.specs.Leaves.{AreCountableWith, cost_with}
 use Rattle.be_index.specs.Puts.{Adds, hits_of}
 use Rattle.be_index.proofs.Adding.{on_refusal, grows_both, underway_refused}
-use Rattle.be_match.proofs.Fronts.{hits_leaves, no_room_in_first, no_room_in_node, no_room_in_second, put_both}
+use Rattle.be_match.proofs.Fronts.{hits_leaves, no_room_in_first, no_room_in_node}
 use Rattle.be_match.proofs.Halves.{visited_in_halves, leaf_and_below, of_either, one_passes, same, in_chosen, in_neither}
 use Rattle.be_match.proofs.Sizes.{visited_from}
-use Rattle.be_match.proofs.Descents.{IsDescending, descent_begins, rest_countable, rest_put, rest_counted, rest_refused, first_done, first_countable, ahead_in_halves, halves_left, both_ahead, where_both, where_none, neither_ahead, chosen_ahead, nothing_put, nothing_counted}
+use Rattle.be_match.proofs.Descents.{IsDescending, descent_begins, rest_countable, rest_put, rest_counted, rest_refused, first_done, first_countable, ahead_in_halves, halves_left, halves_front, high_left, where_both, where_none, neither_ahead, chosen_ahead, nothing_put, nothing_counted}
 use Rattle.be_match.proofs.AheadSizes.{leaf_no_more, where_no_more, ahead_countable, ahead_from, half_no_more, parts_no_more}
 use Rattle.be_match.proofs.Counted.{parts_others_countable, part_others_countable}
 use Rattle.be_match.proofs.Entered.{entered_countable, entered_others, entered_descent}
@@ -119,7 +119,7 @@ search_node-search_half-requires g t c =
     let w = counts_ahead now in
     let fl = ahead_in_half true (half_as (out-Node n).low) in
     let fh = ahead_in_half true (half_as (out-Node n).high) in
-    let front : cond w (ahead_in_halves b.result d.result n) [] ≡ cond w fl [] ++ cond w fh [] = ap (λ f. cond w f []) (both_ahead n b.result d.result c.if-in_low-in_high.true c.if-in_low.true) ∙ where_both w fl fh in
+    let front = halves_front n b.result d.result w c.if-in_low-in_high.true c.if-in_low.true in
     let few = where_no_more w fh h (half_no_more s e (upper r) (half_as (out-Node n).high) true (sym (same b.result d.result c.if-in_low-in_high.true ∙ c.if-in_low.true) ∙ d.ensures.value ∙ ap (holds_value e) hi.ensures.range)) in
     let counted : AreOthersCountable is (cond w fl []) (visited_in_half s e lo.result (half_as (out-Node n).low)) =
     subst (λ q. AreOthersCountable is (cond w fl []) (visited_in_half s e q (half_as (out-Node n).low))) (sym lo.ensures.range)
@@ -134,7 +134,6 @@ search_node-returns-in_err-search_half-clause-refused g t c =
     let r = c.loop-found.within in
     let n = c.loop-found.here.now in
     let of = g.C.Hits.item_of in
-    let now = c.loop-found.cost in
     let r3 = g.C.Hits.held c.search_parts.new.found in
     let below = halves_left _ _ _ _ _ _ _ _ _ _ _ _ _ _ _ _ _ _ _ c.loop-found.invariant.3 c.as_slice.ensures.value c.count_ahead.ensures c.in_ok-search_parts.ensures.cost c.in_ok-search_leaf.ensures.put c.in_ok-search_leaf.ensures.grown c.in_ok-search_parts.ensures.put c.in_ok-search_parts.ensures.grown in
     let lo = c.lower_range-lower in
@@ -152,26 +151,14 @@ search_node-search_half-requires-then-in_low g t c =
     let e = c.args.e.now in
     let r = c.loop-found.within in
     let n = c.loop-found.here.now in
-    let now = c.loop-found.cost in
-    let is = c.search_parts.new.cost in
     let below = halves_left _ _ _ _ _ _ _ _ _ _ _ _ _ _ _ _ _ _ _ c.loop-found.invariant.3 c.as_slice.ensures.value c.count_ahead.ensures c.in_ok-search_parts.ensures.cost c.in_ok-search_leaf.ensures.put c.in_ok-search_leaf.ensures.grown c.in_ok-search_parts.ensures.put c.in_ok-search_parts.ensures.grown in
-    let lo = c.lower_range-lower in
+    let left = high_left g.C.Hits.item_of e s r c.lower_range-lower.result n _ _ (counts_ahead c.loop-found.cost) _ _ _ _ _ _ _ _ below c.if-in_low-in_high.true c.if-in_low.true c.lower_range-lower.ensures.range c.in_ok-search_half.ensures.cost c.in_ok-search_half.ensures.put c.in_ok-search_half.ensures.grown in
     let hi = c.upper_range-upper in
-    let b = c.holds_value-in_low in
     let d = c.holds_value-in_high in
-    let l = visited_in_half s e (lower r) (half_as (out-Node n).low) in
-    let h = visited_in_half s e (upper r) (half_as (out-Node n).high) in
-    let w = counts_ahead now in
-    let fl = ahead_in_half true (half_as (out-Node n).low) in
+    let w = counts_ahead c.loop-found.cost in
     let fh = ahead_in_half true (half_as (out-Node n).high) in
-    let front : cond w (ahead_in_halves b.result d.result n) [] ≡ cond w fl [] ++ cond w fh [] = ap (λ f. cond w f []) (both_ahead n b.result d.result c.if-in_low-in_high.true c.if-in_low.true) ∙ where_both w fl fh in
-    let r3 = g.C.Hits.held c.search_parts.new.found in
-    let r4 = g.C.Hits.held c.search_half.new.found in
-    let low_put = subst (λ q. Adds r3 r4 (hits_of g.C.Hits.item_of e (all_of (visited_in_half s e q (half_as (out-Node n).low))))) lo.ensures.range c.in_ok-search_half.ensures.put in
-    let low_cost = subst (λ q. CountsOthers is c.search_half.new.cost (cond w fl []) (visited_in_half s e q (half_as (out-Node n).low))) lo.ensures.range c.in_ok-search_half.ensures.cost in
-    let left = first_done _ _ _ _ _ _ _ _ _ _ _ _ _ _ _ _ below front refl low_cost low_put c.in_ok-search_half.ensures.grown in
     let low = c.search_half.new.cost in
-    let holds : d.result ≡ true = same b.result d.result c.if-in_low-in_high.true ∙ c.if-in_low.true in
+    let holds : d.result ≡ true = same c.holds_value-in_low.result d.result c.if-in_low-in_high.true ∙ c.if-in_low.true in
     let rising : is_rising hi.result ≡ true = d.ensures.rising holds in
     let held : holds_value e hi.result ≡ true = sym d.ensures.value ∙ holds in
     let counted : AreOthersCountable low (cond w fh []) (visited_in_half s e hi.result (half_as (out-Node n).high)) =
@@ -185,18 +172,11 @@ search_node-returns-in_err-search_half-2-clause-refused g t c =
     let e = c.args.e.now in
     let r = c.loop-found.within in
     let n = c.loop-found.here.now in
-    let of = g.C.Hits.item_of in
-    let now = c.loop-found.cost in
-    let r3 = g.C.Hits.held c.search_parts.new.found in
     let below = halves_left _ _ _ _ _ _ _ _ _ _ _ _ _ _ _ _ _ _ _ c.loop-found.invariant.3 c.as_slice.ensures.value c.count_ahead.ensures c.in_ok-search_parts.ensures.cost c.in_ok-search_leaf.ensures.put c.in_ok-search_leaf.ensures.grown c.in_ok-search_parts.ensures.put c.in_ok-search_parts.ensures.grown in
-    let lo = c.lower_range-lower in
-    let hi = c.upper_range-upper in
-    let l = visited_in_half s e (lower r) (half_as (out-Node n).low) in
-    let h = visited_in_half s e (upper r) (half_as (out-Node n).high) in
+    let left = high_left g.C.Hits.item_of e s r c.lower_range-lower.result n _ _ (counts_ahead c.loop-found.cost) _ _ _ _ _ _ _ _ below c.if-in_low-in_high.true c.if-in_low.true c.lower_range-lower.ensures.range c.in_ok-search_half.ensures.cost c.in_ok-search_half.ensures.put c.in_ok-search_half.ensures.grown in
     let r4 = g.C.Hits.held c.search_half.new.found in
-    let low = subst (λ q. Adds r3 r4 (hits_of of e (all_of (visited_in_half s e q (half_as (out-Node n).low))))) lo.ensures.range c.in_ok-search_half.ensures.put in
-    let at = subst (λ q. r4.sure < length (hits_of of e (all_of (visited_in_half s e q (half_as (out-Node n).high))))) hi.ensures.range c.in_err-search_half-2.ensures.refused in
-    on_refusal c.from_residual-in_err-search_half-2.result _ (rest_refused _ _ _ _ _ _ _ _ _ _ below (no_room_in_second of e r3 r4 l h low at))
+    let at = subst (λ q. r4.sure < length (hits_of g.C.Hits.item_of e (all_of (visited_in_half s e q (half_as (out-Node n).high))))) c.upper_range-upper.ensures.range c.in_err-search_half-2.ensures.refused in
+    on_refusal c.from_residual-in_err-search_half-2.result _ (rest_refused _ _ _ _ _ _ _ _ _ _ left at)
 
 pub search_node-returns-in_err-search_half-2-clause-grown : goal.search_node-returns-in_err-search_half-2-clause-grown
 search_node-returns-in_err-search_half-2-clause-grown g t c =
@@ -208,19 +188,12 @@ search_node-returns-in_ok-search_half-2-clause-put g t c =
     let e = c.args.e.now in
     let r = c.loop-found.within in
     let n = c.loop-found.here.now in
-    let of = g.C.Hits.item_of in
-    let now = c.loop-found.cost in
-    let r3 = g.C.Hits.held c.search_parts.new.found in
     let below = halves_left _ _ _ _ _ _ _ _ _ _ _ _ _ _ _ _ _ _ _ c.loop-found.invariant.3 c.as_slice.ensures.value c.count_ahead.ensures c.in_ok-search_parts.ensures.cost c.in_ok-search_leaf.ensures.put c.in_ok-search_leaf.ensures.grown c.in_ok-search_parts.ensures.put c.in_ok-search_parts.ensures.grown in
-    let lo = c.lower_range-lower in
-    let hi = c.upper_range-upper in
-    let l = visited_in_half s e (lower r) (half_as (out-Node n).low) in
-    let h = visited_in_half s e (upper r) (half_as (out-Node n).high) in
+    let left = high_left g.C.Hits.item_of e s r c.lower_range-lower.result n _ _ (counts_ahead c.loop-found.cost) _ _ _ _ _ _ _ _ below c.if-in_low-in_high.true c.if-in_low.true c.lower_range-lower.ensures.range c.in_ok-search_half.ensures.cost c.in_ok-search_half.ensures.put c.in_ok-search_half.ensures.grown in
     let r4 = g.C.Hits.held c.search_half.new.found in
-    let low = subst (λ q. Adds r3 r4 (hits_of of e (all_of (visited_in_half s e q (half_as (out-Node n).low))))) lo.ensures.range c.in_ok-search_half.ensures.put in
     let r5 = g.C.Hits.held c.search_half-then-in_low.new.found in
-    let high = subst (λ q. Adds r4 r5 (hits_of of e (all_of (visited_in_half s e q (half_as (out-Node n).high))))) hi.ensures.range c.in_ok-search_half-2.ensures.put in
-    rest_put _ _ _ _ _ _ _ _ _ _ _ below (put_both of e r3 r4 r5 l h low high)
+    let high = subst (λ q. Adds r4 r5 (hits_of g.C.Hits.item_of e (all_of (visited_in_half s e q (half_as (out-Node n).high))))) c.upper_range-upper.ensures.range c.in_ok-search_half-2.ensures.put in
+    rest_put _ _ _ _ _ _ _ _ _ _ _ left high
 
 pub search_node-returns-in_ok-search_half-2-clause-cost : goal.search_node-returns-in_ok-search_half-2-clause-cost
 search_node-returns-in_ok-search_half-2-clause-cost g t c =
@@ -228,26 +201,11 @@ search_node-returns-in_ok-search_half-2-clause-cost g t c =
     let e = c.args.e.now in
     let r = c.loop-found.within in
     let n = c.loop-found.here.now in
-    let now = c.loop-found.cost in
-    let is = c.search_parts.new.cost in
     let below = halves_left _ _ _ _ _ _ _ _ _ _ _ _ _ _ _ _ _ _ _ c.loop-found.invariant.3 c.as_slice.ensures.value c.count_ahead.ensures c.in_ok-search_parts.ensures.cost c.in_ok-search_leaf.ensures.put c.in_ok-search_leaf.ensures.grown c.in_ok-search_parts.ensures.put c.in_ok-search_parts.ensures.grown in
-    let lo = c.lower_range-lower in
-    let hi = c.upper_range-upper in
-    let l = visited_in_half s e (lower r) (half_as (out-Node n).low) in
-    let h = visited_in_half s e (upper r) (half_as (out-Node n).high) in
-    let b = c.holds_value-in_low in
-    let d = c.holds_value-in_high in
-    let w = counts_ahead now in
-    let fl = ahead_in_half true (half_as (out-Node n).low) in
-    let fh = ahead_in_half true (half_as (out-Node n).high) in
-    let front : cond w (ahead_in_halves b.result d.result n) [] ≡ cond w fl [] ++ cond w fh [] = ap (λ f. cond w f []) (both_ahead n b.result d.result c.if-in_low-in_high.true c.if-in_low.true) ∙ where_both w fl fh in
-    let r3 = g.C.Hits.held c.search_parts.new.found in
-    let r4 = g.C.Hits.held c.search_half.new.found in
-    let low_put = subst (λ q. Adds r3 r4 (hits_of g.C.Hits.item_of e (all_of (visited_in_half s e q (half_as (out-Node n).low))))) lo.ensures.range c.in_ok-search_half.ensures.put in
-    let low_cost = subst (λ q. CountsOthers is c.search_half.new.cost (cond w fl []) (visited_in_half s e q (half_as (out-Node n).low))) lo.ensures.range c.in_ok-search_half.ensures.cost in
-    let left = first_done _ _ _ _ _ _ _ _ _ _ _ _ _ _ _ _ below front refl low_cost low_put c.in_ok-search_half.ensures.grown in
-    let high_cost = subst (λ q. CountsOthers c.search_half.new.cost c.search_half-then-in_low.new.cost (cond w fh []) (visited_in_half s e q (half_as (out-Node n).high))) hi.ensures.range c.in_ok-search_half-2.ensures.cost in
-    rest_counted _ _ _ _ _ _ _ _ _ _ _ left high_cost
+    let left = high_left g.C.Hits.item_of e s r c.lower_range-lower.result n _ _ (counts_ahead c.loop-found.cost) _ _ _ _ _ _ _ _ below c.if-in_low-in_high.true c.if-in_low.true c.lower_range-lower.ensures.range c.in_ok-search_half.ensures.cost c.in_ok-search_half.ensures.put c.in_ok-search_half.ensures.grown in
+    let fh = cond (counts_ahead c.loop-found.cost) (ahead_in_half true (half_as (out-Node n).high)) [] in
+    let high = subst (λ q. CountsOthers c.search_half.new.cost c.search_half-then-in_low.new.cost fh (visited_in_half s e q (half_as (out-Node n).high))) c.upper_range-upper.ensures.range c.in_ok-search_half-2.ensures.cost in
+    rest_counted _ _ _ _ _ _ _ _ _ _ _ left high
 
 pub search_node-returns-in_ok-search_half-2-clause-grown : goal.search_node-returns-in_ok-search_half-2-clause-grown
 search_node-returns-in_ok-search_half-2-clause-grown g t c =
@@ -255,25 +213,15 @@ search_node-returns-in_ok-search_half-2-clause-grown g t c =
 
 pub search_node-returns-else-in_low-clause-put : goal.search_node-returns-else-in_low-clause-put
 search_node-returns-else-in_low-clause-put g t c =
-    let now = c.loop-found.cost in
     let below = halves_left _ _ _ _ _ _ _ _ _ _ _ _ _ _ _ _ _ _ _ c.loop-found.invariant.3 c.as_slice.ensures.value c.count_ahead.ensures c.in_ok-search_parts.ensures.cost c.in_ok-search_leaf.ensures.put c.in_ok-search_leaf.ensures.grown c.in_ok-search_parts.ensures.put c.in_ok-search_parts.ensures.grown in
-    let lo = c.lower_range-lower in
-    let hi = c.upper_range-upper in
-    let b = c.holds_value-in_low in
-    let d = c.holds_value-in_high in
-    let none = in_neither _ _ _ _ _ _ _ _ lo.ensures.range hi.ensures.range b.ensures.value d.ensures.value c.if-in_low-in_high.true c.if-in_low.false in
+    let none = in_neither _ _ _ _ _ _ _ _ c.lower_range-lower.ensures.range c.upper_range-upper.ensures.range c.holds_value-in_low.ensures.value c.holds_value-in_high.ensures.value c.if-in_low-in_high.true c.if-in_low.false in
     nothing_put _ _ _ _ _ _ _ _ _ _ below none
 
 pub search_node-returns-else-in_low-clause-cost : goal.search_node-returns-else-in_low-clause-cost
 search_node-returns-else-in_low-clause-cost g t c =
-    let now = c.loop-found.cost in
     let below = halves_left _ _ _ _ _ _ _ _ _ _ _ _ _ _ _ _ _ _ _ c.loop-found.invariant.3 c.as_slice.ensures.value c.count_ahead.ensures c.in_ok-search_parts.ensures.cost c.in_ok-search_leaf.ensures.put c.in_ok-search_leaf.ensures.grown c.in_ok-search_parts.ensures.put c.in_ok-search_parts.ensures.grown in
-    let lo = c.lower_range-lower in
-    let hi = c.upper_range-upper in
-    let b = c.holds_value-in_low in
-    let d = c.holds_value-in_high in
-    let none = in_neither _ _ _ _ _ _ _ _ lo.ensures.range hi.ensures.range b.ensures.value d.ensures.value c.if-in_low-in_high.true c.if-in_low.false in
-    let front = where_none (counts_ahead now) _ (neither_ahead c.loop-found.here.now b.result d.result c.if-in_low-in_high.true c.if-in_low.false) in
+    let none = in_neither _ _ _ _ _ _ _ _ c.lower_range-lower.ensures.range c.upper_range-upper.ensures.range c.holds_value-in_low.ensures.value c.holds_value-in_high.ensures.value c.if-in_low-in_high.true c.if-in_low.false in
+    let front = where_none (counts_ahead c.loop-found.cost) _ (neither_ahead c.loop-found.here.now c.holds_value-in_low.result c.holds_value-in_high.result c.if-in_low-in_high.true c.if-in_low.false) in
     nothing_counted _ _ _ _ _ _ _ _ _ _ below front none
 
 pub search_node-returns-else-in_low-clause-grown : goal.search_node-returns-else-in_low-clause-grown
@@ -283,7 +231,6 @@ pub search_node-returns-in-None-clause-put : goal.search_node-returns-in-None-cl
 search_node-returns-in-None-clause-put g t c =
     let s = c.args.s.now in
     let e = c.args.e.now in
-    let now = c.loop-found.cost in
     let below = halves_left _ _ _ _ _ _ _ _ _ _ _ _ _ _ _ _ _ _ _ c.loop-found.invariant.3 c.as_slice.ensures.value c.count_ahead.ensures c.in_ok-search_parts.ensures.cost c.in_ok-search_leaf.ensures.put c.in_ok-search_leaf.ensures.grown c.in_ok-search_parts.ensures.put c.in_ok-search_parts.ensures.grown in
     let lo = c.lower_range-lower in
     let hi = c.upper_range-upper in
