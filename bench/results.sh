@@ -14,7 +14,7 @@ failed=()
 
 for script in "${scripts[@]}"; do
     echo "$script .." >&2
-    timeout 400 bash "$top/bench/$script.sh" >"$room/$script.rows" || failed+=("$script")
+    timeout 900 bash "$top/bench/$script.sh" >"$room/$script.rows" || failed+=("$script")
 done
 
 processors() { echo "$(nproc) processors ($(awk -F ': ' '/^model name/ { print $2; exit }' /proc/cpuinfo))"; }
