@@ -69,6 +69,9 @@ pub const LINKS: u64 = 1000000;
 /// Letters or changes that one line asks for.
 pub const ASKED: u64 = 1000000;
 
+/// Milliseconds that one line waits, at most.
+pub const WAIT_MILLIS: u64 = 60000;
+
 /// Letters of a mailbox.
 pub const BOX_LETTERS: usize = 1024;
 
