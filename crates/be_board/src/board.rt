@@ -1,6 +1,6 @@
 //! The board, as a session sees it.
 
-ghost use Rattle.std.specs.Prelude.{◌≡◌, ◌≢◌, ◌++◌, [], true, false, length, option_map, All, IfOk, IfErr, IfSome, OnOk, OnErr, Err};
+ghost use Rattle.std.specs.Prelude.{◌≡◌, ◌≢◌, ◌++◌, [], true, false, length, option_map, All, IfOk, IfErr, IfSome, OnOk, OnErr, None, Err};
 ghost use Rattle.std.specs.Option.{IfNone};
 ghost use Rattle.be_base.specs.Counts.{HasRisen};
 ghost use Rattle.be_model.specs.Bounds.{IsWithinBound};
@@ -22,6 +22,7 @@ ghost use Rattle.be_board.specs.Letters.{IsLetterFor, Sends, RefusesSend, Posts,
 use crate::answers::{Answer, Sent};
 use be_base::{Name, NoRead};
 use be_index::Ids;
+use be_io::Sink;
 use be_model::{Change, Conj, Cost, Event, Found, Letter};
 use std::alloc::Global;
 use std::sync::Arc;
@@ -128,6 +129,21 @@ pub trait Board: Drop {
         // Each letter of a box that is told is one for the session.
         ensures holds { IfSome (state self.old).box (All (IsNoteFor (state self.old).word.session (state self.old).word.known)) }
         ensures empty { IfNone result (HasRisen (state self.old).counts.empties (state self.new).counts.empties) };
+
+    /// Whether others may put letters and change the list meanwhile, so that a wait for them is worth while. A board that tells its box
+    /// doesn't wait.
+    fn may_wait(&self) -> bool
+        ensures { result ≡ true → (state self.now).box ≡ None };
+
+    /// Waits until a letter lies in the session's mailbox, or so many milliseconds have passed, or whoever is answered through `out` has
+    /// sent more or is gone. No clause says that it ends then.
+    fn await_letter<K: Sink>(&mut self, millis: u64, out: &K)
+        ensures { state self.new ≡ state self.old };
+
+    /// Waits until the list that reads see has more changes than `place`, or so many milliseconds have passed, or whoever is answered
+    /// through `out` has sent more or is gone. No clause says that it ends then.
+    fn await_change<K: Sink>(&mut self, place: u64, millis: u64, out: &K)
+        ensures { state self.new ≡ state self.old };
 
     /// May change how the rows are kept.
     fn tend(&mut self)

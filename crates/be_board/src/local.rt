@@ -237,5 +237,13 @@ impl<I: Index> Board for LocalBoard<I> {
         }
     }
 
+    fn may_wait(&self) -> bool {
+        false
+    }
+
+    fn await_letter<K: Sink>(&mut self, _millis: u64, _out: &K) {}
+
+    fn await_change<K: Sink>(&mut self, _place: u64, _millis: u64, _out: &K) {}
+
     fn tend(&mut self) {}
 }

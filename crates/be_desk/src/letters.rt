@@ -23,6 +23,7 @@ use be_board::{Sent, make_letters};
 use be_mail::{BoxNames, Mail, Post};
 use be_model::{Event, Found, Letter};
 use be_published::{Naming, Sheet};
+use be_waiting::Bed;
 use std::alloc::Global;
 use std::sync::Wait;
 
@@ -132,6 +133,16 @@ impl<T: Sheet<J>, J: Naming + BoxNames> Seat<T, J> {
             }
         }
         unreachable!()
+    }
+
+    /// Waits until a letter lies in the seat's mailbox, or so many milliseconds have passed, or the bed is called. It takes no letter,
+    /// and no memory.
+    pub fn await_letter<S: Post, B: Bed>(&mut self, bed: &B, mail: &Mail<S>, millis: u64)
+        requires mail { mail.now ≡ J.boxes }
+        ensures { self.new ≡ self.old }
+    {
+        self.form();
+        mail.await_letter(bed, &mut self.passes, millis);
     }
 
     /// Takes out what is in the seat's mailbox, and gives none of it. It stops where the mailbox is empty at the step that

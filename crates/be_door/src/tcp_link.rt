@@ -5,7 +5,7 @@ ghost use Rattle.be_door.specs.Links.{no_numbers};
 
 use crate::meter::Meter;
 use be_io::{Failed, Link, Sink, SinkFault, Source};
-use std::io::{Read, Write};
+use std::io::{ErrorKind, Read, Write};
 use std::net::{Net, OpenStream};
 
 /// A connection of the system. Each read and each write is one call of the system, and what is written is sent at once. A
@@ -83,6 +83,20 @@ impl<R: Net> Sink for TcpLink<R> {
 
     fn flush(&mut self) -> Result<(), SinkFault> {
         Ok(())
+    }
+
+    fn hears(&self) -> bool {
+        if self.stream.set_nonblocking(true).is_err() {
+            return false;
+        }
+        let mut first = [0u8; 1];
+        let peeked = self.stream.peek(&mut first);
+        // Where the system refuses this, the next read fails, and that ends the session.
+        let _ = self.stream.set_nonblocking(false);
+        match peeked {
+            Ok(_) => true,
+            Err(error) => error.kind() != ErrorKind::WouldBlock,
+        }
     }
 }
 

@@ -94,7 +94,7 @@ impl<'a, I: Index> Replier for AskedFollower<'a, I> {
 
     ghost IsReady = { λ a. Unit {0} };
 
-    fn answer<K: Sink>(&mut self, text: &[u8], out: &mut K) -> Turn {
+    fn answer<K: Sink>(&mut self, text: &[u8], _ahead: bool, out: &mut K) -> Turn {
         match read_ask(self.follower.alloc(), self.follower.schema(), text) {
             Ok(ask) => answer(self.follower, &mut self.room, ask, out),
             Err(NoMemory) => want(out),

@@ -1,5 +1,5 @@
 -- Texts that are written in two pieces.
-use Rattle.std.proofs.Common.{ℕ, ◌+◌, ◌<◌, List, [], ◌++◌, length, get_or, take, drop, Result, Ok, Err, refl, sym, ap, ◌∙◌, subst, arith, append_assoc, length-append}
+use Rattle.std.proofs.Common.{ℕ, ◌+◌, ◌<◌, List, ◌++◌, length, get_or, take, drop, Result, Ok, Err, sym, ap, ◌∙◌, subst, arith, append_assoc, length-append}
 use Rattle.std.specs.List.{flat_map}
 use Rattle.std.proofs.lemmas.Grind.{flat_map-append}
 use Rattle.std.proofs.lemmas.List.{take-append-le, take-append-drop, take_more, flat_map_more}
@@ -9,7 +9,7 @@ use Rattle.be_io.specs.Told.{HoldsMore}
 use Rattle.be_io.specs.Sink.{SinkState, TookPart, Wrote}
 use Rattle.be_io.specs.declared.faults.SinkFault.{SinkFault}
 use Rattle.be_io.specs.declared.faults.SinkFault.TheVariants.{Failed, NoMemory}
-use Rattle.be_io.proofs.ToldLemmas.{HoldsMore-nil, HoldsMore-append}
+use Rattle.be_io.proofs.ToldLemmas.{HoldsMore-append}
 
 TookPart-append : (before middle after : SinkState) (front back : List ℕ) → HoldsMore before.held middle.held front → TookPart middle after back → TookPart before after (front ++ back)
 TookPart-append before middle after front back first (k, fewer, second) = (

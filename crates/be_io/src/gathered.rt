@@ -162,6 +162,10 @@ impl<K: Sink + Drop> Sink for Gathered<K> {
         self.hand_on()?;
         self.sink.flush()
     }
+
+    fn hears(&self) -> bool {
+        self.sink.hears()
+    }
 }
 
 impl<L: Link + Drop> Source for Gathered<L> {

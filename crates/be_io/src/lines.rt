@@ -88,6 +88,13 @@ impl LineReader {
         self.lf_from(0).is_some()
     }
 
+    /// Whether bytes behind the last line were read ahead, or the input is known to be at its end.
+    pub fn has_more(&self) -> bool
+        ensures { result ≡ (nat_lt 0 (length self.now.unread) || self.now.ended) }
+    {
+        self.unread_len() > 0 || self.ended
+    }
+
     /// Reads the next line.
     pub fn next<S: Source>(&mut self, src: &mut S) -> Result<Line, LineFault>
         ensures limit { self.new.limit ≡ self.old.limit }

@@ -63,6 +63,10 @@ impl<S: Source, K: Sink> Sink for Pair<S, K> {
     fn flush(&mut self) -> Result<(), SinkFault> {
         self.sink.flush()
     }
+
+    fn hears(&self) -> bool {
+        self.sink.hears()
+    }
 }
 
 impl<S: Source, K: Sink> Link for Pair<S, K> {
@@ -106,5 +110,9 @@ impl<K: Sink> Sink for &mut K {
 
     fn flush(&mut self) -> Result<(), SinkFault> {
         Sink::flush(&mut **self)
+    }
+
+    fn hears(&self) -> bool {
+        Sink::hears(&**self)
     }
 }

@@ -65,6 +65,12 @@ pub trait Sink {
         ensures no_memory { result ≡ Err SinkFault.NoMemory → HasRisen (refusals self.old) (refusals self.new)
             × (write_faults self.new ≡ write_faults self.old) }
         ensures beside { kept_by_write self.new ≡ kept_by_write self.old };
+
+    /// Whether the peer behind it has sent bytes that weren't read yet, or is gone. It doesn't wait. One that can't tell says that
+    /// neither is so.
+    fn hears(&self) -> bool {
+        false
+    }
 }
 
 /// A sink in memory, which takes each piece whole.

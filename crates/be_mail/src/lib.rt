@@ -14,6 +14,7 @@ mod naming;
 mod passes;
 mod rule;
 mod settle;
+mod waiting;
 
 pub use mail::Mail;
 pub use make::make_mail;

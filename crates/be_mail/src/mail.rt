@@ -10,6 +10,7 @@ use crate::naming::Post;
 use crate::passes::MailPasses;
 use crate::rule::{Fetches, Mailbox, Posted, Puts};
 use be_model::Letter;
+use be_waiting::Bell;
 use std::marker::Model;
 use std::sync::Wait;
 
@@ -17,6 +18,8 @@ use std::sync::Wait;
 #[derive(Drop)]
 pub struct Mail<S: Post> {
     pub(crate) boxes: Vec<Mailbox<S>>,
+    // What is rung when a letter was put into the mailbox of the same place.
+    pub(crate) bells: Vec<Bell>,
 }
 
 impl<S: Post> Model for Mail<S> {
@@ -41,7 +44,7 @@ impl<S: Post> Mail<S> {
     }
 
     /// Puts a letter into the mailbox of its session's seat, which is `to`. The letter comes back only where the mailbox
-    /// was full at the step that looked. It takes no memory.
+    /// was full at the step that looked. Whoever waits for a letter there is woken. It takes no memory.
     pub fn put<R: Wait>(
         &self,
         rt: &R,
@@ -65,7 +68,10 @@ impl<S: Post> Mail<S> {
             &mut pass.passes[at],
             Posted { from, letter },
         ) {
-            Ok(()) => Ok(()),
+            Ok(()) => {
+                self.ring(at);
+                Ok(())
+            }
             Err(back) => {
                 pass.fulls = pass.fulls.saturating_add(1);
                 Err(back.letter)
@@ -89,6 +95,13 @@ impl<S: Post> Mail<S> {
                 pass.empties = pass.empties.saturating_add(1);
                 None
             }
+        }
+    }
+
+    // Wakes whoever waits for a letter in this mailbox.
+    fn ring(&self, at: usize) {
+        if let Some(bell) = self.bells.get(at) {
+            bell.ring();
         }
     }
 }

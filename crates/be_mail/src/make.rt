@@ -14,6 +14,7 @@ use crate::naming::{Post, ThisBox};
 use crate::passes::MailPasses;
 use crate::rule::{BoxPass, HandOut, Mailbox, Names};
 use be_base::{BOX_LETTERS, NoMemory};
+use be_waiting::Bell;
 use std::alloc::{AllocError, Global};
 use std::marker::{Brand, Model};
 
@@ -63,7 +64,16 @@ pub fn make_mail<S: Post>(alloc: Global, seats: u32) -> Result<(Mail<S>, Vec<Mai
         add_mailbox::<S>(alloc, place, &mut boxes, &mut rows)?;
     }
     let passes = all_seated::<S>(alloc, &boxes, rows)?;
-    Ok((Mail { boxes }, passes))
+    let bells = make_bells(alloc, seats)?;
+    Ok((Mail { boxes, bells }, passes))
+}
+
+fn make_bells(alloc: Global, seats: u32) -> Result<Vec<Bell>, AllocError> {
+    let mut bells = Vec::new(alloc);
+    for _ in 0..seats {
+        bells.push(Bell::make())?;
+    }
+    Ok(bells)
 }
 
 fn empty_rows(alloc: Global, seats: u32) -> Result<Vec<PassRow>, AllocError>

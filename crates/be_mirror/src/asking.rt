@@ -33,7 +33,7 @@ impl Ask {
             Request::Publish(event) => Ask::Publish(event),
             Request::Costing(event) => Ask::Costing(event),
             Request::Dumping => Ask::Dumping,
-            Request::Tailing { place, max } => Ask::Tailing { place, max },
+            Request::Tailing { place, max, .. } => Ask::Tailing { place, max },
             Request::Quit => Ask::Quit,
             Request::Refused(refusal) => Ask::Refused(refusal),
             _ => Ask::Refused(Refusal::Bad),

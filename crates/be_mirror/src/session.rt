@@ -167,7 +167,7 @@ impl<T: Sheet<J>, J: Naming> Replier for Session<T, J> {
 
     ghost IsReady = { λ g. Unit {0} };
 
-    fn answer<K: Sink>(&mut self, text: &[u8], out: &mut K) -> Turn {
+    fn answer<K: Sink>(&mut self, text: &[u8], _ahead: bool, out: &mut K) -> Turn {
         let turn = self.answer_text(text, out);
         self.room.let_go(self.alloc);
         turn

@@ -1,6 +1,6 @@
 -- What a session's line asks for.
 use Rattle.std.specs.Prelude.{ℕ, List, [], ◌∷◌, Option, Some, None, Result, Ok, Err, codes, nat_le, if◌then◌else◌}
-use Rattle.be_base.specs.declared.limits.TheConstants.{ASKED}
+use Rattle.be_base.specs.declared.limits.TheConstants.{ASKED, WAIT_MILLIS}
 use Rattle.be_base.specs.Numbers.{count_of}
 use Rattle.be_base.specs.Text.{Text, same_text, name_of}
 use Rattle.be_base.specs.Tokens.{Lexeme, word, tokens}
@@ -65,22 +65,38 @@ abbrev pub number_asked : Option ℕ → Option ℕ
 number_asked None = None
 number_asked (Some n) = if nat_le n ASKED then Some n else None
 
+-- how many milliseconds a line may wait for its reply
+abbrev pub millis_asked : Option ℕ → Option ℕ
+millis_asked None = None
+millis_asked (Some n) = if nat_le n WAIT_MILLIS then Some n else None
+
+-- how many milliseconds a line may wait that ends with these words. One that ends with none doesn't wait
+abbrev pub wait_in : List Lexeme → Option ℕ
+wait_in [] = Some 0
+wait_in (word millis ∷ []) = millis_asked (count_of millis)
+wait_in _ = None
+
 abbrev pub fetching_at_most : Option ℕ → Request
 fetching_at_most (Some max) = fetching max
 fetching_at_most None = refused bad
 
--- a number of letters alone
+-- a line that may wait asks what the one that doesn't wait asks
+abbrev pub within : Option ℕ → Request → Request
+within (Some millis) r = r
+within None r = refused bad
+
+-- a number of letters, alone or before how long the line may wait
 abbrev pub fetch : Option (List Lexeme) → Request
-fetch (Some (word max ∷ [])) = fetching_at_most (number_asked (count_of max))
+fetch (Some (word max ∷ ts)) = within (wait_in ts) (fetching_at_most (number_asked (count_of max)))
 fetch _ = refused bad
 
 abbrev pub tailing_at_most : Option ℕ → Option ℕ → Request
 tailing_at_most (Some place) (Some max) = tailing place max
 tailing_at_most _ _ = refused bad
 
--- a place and a number of changes
+-- a place and a number of changes, alone or before how long the line may wait
 abbrev pub tail : Option (List Lexeme) → Request
-tail (Some (word place ∷ word max ∷ [])) = tailing_at_most (count_of place) (number_asked (count_of max))
+tail (Some (word place ∷ word max ∷ ts)) = within (wait_in ts) (tailing_at_most (count_of place) (number_asked (count_of max)))
 tail _ = refused bad
 
 -- the command alone

@@ -31,9 +31,9 @@ plain_request (Publish event) = asked.publish event
 plain_request (Costing event) = asked.costing event
 plain_request Listing = asked.listing
 plain_request (Sending event) = asked.sending event
-plain_request (Fetching max) = asked.fetching max
+plain_request (Fetching max millis) = asked.fetching max
 plain_request Dumping = asked.dumping
-plain_request (Tailing place max) = asked.tailing place max
+plain_request (Tailing place max millis) = asked.tailing place max
 plain_request Quit = asked.quit
 plain_request (Refused refusal) = asked.refused (plain_refusal refusal)
 
@@ -67,9 +67,9 @@ request_lies s (Costing event) = event_lies s event
 request_lies s (Sending event) = event_lies s event
 request_lies s (Unsubscribe name) = true
 request_lies s Listing = true
-request_lies s (Fetching max) = true
+request_lies s (Fetching max millis) = true
 request_lies s Dumping = true
-request_lies s (Tailing place max) = true
+request_lies s (Tailing place max millis) = true
 request_lies s Quit = true
 request_lies s (Refused refusal) = true
 
@@ -81,9 +81,9 @@ asks_nothing (Costing event) = false
 asks_nothing (Sending event) = false
 asks_nothing (Unsubscribe name) = true
 asks_nothing Listing = true
-asks_nothing (Fetching max) = true
+asks_nothing (Fetching max millis) = true
 asks_nothing Dumping = true
-asks_nothing (Tailing place max) = true
+asks_nothing (Tailing place max millis) = true
 asks_nothing Quit = true
 asks_nothing (Refused refusal) = true
 

@@ -160,7 +160,10 @@ fn take_turn<A: Replier, L: Link, G: Gate>(
     ensures beside { KeepsBeside (L.kept_by_read link.old) (L.kept_by_read link.new) }
 {
     match reader.next(link) {
-        Ok(Line::Text) => Ok(answer_text(replier, reader.text(), link, station)),
+        Ok(Line::Text) => {
+            let ahead = reader.has_more();
+            Ok(answer_text(replier, reader.text(), ahead, link, station))
+        }
         Ok(Line::Long { .. }) => Ok(refuse_long(replier, link, station)),
         Ok(Line::End) => Err(SessionEnd::Eof),
         Err(LineFault::ReadFault) => Err(SessionEnd::ReadFault),
@@ -172,6 +175,7 @@ fn take_turn<A: Replier, L: Link, G: Gate>(
 fn answer_text<A: Replier, K: Sink, G: Gate>(
     replier: &mut A,
     text: &[u8],
+    ahead: bool,
     out: &mut K,
     station: &Station<'_, G>,
 ) -> Turn
@@ -184,7 +188,7 @@ fn answer_text<A: Replier, K: Sink, G: Gate>(
     ensures beside { K.kept_by_write out.new ≡ K.kept_by_write out.old }
 {
     station.before();
-    let turn = replier.answer(text, out);
+    let turn = replier.answer(text, ahead, out);
     station.after();
     turn
 }

@@ -35,8 +35,8 @@ pub trait Replier {
     // it may be asked
     ghost IsReady: { Self → Type 0 };
 
-    /// Answers a line of text.
-    fn answer<K: Sink>(&mut self, text: &[u8], out: &mut K) -> Turn
+    /// Answers a line of text. It may wait before it does, unless more of the input was read ahead: then it is told so.
+    fn answer<K: Sink>(&mut self, text: &[u8], ahead: bool, out: &mut K) -> Turn
         requires ready { IsReady self.old }
         ensures gives { let m = conduct (kept self.old).schema in
             GivesReply m (m.asks (line.text text.now)) (state self.old) (state self.new)

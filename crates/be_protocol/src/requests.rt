@@ -1,13 +1,13 @@
 //! What a session's line asks for.
 
-ghost use Rattle.std.specs.Prelude.{◌≡◌, List, Option, true, Some, IfOk};
+ghost use Rattle.std.specs.Prelude.{◌≡◌, List, Option, true, Some, IfOk, option_and_then};
 ghost use Rattle.be_model.specs.Lies.{event_lies};
 ghost use Rattle.be_model.specs.Schemas.{Attributes};
 ghost use Rattle.be_base.specs.Numbers.{count_of};
 ghost use Rattle.be_base.specs.Tokens.{Lexeme, word, tokens, put_token};
 ghost use Rattle.be_io.specs.Lines as line;
 ghost use Rattle.be_change.specs.Requests as asked;
-ghost use Rattle.be_protocol.specs.Readings.{reading, commanded, subscription_asked, removal_asked, of_event, fetch, tail, number_asked, alone, expr_refusal, event_refusal};
+ghost use Rattle.be_protocol.specs.Readings.{reading, commanded, subscription_asked, removal_asked, of_event, fetch, tail, number_asked, wait_in, alone, expr_refusal, event_refusal};
 ghost use Rattle.be_expr.specs.Expressions.{IsKnown as IsKnownExpr};
 ghost use Rattle.be_event.specs.Events.{IsKnown as IsKnownEvent};
 ghost use Rattle.be_protocol.specs.Requests.{Reads, asks, asked_by, asked_in, asks_nothing, plain_request, request_lies, Refuses};
@@ -17,6 +17,9 @@ use be_event::{EventFault, read_event};
 use be_expr::{ExprFault, read_expr};
 use be_model::{Conj, Event, Schema};
 use std::alloc::Global;
+
+// The limit of this name in be_base, which the definitions speak of.
+const WAIT_MILLIS: u64 = 60000;
 
 /// A condition under a name.
 #[derive(Drop)]
@@ -51,11 +54,11 @@ pub enum Request {
     Costing(Event),
     Listing,
     Sending(Event),
-    /// At most so many letters.
-    Fetching { max: u64 },
+    /// At most so many letters. Where there are none it may wait so many milliseconds.
+    Fetching { max: u64, millis: u64 },
     Dumping,
-    /// At most so many changes, from this place on.
-    Tailing { place: u64, max: u64 },
+    /// At most so many changes, from this place on. Where there is none it may wait so many milliseconds.
+    Tailing { place: u64, max: u64, millis: u64 },
     Quit,
     Refused(Refusal),
 }
@@ -178,7 +181,7 @@ fn read_removal(text: &[u8]) -> Request
     }
 }
 
-// A number of letters, and no token after it.
+// A number of letters, and how long the line may wait, where that is said.
 fn read_fetch(text: &[u8]) -> Request
     ensures read { plain_request result ≡ fetch (tokens text.now) }
     ensures free { asks_nothing result ≡ true }
@@ -186,13 +189,13 @@ fn read_fetch(text: &[u8]) -> Request
     let Scan::Found(Token::Word(max), rest) = next_token(text) else {
         return Request::Refused(Refusal::Bad);
     };
-    match read_asked(max) {
-        Some(max) => read_end(Request::Fetching { max }, rest),
-        None => Request::Refused(Refusal::Bad),
+    match (read_asked(max), read_wait(rest)) {
+        (Some(max), Some(millis)) => Request::Fetching { max, millis },
+        _ => Request::Refused(Refusal::Bad),
     }
 }
 
-// A place and a number of changes, and no token after them.
+// A place and a number of changes, and how long the line may wait, where that is said.
 fn read_tail(text: &[u8]) -> Request
     ensures read { plain_request result ≡ tail (tokens text.now) }
     ensures free { asks_nothing result ≡ true }
@@ -203,9 +206,25 @@ fn read_tail(text: &[u8]) -> Request
     let Scan::Found(Token::Word(max), rest) = next_token(rest) else {
         return Request::Refused(Refusal::Bad);
     };
-    match (read_count(place), read_asked(max)) {
-        (Some(place), Some(max)) => read_end(Request::Tailing { place, max }, rest),
+    match (read_count(place), read_asked(max), read_wait(rest)) {
+        (Some(place), Some(max), Some(millis)) => Request::Tailing { place, max, millis },
         _ => Request::Refused(Refusal::Bad),
+    }
+}
+
+// How many milliseconds a line may wait: none where it ends here.
+fn read_wait(text: &[u8]) -> Option<u64>
+    ensures { result ≡ option_and_then wait_in (tokens text.now) }
+{
+    let (word, rest) = match next_token(text) {
+        Scan::End => return Some(0),
+        Scan::Found(Token::Word(word), rest) => (word, rest),
+        _ => return None,
+    };
+    let millis = read_count(word)?;
+    match next_token(rest) {
+        Scan::End if millis <= WAIT_MILLIS => Some(millis),
+        _ => None,
     }
 }
 

@@ -6,5 +6,6 @@ pub mod Steps
 pub mod Changes
 pub mod Reads
 pub mod Fetching
+pub mod Waiting
 pub mod SoFar
 pub mod Saying

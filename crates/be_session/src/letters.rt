@@ -9,6 +9,7 @@ ghost use Rattle.be_protocol.specs.Conduct.{GivesReply};
 ghost use Rattle.be_session.specs.Steps.{Replies, session_conduct};
 
 use crate::room::Room;
+use crate::waiting::await_letter;
 use be_board::{Board, Sent};
 use be_io::{Sink, SinkFault};
 use be_model::{Event, Schema};
@@ -29,8 +30,27 @@ impl Room {
     }
 }
 
-/// Writes the session's next letters, at most `max`, each as soon as it is taken.
-pub fn fetch<B: Board, K: Sink>(
+/// Writes the session's next letters, at most `max`, once one lies in its mailbox, or so many milliseconds have passed.
+pub fn fetch_within<B: Board, K: Sink>(
+    schema: &Schema,
+    board: &mut B,
+    max: u64,
+    millis: u64,
+    out: &mut K,
+) -> Result<(), SinkFault>
+    requires schema { (B.state board.old).schema ≡ schema.now }
+    ensures answered { GivesReply (session_conduct schema.now) (asked.fetching max) (B.state board.old) (B.state board.new)
+        (sink_state K.Sink out.old) (sink_state K.Sink out.new) None result }
+    ensures beside { K.kept_by_write out.new ≡ K.kept_by_write out.old }
+{
+    if max > 0 {
+        await_letter(board, millis, out)?;
+    }
+    fetch(schema, board, max, out)
+}
+
+// Writes the session's next letters, at most `max`, each as soon as it is taken.
+fn fetch<B: Board, K: Sink>(
     schema: &Schema,
     board: &mut B,
     max: u64,

@@ -10,6 +10,7 @@ mod letters;
 mod reads;
 mod room;
 mod serve;
+mod waiting;
 
 pub use be_protocol::SessionEnd;
 pub use room::Room;

@@ -2,6 +2,7 @@
 
 ghost use Rattle.std.specs.Prelude.{◌≡◌, ◌≤◌, [], true, false, None, OnOk, IfErr, vec_capacity};
 ghost use Rattle.be_io.specs.Lines as line;
+ghost use Rattle.be_change.specs.Requests as asked;
 ghost use Rattle.be_io.specs.Outside.{link_state, sink_state};
 ghost use Rattle.be_board.specs.State.{is_gone};
 ghost use Rattle.be_board.specs.Word.{own_in};
@@ -16,9 +17,10 @@ ghost use Rattle.be_session.specs.Steps.{session_conduct};
 ghost use Rattle.be_session.specs.Saying.{short_end, Says, SaysText};
 
 use crate::changes::{leave, quit, subscribe, unsubscribe};
-use crate::letters::fetch;
+use crate::letters::fetch_within;
 use crate::reads::cost;
 use crate::room::Room;
+use crate::waiting::{await_change, wait_of};
 use be_base::NoMemory;
 use be_board::Board;
 use be_io::{Gate, Link, Sink, write_all};
@@ -88,8 +90,16 @@ impl<'a, B: Board> Replier for Session<'a, B> {
     // It hasn't left.
     ghost IsReady = { λ a. (is_gone (B.state a.board.now) ≡ false) × ((B.state a.board.now).schema ≡ a.schema.now) };
 
-    fn answer<K: Sink>(&mut self, text: &[u8], out: &mut K) -> Turn {
-        answer_text(self.alloc, self.schema, self.board, self.room, text, out)
+    fn answer<K: Sink>(&mut self, text: &[u8], ahead: bool, out: &mut K) -> Turn {
+        answer_text(
+            self.alloc,
+            self.schema,
+            self.board,
+            self.room,
+            text,
+            ahead,
+            out,
+        )
     }
 
     fn refuse_long<K: Sink>(&mut self, out: &mut K) -> Turn {
@@ -105,13 +115,14 @@ impl<'a, B: Board> Replier for Session<'a, B> {
     }
 }
 
-// Answers a line of text. Then it lets room go that is too large to be kept for the next one.
+// Answers a line of text. It may wait before it does, unless more of the input was read ahead. Then it lets room go that is too large to be kept for the next one.
 fn answer_text<B: Board, K: Sink>(
     alloc: Global,
     schema: &Schema,
     board: &mut B,
     room: &mut Room,
     text: &[u8],
+    ahead: bool,
     out: &mut K,
 ) -> Turn
     requires present { is_gone (B.state board.old) ≡ false }
@@ -121,7 +132,7 @@ fn answer_text<B: Board, K: Sink>(
     ensures beside { K.kept_by_write out.new ≡ K.kept_by_write out.old }
     ensures room { vec_capacity room.new.reply ≤ REPLY_KEPT }
 {
-    let turn = answer_line(alloc, schema, board, room, text, out);
+    let turn = answer_line(alloc, schema, board, room, text, ahead, out);
     room.let_go(alloc);
     turn
 }
@@ -133,6 +144,7 @@ fn answer_line<B: Board, K: Sink>(
     board: &mut B,
     room: &mut Room,
     text: &[u8],
+    ahead: bool,
     out: &mut K,
 ) -> Turn
     requires present { is_gone (B.state board.old) ≡ false }
@@ -142,7 +154,7 @@ fn answer_line<B: Board, K: Sink>(
     ensures beside { K.kept_by_write out.new ≡ K.kept_by_write out.old }
 {
     match read_line(alloc, schema, text) {
-        Ok(request) => answer(alloc, schema, board, room, request, out),
+        Ok(request) => answer(alloc, schema, board, room, request, ahead, out),
         Err(NoMemory) => tell(out, Short::NoMemory, false),
     }
 }
@@ -154,6 +166,7 @@ fn answer<B: Board, K: Sink>(
     board: &mut B,
     room: &mut Room,
     request: Request,
+    ahead: bool,
     out: &mut K,
 ) -> Turn
     requires present { is_gone (B.state board.old) ≡ false }
@@ -176,21 +189,45 @@ fn answer<B: Board, K: Sink>(
             tell_built(out, room, built)
         }
         Request::Sending(event) => tell(out, room.send(alloc, board, &event), false),
-        Request::Fetching { max } => Turn {
+        Request::Fetching { max, millis } => Turn {
             by: None,
-            written: fetch(schema, board, max, out),
+            written: fetch_within(schema, board, max, wait_of(millis, ahead), out),
         },
         Request::Dumping => {
             let built = room.dumped(schema, board);
             tell_built(out, room, built)
         }
-        Request::Tailing { place, max } => {
-            let built = room.tail(schema, board, place, max);
-            tell_built(out, room, built)
+        Request::Tailing { place, max, millis } => {
+            tail_within(schema, board, room, place, max, wait_of(millis, ahead), out)
         }
         Request::Quit => tell(out, quit(alloc, board), true),
         Request::Refused(refusal) => tell(out, Short::Refused(refusal), false),
     }
+}
+
+// Answers a TAIL, once the list has more changes than the place, or so many milliseconds have passed.
+fn tail_within<B: Board, K: Sink>(
+    schema: &Schema,
+    board: &mut B,
+    room: &mut Room,
+    place: u64,
+    max: u64,
+    millis: u64,
+    out: &mut K,
+) -> Turn
+    requires schema { (B.state board.old).schema ≡ schema.now }
+    ensures gives { GivesReply (session_conduct schema.now) (asked.tailing place max) (B.state board.old) (B.state board.new)
+        (sink_state K.Sink out.old) (sink_state K.Sink out.new) result.by result.written }
+    ensures beside { K.kept_by_write out.new ≡ K.kept_by_write out.old }
+{
+    if let Err(fault) = await_change(board, place, millis, out) {
+        return Turn {
+            by: None,
+            written: Err(fault),
+        };
+    }
+    let built = room.tail(schema, board, place, max);
+    tell_built(out, room, built)
 }
 
 // How a reply that takes no room ends its session, where it does.

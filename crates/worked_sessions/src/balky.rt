@@ -11,6 +11,7 @@ ghost use Rattle.be_board.specs.State.{is_gone};
 use be_base::{Name, NoRead};
 use be_board::{Answer, Board, Sent};
 use be_index::Ids;
+use be_io::Sink;
 use be_model::{Change, Conj, Cost, Event, Found, Letter};
 use std::alloc::Global;
 use std::sync::Arc;
@@ -116,6 +117,18 @@ impl<B: Board> Board for BalkyBoard<B> {
 
     fn fetch(&mut self) -> Option<Letter> {
         self.board.fetch()
+    }
+
+    fn may_wait(&self) -> bool {
+        self.board.may_wait()
+    }
+
+    fn await_letter<K: Sink>(&mut self, millis: u64, out: &K) {
+        self.board.await_letter(millis, out);
+    }
+
+    fn await_change<K: Sink>(&mut self, place: u64, millis: u64, out: &K) {
+        self.board.await_change(place, millis, out);
     }
 
     fn tend(&mut self) {
