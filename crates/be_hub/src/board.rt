@@ -12,11 +12,14 @@ use be_base::{Name, NoRead};
 use be_board::{Answer, Board, Sent};
 use be_desk::{Ask, Seat, TendCount};
 use be_index::Ids;
+use be_io::Sink;
 use be_mail::{BoxNames, Post};
 use be_model::{Change, Conj, Cost, Event, Found, Letter};
 use be_published::{Naming, Sheet};
+use be_waiting::SystemBed;
 use std::alloc::Global;
-use std::sync::{Arc, MutexGuard, Wait};
+use std::sync::{Arc, Wait};
+use std::time::Clock;
 
 /// A seat at the shared desk. Its reads and its letters take no lock; its changes take that of the desk. It is to tend the desk only
 /// where `TENDS` isn't 0.
@@ -91,12 +94,12 @@ impl<'a, T: Sheet<J>, J: Naming + BoxNames, S: Post, R: Wait, const TENDS: u8> D
         let hub = self.hub;
         let mut guard = hub.desk.lock(self.rt);
         let answer = guard.change(self.rt, alloc, &mut self.seat, ask);
-        MutexGuard::unlock(guard);
+        hub.leave_desk(guard);
         answer
     }
 }
 
-impl<'a, T: Sheet<J>, J: Naming + BoxNames, S: Post, R: Wait, const TENDS: u8> Board
+impl<'a, T: Sheet<J>, J: Naming + BoxNames, S: Post, R: Wait + Clock, const TENDS: u8> Board
     for DeskBoard<'a, T, J, S, R, TENDS> {
     ghost use Rattle.std.specs.Prelude.{min};
     ghost use Rattle.be_desk.specs.Boards.{board_of};
@@ -154,6 +157,21 @@ impl<'a, T: Sheet<J>, J: Naming + BoxNames, S: Post, R: Wait, const TENDS: u8> B
         self.seat.fetch(self.rt, &hub.mail)
     }
 
+    fn may_wait(&self) -> bool {
+        true
+    }
+
+    fn await_letter<K: Sink>(&mut self, millis: u64, out: &K) {
+        let hub = self.hub;
+        self.seat
+            .await_letter(&SystemBed::make(self.rt, out), &hub.mail, millis);
+    }
+
+    fn await_change<K: Sink>(&mut self, place: u64, millis: u64, out: &K) {
+        let bed = SystemBed::make(self.rt, out);
+        let _ = self.hub.published.await_above(&bed, place, millis);
+    }
+
     fn tend(&mut self) {
         if TENDS > 0 {
             self.calls = one_more(self.calls);
@@ -162,7 +180,7 @@ impl<'a, T: Sheet<J>, J: Naming + BoxNames, S: Post, R: Wait, const TENDS: u8> B
             if let Some(guard) = hub.desk.try_lock() {
                 let mut guard = guard;
                 guard.tend(self.rt, &mut self.tended);
-                MutexGuard::unlock(guard);
+                hub.leave_desk(guard);
             }
         }
     }

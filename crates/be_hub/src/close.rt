@@ -54,6 +54,7 @@ impl<T: Sheet<J>, J: Naming + BoxNames, S: Post> Hub<T, J, S> {
         let Hub {
             desk,
             mail,
+            published: _,
             schema: _,
         } = self;
         let mut desk = desk.into_inner();

@@ -19,6 +19,7 @@ use std::alloc::{AllocError, Global};
 use std::sync::Wait;
 use std::thread;
 use std::thread::Threads;
+use std::time::Clock;
 
 impl<T: Sheet<J> + Send + Sync, J: Naming + BoxNames + Send + Sync, S: Post + Send + Sync> Hub<
     T,
@@ -28,7 +29,7 @@ impl<T: Sheet<J> + Send + Sync, J: Naming + BoxNames + Send + Sync, S: Post + Se
     /// Serves the links of a door, by one worker a seat, until each has met their end. The workers' numbers are those of their
     /// seats, from 1. It may wait.
     pub fn run_door<
-        R: Threads + Wait + Sync,
+        R: Threads + Wait + Clock + Sync,
         L: Link + Drop + Send,
         D: Door<L> + Sync,
         G: Gate + Sync,
@@ -56,7 +57,7 @@ impl<T: Sheet<J> + Send + Sync, J: Naming + BoxNames + Send + Sync, S: Post + Se
 
     // Does each job by a worker of its own.
     fn serve_doors<
-        R: Threads + Wait + Sync,
+        R: Threads + Wait + Clock + Sync,
         L: Link + Drop + Send,
         D: Door<L> + Sync,
         G: Gate + Sync,

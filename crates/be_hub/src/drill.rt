@@ -24,6 +24,7 @@ use be_session::SessionEnd;
 use std::alloc::Global;
 use std::sync::Wait;
 use std::thread::Threads;
+use std::time::Clock;
 
 /// What is left once each file is served, in the order of the files, and the closing list.
 #[derive(Drop)]
@@ -52,7 +53,7 @@ impl<T: Sheet<J> + Send + Sync, J: Naming + BoxNames + Send + Sync, S: Post + Se
     /// Serves each file as a session, by a worker of its own and beside a maintainer of so many calls, and closes the hub. It
     /// may wait. The first fault that applies is given: want of memory, two numbers that differ, records that differ from the
     /// list.
-    pub fn drill<R: Threads + Wait + Sync, G: Gate + Sync>(
+    pub fn drill<R: Threads + Wait + Clock + Sync, G: Gate + Sync>(
         self,
         rt: &R,
         alloc: Global,

@@ -17,9 +17,10 @@ use be_mail::{BoxNames, Post};
 use be_published::{Naming, Sheet};
 use be_session::{SessionEnd, serve_link};
 use std::alloc::{AllocError, Global};
-use std::sync::{MutexGuard, Wait};
+use std::sync::Wait;
 use std::thread;
 use std::thread::{Threads, join};
+use std::time::Clock;
 
 /// What a worker leaves of a file: its seat, what it wrote, how the session ended, and how many tends its board counted: none.
 #[derive(Drop)]
@@ -39,7 +40,7 @@ pub struct FileRun<T: Sheet<J>, J: Naming + BoxNames> {
 }
 
 // Serves a file as a session. The desk is left to the maintainer.
-fn serve_file<T: Sheet<J>, J: Naming + BoxNames, S: Post, R: Wait, G: Gate>(
+fn serve_file<T: Sheet<J>, J: Naming + BoxNames, S: Post, R: Wait + Clock, G: Gate>(
     rt: &R,
     alloc: Global,
     hub: &Hub<T, J, S>,
@@ -80,14 +81,14 @@ impl<T: Sheet<J> + Send + Sync, J: Naming + BoxNames + Send + Sync, S: Post + Se
         for _ in 0..rounds {
             let mut guard = self.desk.lock(rt);
             guard.maintain(rt, &mut broom);
-            MutexGuard::unlock(guard);
+            self.leave_desk(guard);
         }
         broom
     }
 
     /// Serves each file by a worker of its own, beside a maintainer of so many calls. The workers' numbers are those of their
     /// files, from 1. It may wait.
-    pub fn run_files<R: Threads + Wait + Sync, G: Gate + Sync>(
+    pub fn run_files<R: Threads + Wait + Clock + Sync, G: Gate + Sync>(
         &self,
         rt: &R,
         alloc: Global,
@@ -124,7 +125,7 @@ impl<T: Sheet<J> + Send + Sync, J: Naming + BoxNames + Send + Sync, S: Post + Se
     }
 
     // Serves each job by a worker of its own.
-    fn serve_all<R: Threads + Wait + Sync, G: Gate + Sync>(
+    fn serve_all<R: Threads + Wait + Clock + Sync, G: Gate + Sync>(
         &self,
         rt: &R,
         alloc: Global,

@@ -7,14 +7,17 @@ use be_desk::Desk;
 use be_mail::{BoxNames, Mail, Post};
 use be_model::Schema;
 use be_published::{Naming, Sheet};
+use be_waiting::Level;
 use std::marker::Model;
-use std::sync::{Arc, Mutex, Wait};
+use std::sync::{Arc, Mutex, MutexGuard, Wait};
 
 /// The desk behind its lock, and the mail, which workers share. Contracts see the names of the mailboxes. It is not `Drop`: end it by
 /// `end`, or close it.
 pub struct Hub<T: Sheet<J>, J: Naming + BoxNames, S: Post> {
     pub(crate) desk: Mutex<Desk<T, J>>,
     pub(crate) mail: Mail<S>,
+    // How many changes are published. It is set under the lock.
+    pub(crate) published: Level,
     pub(crate) schema: Arc<Schema>,
 }
 
@@ -38,9 +41,11 @@ impl<T: Sheet<J>, J: Naming + BoxNames, S: Post> Hub<T, J, S> {
         requires schema { arc_value schema ≡ J.schema }
         ensures { result ≡ mail }
     {
+        let published = Level::make(desk.len());
         Hub {
             desk: Mutex::new(desk),
             mail,
+            published,
             schema,
         }
     }
@@ -50,8 +55,17 @@ impl<T: Sheet<J>, J: Naming + BoxNames, S: Post> Hub<T, J, S> {
         let Hub {
             desk,
             mail: _,
+            published: _,
             schema: _,
         } = self;
         desk.into_inner().end(rt);
+    }
+
+    // Leaves the desk, and wakes those who wait for a change that it has published. They are woken behind the lock, which a wake would
+    // hold some microseconds longer.
+    pub(crate) fn leave_desk(&self, guard: MutexGuard<'_, Desk<T, J>>) {
+        self.published.set(guard.len());
+        MutexGuard::unlock(guard);
+        self.published.wake();
     }
 }

@@ -24,6 +24,7 @@ use be_published::{Naming, Sheet};
 use be_session::{SessionEnd, serve_link};
 use std::alloc::Global;
 use std::sync::{MutexGuard, Wait};
+use std::time::Clock;
 
 /// The session of a worker's seat is below this at the beginning: 2^61.
 pub const FIRST_END: u64 = 2305843009213693952;
@@ -60,7 +61,7 @@ pub(crate) fn serve_links<
     T: Sheet<J>,
     J: Naming + BoxNames,
     S: Post,
-    R: Wait,
+    R: Wait + Clock,
     L: Link + Drop,
     D: Door<L>,
     G: Gate,
@@ -100,7 +101,7 @@ fn serve_next<
     T: Sheet<J>,
     J: Naming + BoxNames,
     S: Post,
-    R: Wait,
+    R: Wait + Clock,
     L: Link + Drop,
     D: Door<L>,
     G: Gate,
@@ -183,7 +184,7 @@ fn next_seat<T: Sheet<J>, J: Naming + BoxNames, S: Post, R: Wait>(
 }
 
 // Serves the seat's session over a link.
-fn serve_session<T: Sheet<J>, J: Naming + BoxNames, S: Post, R: Wait, L: Link, G: Gate>(
+fn serve_session<T: Sheet<J>, J: Naming + BoxNames, S: Post, R: Wait + Clock, L: Link, G: Gate>(
     rt: &R,
     alloc: Global,
     hub: &Hub<T, J, S>,
@@ -224,7 +225,7 @@ fn publish_held<T: Sheet<J>, J: Naming + BoxNames, S: Post, R: Wait>(
     for _ in 0..TRIES {
         let mut guard = hub.desk.lock(rt);
         let done = guard.tend(rt, tended);
-        MutexGuard::unlock(guard);
+        hub.leave_desk(guard);
         if !matches!(done, Some(Maintained::NoMemory)) {
             return;
         }

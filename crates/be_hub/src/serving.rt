@@ -24,6 +24,7 @@ use be_published::{Naming, Shade, Sheet};
 use std::alloc::Global;
 use std::sync::Wait;
 use std::thread::Threads;
+use std::time::Clock;
 
 /// What is left once all links of a door were served: the closing list, and the door's numbers.
 #[derive(Drop)]
@@ -78,7 +79,7 @@ impl<T: Sheet<J> + Send + Sync, J: Naming + BoxNames + Send + Sync, S: Post + Se
     /// that applies is given: the door can't listen; want of memory, to an accept and a session too; two numbers that differ;
     /// records that differ from the list.
     pub fn serve<
-        R: Threads + Wait + Sync,
+        R: Threads + Wait + Clock + Sync,
         L: Link + Drop + Send,
         D: Door<L> + Sync,
         G: Gate + Sync,

@@ -87,7 +87,7 @@ notes_drawn None letters b now d = (d.1, d.2)
 notes_drawn (Some box) letters b now d = subst (λ (ls : List PlainLetter). BeginsWith ls b.word.notes) (sym d.0) (BeginsWith-same b.word.notes)
 
 -- the letters are legal
-fetch_steps : (s : Attributes) (max : ℕ) (drawn letters : List Note) (b now : BoardState) → GoesOn b now → now.word.known ≡ b.word.known → now.word.own ≡ b.word.own → Draws b.box drawn b now → length letters ≤ max
+pub fetch_steps : (s : Attributes) (max : ℕ) (drawn letters : List Note) (b now : BoardState) → GoesOn b now → now.word.known ≡ b.word.known → now.word.own ≡ b.word.own → Draws b.box drawn b now → length letters ≤ max
     → ((h : List Entry) → Bears h now.word → All (IsNoteFor b.word.session h) letters) → Steps s (fetching max, notes letters) b now
 fetch_steps s max drawn letters b now goes known own d few noted =
     quiet s (fetching max, notes letters) b now goes own (notes_drawn b.box drawn b now d) refl
@@ -105,7 +105,7 @@ fetch_tied max letters b now goes shuts splits all =
     short (inr risen) less = risen
 
 -- of a reply that is written in part no count of short ones is owed
-part_tied : (max : ℕ) (letters : List Note) (b now : BoardState) → GoesOn b now → now.counts.shuts ≡ b.counts.shuts → now.counts.splits ≡ b.counts.splits → Tied false ((fetching max, notes letters) ∷ []) [] b.counts now.counts
+pub part_tied : (max : ℕ) (letters : List Note) (b now : BoardState) → GoesOn b now → now.counts.shuts ≡ b.counts.shuts → now.counts.splits ≡ b.counts.splits → Tied false ((fetching max, notes letters) ∷ []) [] b.counts now.counts
 part_tied max letters b now goes shuts splits = record {
   reads = risen_none b.counts.reads now.counts.reads goes.counts.reads;
   shuts = rises_none b.counts.shuts now.counts.shuts shuts;

@@ -9,6 +9,7 @@ pub mod Looking
 pub mod SendingOn
 pub mod FetchingOn
 pub mod FetchingEnds
+pub mod WaitingOn
 pub mod Leaving
 pub mod LiveLies
 pub mod Tending

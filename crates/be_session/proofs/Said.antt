@@ -59,7 +59,7 @@ replies_refused s r b = record {
   letters = letters_by b.box (refused r, refusal r) b b refl refl (letters_still b) (λ h box. (tt, refl));
 }
 
-unread_event : (s : Attributes) (r : Request) (b : BoardState) → is_reading r ≡ true → Replies s (r, no_memory) b b
+pub unread_event : (s : Attributes) (r : Request) (b : BoardState) → is_reading r ≡ true → Replies s (r, no_memory) b b
 unread_event s r b is =
     let f = refused_memory r is in
     record {

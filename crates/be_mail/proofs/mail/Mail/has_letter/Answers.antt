@@ -2,7 +2,7 @@
 use Rattle.std.proofs.Common.{◌≡◌, sym, ap, ◌∙◌, subst}
 use Rattle.be_mail.specs.Passes.{Passes, passes_of, Held}
 use Rattle.be_mail.proofs.Hands.{at_own, may_fetch, is_hand, hands_set, stays, held}
-use Rattle.be_mail.proofs.waiting.Mail.has_letter.Goals as goal
+use Rattle.be_mail.proofs.mail.Mail.has_letter.Goals as goal
 
 pub is_empty_as-requires-clause-queue : goal.is_empty_as-requires-clause-queue
 is_empty_as-requires-clause-queue g c =
