@@ -32,6 +32,7 @@ use std::alloc::Global;
 use std::marker::Brand;
 use std::sync::{Arc, Wait};
 use std::thread::Threads;
+use std::time::Clock;
 
 /// Serves each file as a session, and writes what each was answered, and then the list.
 pub fn drill<R, F, S, K, L, D, G>(
@@ -46,7 +47,7 @@ pub fn drill<R, F, S, K, L, D, G>(
     gate: &G,
 ) -> Status
 where
-    R: Threads + Wait + Sync,
+    R: Threads + Wait + Clock + Sync,
     F: Shelf,
     S: Source,
     K: Sink,
@@ -67,7 +68,7 @@ where
 }
 
 // Serves the files that were read, and writes what came of it.
-fn run_drill<R: Threads + Wait + Sync, K: Sink, G: Gate + Sync>(
+fn run_drill<R: Threads + Wait + Clock + Sync, K: Sink, G: Gate + Sync>(
     rt: &R,
     alloc: Global,
     loaded: DrillFiles,
@@ -98,7 +99,7 @@ fn run_drill<R: Threads + Wait + Sync, K: Sink, G: Gate + Sync>(
 }
 
 /// Makes the mail of the seats, and serves.
-pub fn mailed<S: Post + Send + Sync, R: Threads + Wait + Sync, G: Gate + Sync>(
+pub fn mailed<S: Post + Send + Sync, R: Threads + Wait + Clock + Sync, G: Gate + Sync>(
     rt: &R,
     alloc: Global,
     schema: &Arc<Schema>,
@@ -132,7 +133,7 @@ pub fn mailed<S: Post + Send + Sync, R: Threads + Wait + Sync, G: Gate + Sync>(
 fn seated<
     S: Post + Send + Sync,
     J: Naming + BoxNames + Send + Sync,
-    R: Threads + Wait + Sync,
+    R: Threads + Wait + Clock + Sync,
     G: Gate + Sync,
 >(
     rt: &R,

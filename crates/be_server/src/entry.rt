@@ -20,6 +20,7 @@ use be_io::{Gate, Link, Shelf, Sink, Source};
 use std::alloc::Global;
 use std::sync::Wait;
 use std::thread::Threads;
+use std::time::Clock;
 
 /// Reads the words after the program's name, and does what they ask.
 ///
@@ -41,7 +42,7 @@ pub fn be_main<R, F, S, K, L, D, G>(
     gate: &G,
 ) -> Status
 where
-    R: Threads + Wait + Sync,
+    R: Threads + Wait + Clock + Sync,
     F: Shelf,
     S: Source,
     K: Sink,

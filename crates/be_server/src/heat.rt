@@ -32,6 +32,7 @@ use std::alloc::{AllocError, Global};
 use std::marker::Brand;
 use std::sync::{Arc, Wait};
 use std::thread::Threads;
+use std::time::Clock;
 
 /// Serves each file as a session, and writes what each was answered, the list, and which attributes the answered events ask for.
 pub fn heat<R, F, S, K, L, D, G>(
@@ -45,7 +46,7 @@ pub fn heat<R, F, S, K, L, D, G>(
     gate: &G,
 ) -> Status
 where
-    R: Threads + Wait + Sync,
+    R: Threads + Wait + Clock + Sync,
     F: Shelf,
     S: Source,
     K: Sink,
@@ -66,7 +67,7 @@ where
 }
 
 // Serves the files that were read, counts, and writes what came of it. The hub takes the files' bytes, so they are copied.
-fn run_heat<R: Threads + Wait + Sync, K: Sink, G: Gate + Sync>(
+fn run_heat<R: Threads + Wait + Clock + Sync, K: Sink, G: Gate + Sync>(
     rt: &R,
     alloc: Global,
     loaded: DrillFiles,

@@ -35,6 +35,7 @@ use std::alloc::Global;
 use std::marker::Brand;
 use std::sync::{Arc, Wait};
 use std::thread::Threads;
+use std::time::Clock;
 
 /// Serves so many links of a door by so many workers, and writes the list, and how many links there were.
 pub fn serve<R, F, S, K, L, D, G>(
@@ -51,7 +52,7 @@ pub fn serve<R, F, S, K, L, D, G>(
     gate: &G,
 ) -> Status
 where
-    R: Threads + Wait + Sync,
+    R: Threads + Wait + Clock + Sync,
     F: Shelf,
     S: Source,
     K: Sink,
@@ -73,7 +74,7 @@ where
 
 // Serves the links over the rows that were read, and writes what came of it.
 fn run_serve<
-    R: Threads + Wait + Sync,
+    R: Threads + Wait + Clock + Sync,
     K: Sink,
     L: Link + Drop + Send,
     D: Door<L> + Sync,
@@ -110,7 +111,7 @@ fn run_serve<
 // Makes the mail of the seats, and serves.
 fn mailed<
     S: Post + Send + Sync,
-    R: Threads + Wait + Sync,
+    R: Threads + Wait + Clock + Sync,
     L: Link + Drop + Send,
     D: Door<L> + Sync,
     G: Gate + Sync,
@@ -150,7 +151,7 @@ fn mailed<
 fn seated<
     S: Post + Send + Sync,
     J: Naming + BoxNames + Send + Sync,
-    R: Threads + Wait + Sync,
+    R: Threads + Wait + Clock + Sync,
     L: Link + Drop + Send,
     D: Door<L> + Sync,
     G: Gate + Sync,

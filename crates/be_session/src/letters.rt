@@ -43,9 +43,7 @@ pub fn fetch_within<B: Board, K: Sink>(
         (sink_state K.Sink out.old) (sink_state K.Sink out.new) None result }
     ensures beside { K.kept_by_write out.new ≡ K.kept_by_write out.old }
 {
-    if max > 0 {
-        await_letter(board, millis, out)?;
-    }
+    await_letter(board, if max == 0 { 0 } else { millis }, out)?;
     fetch(schema, board, max, out)
 }
 

@@ -26,7 +26,10 @@ pub fn await_letter<B: Board, K: Sink>(
     ensures untold { OnErr result ((B.state board.old).box ≡ None) }
     ensures beside { K.kept_by_write out.new ≡ K.kept_by_write out.old }
 {
-    if millis == 0 || !board.may_wait() {
+    if millis == 0 {
+        return Ok(());
+    }
+    if !board.may_wait() {
         return Ok(());
     }
     hand_on(out)?;
@@ -45,7 +48,10 @@ pub fn await_change<B: Board, K: Sink>(
     ensures handed { HandsOn (sink_state K.Sink out.old) (sink_state K.Sink out.new) result }
     ensures beside { K.kept_by_write out.new ≡ K.kept_by_write out.old }
 {
-    if millis == 0 || !board.may_wait() {
+    if millis == 0 {
+        return Ok(());
+    }
+    if !board.may_wait() {
         return Ok(());
     }
     hand_on(out)?;

@@ -17,6 +17,7 @@ use be_published::{Naming, Sheet};
 use std::alloc::Global;
 use std::sync::Wait;
 use std::thread::Threads;
+use std::time::Clock;
 
 /// A read of the link gives at most so many bytes.
 const PIECE: usize = 65536;
@@ -26,7 +27,7 @@ pub fn tends<
     T: Sheet<J> + Send + Sync,
     J: Naming + BoxNames + Send + Sync,
     S: Post + Send + Sync,
-    R: Threads + Wait + Sync,
+    R: Threads + Wait + Clock + Sync,
 >(rt: &R, alloc: Global, hub: &Hub<T, J, S>, seats: Vec<Seat<T, J>>, bytes: Vec<u8>) -> Option<u64>
     requires few { (0 < length J.boxes) × (length J.boxes ≤ SEATS) }
     requires count { (0 < length seats.items) × (length seats.items ≤ SEATS) }

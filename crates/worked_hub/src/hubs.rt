@@ -26,11 +26,12 @@ use std::marker::Brand;
 use std::sync::atomic::{AtomicU64, Ordering};
 use std::sync::{Arc, Wait};
 use std::thread::Threads;
+use std::time::Clock;
 use worked_help::Watched;
 
 /// The transcripts of the files, parted by ` || `, how often the maintainer was called, how many changes the list has at its end,
 /// and how many searches the trees were asked for; or, of a link of a door, how often its worker tended the desk.
-pub fn served<R: Threads + Wait + Sync>(
+pub fn served<R: Threads + Wait + Clock + Sync>(
     rt: &R,
     alloc: Global,
     schema: &Arc<Schema>,
@@ -40,7 +41,7 @@ pub fn served<R: Threads + Wait + Sync>(
 }
 
 // Makes the mail of the seats.
-fn mailed<S: Post + Send + Sync, R: Threads + Wait + Sync>(
+fn mailed<S: Post + Send + Sync, R: Threads + Wait + Clock + Sync>(
     rt: &R,
     alloc: Global,
     schema: &Arc<Schema>,
@@ -53,7 +54,11 @@ fn mailed<S: Post + Send + Sync, R: Threads + Wait + Sync>(
     begun::<S, Brand, R>(rt, alloc, opened, mail, schema, passes, script)
 }
 
-fn begun<S: Post + Send + Sync, J: Naming + BoxNames + Send + Sync, R: Threads + Wait + Sync>(
+fn begun<
+    S: Post + Send + Sync,
+    J: Naming + BoxNames + Send + Sync,
+    R: Threads + Wait + Clock + Sync,
+>(
     rt: &R,
     alloc: Global,
     opened: Opened,
@@ -107,7 +112,7 @@ fn tended<
     T: Sheet<J> + Send + Sync,
     J: Naming + BoxNames + Send + Sync,
     S: Post + Send + Sync,
-    R: Threads + Wait + Sync,
+    R: Threads + Wait + Clock + Sync,
 >(
     rt: &R,
     alloc: Global,
@@ -133,7 +138,7 @@ fn served_by<
     T: Sheet<J> + Send + Sync,
     J: Naming + BoxNames + Send + Sync,
     S: Post + Send + Sync,
-    R: Threads + Wait + Sync,
+    R: Threads + Wait + Clock + Sync,
 >(
     rt: &R,
     alloc: Global,

@@ -18,12 +18,13 @@ use std::alloc::Global;
 use std::io;
 use std::sync::{Arc, Wait};
 use std::thread::Threads;
+use std::time::Clock;
 use worked_help::answer_each_in;
 
 const SCHEMA: &[u8] = b"int price 0 1000\nint qty -5 5\n";
 
 // What came of a line.
-fn served<R: Threads + Wait + Sync>(
+fn served<R: Threads + Wait + Clock + Sync>(
     rt: &R,
     alloc: Global,
     schema: &Arc<Schema>,

@@ -7,6 +7,7 @@ use be_server::Status;
 use std::alloc::Global;
 use std::sync::Wait;
 use std::thread::Threads;
+use std::time::Clock;
 
 // Lines with their replies. The last line may have no LF.
 struct Script {
@@ -168,7 +169,7 @@ fn is_as_wanted(ran: &Ran, want: &Wanted) -> bool {
 }
 
 // Whether a run in which this read fails is as it should be.
-fn read_fails<R: Threads + Wait + Sync>(
+fn read_fails<R: Threads + Wait + Clock + Sync>(
     rt: &R,
     alloc: Global,
     script: &Script,
@@ -184,7 +185,7 @@ fn read_fails<R: Threads + Wait + Sync>(
 }
 
 // The same of a write.
-fn write_fails<R: Threads + Wait + Sync>(
+fn write_fails<R: Threads + Wait + Clock + Sync>(
     rt: &R,
     alloc: Global,
     script: &Script,

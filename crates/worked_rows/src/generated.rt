@@ -6,6 +6,7 @@ use be_server::Status;
 use std::alloc::Global;
 use std::sync::Wait;
 use std::thread::Threads;
+use std::time::Clock;
 
 // Three numbers, and what is printed. They were summed up outside.
 const SUMS: &[([&str; 4], &str)] = &[
@@ -43,7 +44,7 @@ fn generated<'a>(words: &'a [&'a str], failing_write: u64) -> Setting<'a> {
 }
 
 /// Whether the command ends so, writes this, leaves the input of six bytes alone, and the next ask for a file fails.
-pub fn ends<R: Threads + Wait + Sync>(
+pub fn ends<R: Threads + Wait + Clock + Sync>(
     rt: &R,
     alloc: Global,
     setting: &Setting,

@@ -6,6 +6,7 @@ use crate::setting::{answers, plain};
 use std::alloc::Global;
 use std::sync::Wait;
 use std::thread::Threads;
+use std::time::Clock;
 
 // A line of some bytes before its end, which is padded by one byte to a length.
 struct Padded {
@@ -155,7 +156,7 @@ fn script_of(alloc: Global, line: &Padded) -> Option<Vec<u8>> {
     Some(script)
 }
 
-fn is_answered<R: Threads + Wait + Sync>(
+fn is_answered<R: Threads + Wait + Clock + Sync>(
     rt: &R,
     alloc: Global,
     line: &Padded,
@@ -320,7 +321,11 @@ fn text_of(alloc: Global, line: &Repeated) -> Option<Vec<u8>> {
     Some(text)
 }
 
-fn are_counted<R: Threads + Wait + Sync>(rt: &R, alloc: Global, line: &Repeated) -> Option<bool> {
+fn are_counted<R: Threads + Wait + Clock + Sync>(
+    rt: &R,
+    alloc: Global,
+    line: &Repeated,
+) -> Option<bool> {
     let script = text_of(alloc, line)?;
     let want = format!(in alloc; "{}\n", line.answer).ok()?;
     Some(answers(rt, alloc, &plain(&script, 65536), want.as_bytes()))

@@ -5,6 +5,7 @@ use be_server::Status;
 use std::alloc::Global;
 use std::sync::Wait;
 use std::thread::Threads;
+use std::time::Clock;
 
 // Load files, scripts, and transcripts.
 const LOADED: &[(&str, &str, &str)] = &[
@@ -35,7 +36,7 @@ const REFUSED: &[(&str, &str)] = &[
 const SCRIPT: &[u8] = b"PUB price=1\n";
 
 // Whether a run is refused with this code and text, before anything is read or written.
-fn is_refused<R: Threads + Wait + Sync>(
+fn is_refused<R: Threads + Wait + Clock + Sync>(
     rt: &R,
     alloc: Global,
     setting: &Setting,

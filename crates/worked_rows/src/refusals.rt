@@ -7,6 +7,7 @@ use be_server::Status;
 use std::alloc::Global;
 use std::sync::Wait;
 use std::thread::Threads;
+use std::time::Clock;
 
 const SCRIPT: &[u8] = b"SUB a price >= 10\nPUB price=10\nPUB price=9\n";
 
@@ -72,7 +73,7 @@ const LOADS_SCHEMA: &[&str] = &["run", "S", "--load", "S"];
 const LOADS_NOTHING: &[&str] = &["run", "--load=-x", "S"];
 
 // Whether the run ends so, untouched, and whether the next ask for the file is refused.
-fn ends<R: Threads + Wait + Sync>(
+fn ends<R: Threads + Wait + Clock + Sync>(
     rt: &R,
     alloc: Global,
     setting: &Setting,

@@ -7,6 +7,7 @@ use be_server::Status;
 use std::alloc::Global;
 use std::sync::Wait;
 use std::thread::Threads;
+use std::time::Clock;
 
 pub(crate) const PIECES: [usize; 4] = [1, 7, 18, 65536];
 
@@ -264,7 +265,7 @@ const HOSTILE: &[&str] = &[
 const HOSTILE_BYTES: &[&[u8]] = &[b"SUB b price >= 5\xff", b"SUB b pric\xe9 >= 5", b"\xff\xfe"];
 
 // Whether a session has this transcript; after a QUIT the rest stays unread.
-pub(crate) fn is_session<R: Threads + Wait + Sync>(
+pub(crate) fn is_session<R: Threads + Wait + Clock + Sync>(
     rt: &R,
     alloc: Global,
     script: &str,
@@ -302,7 +303,7 @@ fn around(alloc: Global, line: &[u8]) -> Option<Vec<u8>> {
     Some(script)
 }
 
-pub(crate) fn is_bad<R: Threads + Wait + Sync>(rt: &R, alloc: Global, line: &[u8]) -> bool {
+pub(crate) fn is_bad<R: Threads + Wait + Clock + Sync>(rt: &R, alloc: Global, line: &[u8]) -> bool {
     match around(alloc, line) {
         Some(script) => answers(rt, alloc, &plain(&script, 7), b"OK 1\nBAD\nHIT 1 1 a\n"),
         None => false,
@@ -364,7 +365,7 @@ fn mixed_script(alloc: Global) -> Option<Vec<u8>> {
 }
 
 // The first place at which a cut changes something.
-fn wrong_cut<R: Threads + Wait + Sync>(rt: &R, alloc: Global) -> Option<Option<usize>> {
+fn wrong_cut<R: Threads + Wait + Clock + Sync>(rt: &R, alloc: Global) -> Option<Option<usize>> {
     let script = mixed_script(alloc)?;
     let want = format!(in alloc; "BAD\n{MIXED_REPLIES}").ok()?;
     for piece in MIXED.len() + 1..script.len() + 1 {

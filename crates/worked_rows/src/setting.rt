@@ -8,6 +8,7 @@ use be_server::{Status, be_main};
 use std::alloc::Global;
 use std::sync::Wait;
 use std::thread::Threads;
+use std::time::Clock;
 
 pub const SCHEMA: &[u8] = b"int price 0 1000\nint qty -5 5\nsym side buy sell hold\nint one 7 7\n";
 
@@ -138,7 +139,7 @@ fn input_of(alloc: Global, setting: &Setting) -> Option<MemSource> {
 }
 
 // Runs the program's one call over these objects.
-fn call_over<R: Threads + Wait + Sync, K: Sink>(
+fn call_over<R: Threads + Wait + Clock + Sync, K: Sink>(
     rt: &R,
     alloc: Global,
     words: &[&str],
@@ -161,7 +162,7 @@ fn call_over<R: Threads + Wait + Sync, K: Sink>(
 }
 
 /// Runs it over this output. `None` says that memory ran out here.
-pub fn call<R: Threads + Wait + Sync, K: Sink>(
+pub fn call<R: Threads + Wait + Clock + Sync, K: Sink>(
     rt: &R,
     alloc: Global,
     setting: &Setting,
@@ -173,7 +174,11 @@ pub fn call<R: Threads + Wait + Sync, K: Sink>(
 }
 
 /// Runs it over an output in memory.
-pub fn run<R: Threads + Wait + Sync>(rt: &R, alloc: Global, setting: &Setting) -> Option<Ran> {
+pub fn run<R: Threads + Wait + Clock + Sync>(
+    rt: &R,
+    alloc: Global,
+    setting: &Setting,
+) -> Option<Ran> {
     let failing = vec![in alloc; setting.failing_write].ok()?;
     let mut shelf = shelf_of(alloc, setting)?;
     let mut input = input_of(alloc, setting)?;
@@ -188,7 +193,7 @@ pub fn run<R: Threads + Wait + Sync>(rt: &R, alloc: Global, setting: &Setting) -
 }
 
 /// Whether a run ends well, has read all and has written this.
-pub fn answers<R: Threads + Wait + Sync>(
+pub fn answers<R: Threads + Wait + Clock + Sync>(
     rt: &R,
     alloc: Global,
     setting: &Setting,

@@ -5,6 +5,7 @@ use be_server::Status;
 use std::alloc::Global;
 use std::sync::Wait;
 use std::thread::Threads;
+use std::time::Clock;
 
 // A script, and the transcript that it is to have.
 #[derive(Drop)]
@@ -26,7 +27,7 @@ impl Session {
         put_line(&mut self.wanted, reply)
     }
 
-    fn is_answered<R: Threads + Wait + Sync>(&self, rt: &R, alloc: Global) -> bool {
+    fn is_answered<R: Threads + Wait + Clock + Sync>(&self, rt: &R, alloc: Global) -> bool {
         let setting = plain(self.script.as_bytes(), 65536);
         answers(rt, alloc, &setting, self.wanted.as_bytes())
     }
@@ -191,7 +192,7 @@ fn long_lines(rt: HostRuntime) {
 }
 
 // Whether a run over a schema that is a comment alone, without attributes, ends so.
-fn ends<R: Threads + Wait + Sync>(
+fn ends<R: Threads + Wait + Clock + Sync>(
     rt: &R,
     alloc: Global,
     schema: &[u8],
