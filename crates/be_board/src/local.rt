@@ -27,6 +27,7 @@ use crate::posting::{count_addressed, make_letters};
 use be_base::{Name, NoMemory, NoRead};
 use be_change::ChangeLog;
 use be_index::{Ids, Index};
+use be_io::Sink;
 use be_model::{Change, Conj, Cost, Event, Found, Letter, Row};
 use std::alloc::Global;
 use std::marker::Model;

@@ -220,14 +220,16 @@ fn tail_within<B: Board, K: Sink>(
         (sink_state K.Sink out.old) (sink_state K.Sink out.new) result.by result.written }
     ensures beside { K.kept_by_write out.new ≡ K.kept_by_write out.old }
 {
-    if let Err(fault) = await_change(board, place, millis, out) {
-        return Turn {
+    match await_change(board, place, millis, out) {
+        Ok(()) => {
+            let built = room.tail(schema, board, place, max);
+            tell_built(out, room, built)
+        }
+        Err(fault) => Turn {
             by: None,
             written: Err(fault),
-        };
+        },
     }
-    let built = room.tail(schema, board, place, max);
-    tell_built(out, room, built)
 }
 
 // How a reply that takes no room ends its session, where it does.

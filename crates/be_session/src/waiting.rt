@@ -15,6 +15,7 @@ pub fn wait_of(millis: u64, ahead: bool) -> u64
 }
 
 /// Waits until a letter lies in the session's mailbox, or so many milliseconds have passed. It takes none.
+#[tactic(auto, using(crate::proofs::WaitingOn::handed))]
 pub fn await_letter<B: Board, K: Sink>(
     board: &mut B,
     millis: u64,
@@ -38,6 +39,7 @@ pub fn await_letter<B: Board, K: Sink>(
 }
 
 /// Waits until reads see more changes than `place`, or so many milliseconds have passed.
+#[tactic(auto, using(crate::proofs::WaitingOn::handed))]
 pub fn await_change<B: Board, K: Sink>(
     board: &mut B,
     place: u64,

@@ -92,21 +92,20 @@ returns-in-Dumping-clause-gives g c =
 pub returns-in-Tailing-clause-gives : goal.returns-in-Tailing-clause-gives
 returns-in-Tailing-clause-gives g c =
     let b : BoardState = g.B.Board.state c.args.board.now in
-    let b' : BoardState = g.B.Board.state c.tail-built.new.board in
+    let b' : BoardState = g.B.Board.state c.tail_within.new.board in
     let before : SinkState = sink_state g.K.Sink c.args.out.now in
-    let after : SinkState = sink_state g.K.Sink c.tell_built-in-Tailing.new.out in
-    subst (λ (x : Request). GivesReply (session_conduct c.args.schema.now) (plain_request x) b b' before after c.tell_built-in-Tailing.result.by c.tell_built-in-Tailing.result.written) (sym c.in-Tailing.is)
-    (subst (λ (s : Attributes). GivesReply (session_conduct s) (asked.tailing c.in-Tailing.place c.in-Tailing.max) b b' before after c.tell_built-in-Tailing.result.by c.tell_built-in-Tailing.result.written) c.requires.schema
-    (says_built b.schema (asked.tailing c.in-Tailing.place c.in-Tailing.max) c.tail-built.result c.tail-built.new.self.reply.items b b' before after c.tell_built-in-Tailing.result refl c.tail-built.ensures.told c.tail-built.ensures.refused c.tell_built-in-Tailing.ensures.built c.tell_built-in-Tailing.ensures.refused))
+    let after : SinkState = sink_state g.K.Sink c.tail_within.new.out in
+    subst (λ (x : Request). GivesReply (session_conduct c.args.schema.now) (plain_request x) b b' before after c.tail_within.result.by c.tail_within.result.written) (sym c.in-Tailing.is)
+    c.tail_within.ensures.gives
 
 pub returns-in-Fetching-clause-gives : goal.returns-in-Fetching-clause-gives
 returns-in-Fetching-clause-gives g c =
     let b : BoardState = g.B.Board.state c.args.board.now in
-    let b' : BoardState = g.B.Board.state c.fetch.new.board in
+    let b' : BoardState = g.B.Board.state c.fetch_within.new.board in
     let before : SinkState = sink_state g.K.Sink c.args.out.now in
-    let after : SinkState = sink_state g.K.Sink c.fetch.new.out in
-    subst (λ (x : Request). GivesReply (session_conduct c.args.schema.now) (plain_request x) b b' before after None c.fetch.result) (sym c.in-Fetching.is)
-    c.fetch.ensures.answered
+    let after : SinkState = sink_state g.K.Sink c.fetch_within.new.out in
+    subst (λ (x : Request). GivesReply (session_conduct c.args.schema.now) (plain_request x) b b' before after None c.fetch_within.result) (sym c.in-Fetching.is)
+    c.fetch_within.ensures.answered
 
 pub returns-in-Refused-clause-gives : goal.returns-in-Refused-clause-gives
 returns-in-Refused-clause-gives g c =
