@@ -1,12 +1,12 @@
 -- A look at the seat's own mailbox leaves the passes, and says that there is none only of an empty one.
-use Rattle.std.proofs.Common.{◌≡◌, Bool, true, false, not, sym, ap, ◌∙◌, subst}
+use Rattle.std.proofs.Common.{◌≡◌, Bool, true, false, not, refl, sym, ap, ◌∙◌, subst}
 use Rattle.std.specs.Prelude.{IsTrue}
 use Rattle.be_mail.specs.Passes.{Passes, Held}
 use Rattle.be_mail.proofs.Hands.{at_own, may_fetch, is_hand, hands_set, stays, held}
 use Rattle.be_mail.proofs.mail.Mail.has_letter.Goals as goal
 
 is_empty : (b : Bool) → not b ≡ false → IsTrue b
-is_empty true e = tt
+is_empty true e = refl
 is_empty false e = absurd cc
 
 pub is_empty_as-requires-clause-queue : goal.is_empty_as-requires-clause-queue
