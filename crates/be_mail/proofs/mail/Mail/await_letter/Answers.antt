@@ -7,7 +7,7 @@ pub loop-init : goal.loop-init
 loop-init g c = refl
 
 pub has_letter-requires : goal.has_letter-requires
-has_letter-requires g c = ap (λ (q : Passes). q.boxes) c.loop.invariant ∙ c.requires.passes
+has_letter-requires g c = record { passes = ap (λ (q : Passes). q.boxes) c.loop.invariant ∙ c.requires.passes }
 
 pub returns-then-has_letter : goal.returns-then-has_letter
 returns-then-has_letter g c = c.has_letter.ensures.same ∙ c.loop.invariant
