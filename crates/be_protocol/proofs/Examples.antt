@@ -124,9 +124,29 @@ too_many_letters : fetch (tokens (codes "1000001")) ≡ refused bad
 unfolding is_word_byte
 too_many_letters = refl
 
-letters_of_two : fetch (tokens (codes "5 5")) ≡ refused bad
+letters_within_a_minute : fetch (tokens (codes "5 60000")) ≡ fetching 5
 unfolding is_word_byte
-letters_of_two = refl
+letters_within_a_minute = refl
+
+letters_within_more : fetch (tokens (codes "5 60001")) ≡ refused bad
+unfolding is_word_byte
+letters_within_more = refl
+
+letters_of_three : fetch (tokens (codes "5 5 5")) ≡ refused bad
+unfolding is_word_byte
+letters_of_three = refl
+
+too_many_letters_within : fetch (tokens (codes "1000001 5")) ≡ refused bad
+unfolding is_word_byte
+too_many_letters_within = refl
+
+next_change : tail (tokens (codes "41 0 5000")) ≡ tailing 41 0
+unfolding is_word_byte
+next_change = refl
+
+next_change_within_more : tail (tokens (codes "41 0 60001")) ≡ refused bad
+unfolding is_word_byte
+next_change_within_more = refl
 
 some_changes : tail (tokens (codes "007 5")) ≡ tailing 7 5
 unfolding is_word_byte
