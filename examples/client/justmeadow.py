@@ -225,13 +225,17 @@ class Session(Calls):
 
     def ask(self, line):
         """Sends one line, and returns its reply."""
+        self.tell(line)
+        return self.reply()
+
+    def tell(self, line):
+        """Sends one line, whose `reply` is read later."""
         try:
             self.writer.write(one_line(line))
             self._allow(line)
             self.writer.flush()
         except OSError as error:
             raise Ended("the program reads no more") from error
-        return self.reply()
 
     def ask_all(self, lines):
         """Sends these lines, and gives their replies in order. It reads all of them before the next `ask`."""
