@@ -9,7 +9,7 @@
 set -o pipefail
 use_program
 export BENCH_PROGRAM="$program"
-scripts=(peers run changes memory serve drill follow cluster load cover)
+scripts=(peers run changes memory serve waits drill follow cluster load cover)
 failed=()
 
 for script in "${scripts[@]}"; do

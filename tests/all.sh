@@ -8,7 +8,7 @@ export JUSTMEADOW_PROGRAM
 said="$(mktemp)"
 trap 'rm -f "$said"' EXIT
 passed=0 failed=0
-for script in script.sh completion.sh cli.sh drill.sh serve.sh mirror.sh clients.sh cluster.sh build.sh docs.sh uncited.py; do
+for script in script.sh completion.sh cli.sh drill.sh serve.sh waits.sh mirror.sh clients.sh cluster.sh build.sh docs.sh uncited.py; do
     case "$script" in *.py) with=python3 ;; *) with=bash ;; esac
     "$with" "$top/tests/$script" 2>&1 | tee "$said" | sed "s/^/${script%.*}: /"
     status=${PIPESTATUS[0]}

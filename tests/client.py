@@ -50,7 +50,10 @@ def interactive(schema):
     same("letters", session.send("side=buy"), (1, 0))
     same("what they say", session.fetch(10), [("buys", "side=buy")])
     same("no letter", session.fetch(10), [])
+    same("no letter, where it might wait and doesn't", session.fetch(10, 60000), [])
+    same("a wait that is too long", refused(session.fetch, 10, 60001), ["BAD"])
     same("the changes", session.tail(1, 2), ["SUB 1 1 buys side = buy", "UNSUB 1 2 cheap"])
+    same("no change, where it might wait and doesn't", session.tail(3, 2, 60000), [])
     same("too many changes", refused(session.tail, "0", "1000001"), ["BAD"])
     load = schema + ".load"
     with open(load, "w", encoding="ascii") as file:

@@ -215,6 +215,8 @@ def by_the_page(schema, load):
             ("fetch 1", [["b", "side={buy,sell}"]]),
             ("fetch 10", [["b", "price=2 side=buy"]]),
             ("fetch 10", []),
+            ("fetch 10 0", []), ("fetch 10 60001", "refused BAD"), ("fetch 10 1 2", "refused BAD"),
+            ("tail 4 2 0", [4, []]), ("tail 4 2 x", "refused BAD"),
             ("tail 1 2", [4, ["SUB 1 0 a price >= 10", "SUB 1 1 b side in {buy}"]]),
             ("tail 0 1000001", "refused BAD"),
             ("dump", "ROW z price < 5\nROW b side in {buy}\n# DUMP 4 2\n"),
@@ -302,6 +304,37 @@ def given_up(schema):
             demo.calls([("list", [8, ["b"]])])
 
 
+def waits(schema):
+    """Lines that wait, through a client that has less patience than that; and letters as they come."""
+
+    def asked(what, demo, line, wanted, least, most):
+        began = time.monotonic()
+        case(line, demo.call(line), wanted)
+        case(f"{what}: {line}: between {least} and {most} seconds", least <= time.monotonic() - began <= most, True)
+
+    with Server(schema, 8, 1000) as server, server.watcher() as watcher:
+        relay = Relay(server)
+        with Demo(relay.port, 1) as demo:
+            demo.calls([("subscribe a all", 1)])
+            asked("a wait over the patience", demo, "fetch 5 1500", [], 1.4, 4)
+            asked("a wait over the patience", demo, "tail 1 5 1500", [1, []], 1.4, 4)
+            asked("a line of one's own", demo, "lines FETCH 5 1500", ["END 0"], 1.4, 4)
+            later(1.2, watcher.send, "price=7")
+            asked("a wait for a letter", demo, "fetch 5 20000", [["a", "price=7"]], 0.5, WAIT)
+            later(1.2, watcher.subscribe, "b", "side = buy")
+            given = demo.call("tail 1 1 20000")
+            case("a wait for a change", (given[0], [change.split(" ")[3:] for change in given[1]]), (2, [["b", "side", "=", "buy"]]))
+            for number in range(3):
+                later(0.3 * (number + 1), watcher.send, f"price={number}")
+            case("letters as they come", demo.call("letters 3"), [["a", f"price={number}"] for number in range(3)])
+            later(0.3, relay.cut)
+            case("a FETCH that was lost while it waited", demo.call("fetch 5 20000"), "lost")
+            case("the next call", demo.call("list")[1:], [["a"]])
+            later(0.3, relay.cut)
+            n = watcher.tail(0, 0).n
+            case("a TAIL that was lost while it waited is asked again", len(demo.call(f"tail {n} 1 20000")[1]), 1)
+
+
 def rare():
     """Replies that want of memory alone brings, or nothing."""
     script = Script(["HELD 5", "SHUT", "NOMEM", "SENT 7 0 3", "COST 7 3 5", "TWICE a", "NOTE 3 a -\nNOTE 4 b c={1,2} d=0\nEND 2", "HELD 8", "SPLIT 8 9"], [])
@@ -346,7 +379,7 @@ def drive(schema):
     with open(load, "w", encoding="ascii") as file:
         file.write("ROW z price < 5\n")
     parts = [(by_the_page, schema, load), (at_once, schema), (broken_off, schema), (one_seat, schema), (given_up, schema)]
-    parts += [(rare,), (restored_elsewhere,), (bad_words,)]
+    parts += [(waits, schema), (rare,), (restored_elsewhere,), (bad_words,)]
 
     def run(part, *words):
         try:

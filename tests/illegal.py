@@ -10,9 +10,9 @@ SEEDS = 6
 SCHEMA = "int price 0 1000\nint qty -5 5\nsym side buy sell hold\nint one 7 7\n"
 OPENING = "ROW o price < 5\n"
 FILES = [
-    b"SUB a all\nPUB price=1\nSUB a all\nSEND price=1\nSEND -\nUNSUB b\nFETCH 5\nUNSUB zz\nLIST\nCOST price=1\nDUMP\nTAIL 1 2\n"
+    b"SUB a all\nPUB price=1\nSUB a all\nSEND price=1\nSEND -\nUNSUB b\nFETCH 5 300\nUNSUB zz\nLIST\nCOST price=1\nDUMP\nTAIL 1 2 60000\n"
     b"SUB c cost = 1\n" + b"x" * 65537 + b"\r\nQUIT\nPUB -\n",
-    b"SUB b price>=1\r\nPUB price=1\nFETCH 1\nUNSUB b\nSUB b all\nSEND qty=0\nFETCH 9\nnothing",
+    b"SUB b price>=1\r\nPUB price=1\nFETCH 1\nUNSUB b\nSUB b all\nSEND qty=0\nFETCH 9 0\nFETCH 9 60001",
 ]
 OUTPUT = """== 1
 OK 2

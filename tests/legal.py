@@ -54,10 +54,10 @@ def few(command, reader):
     """What a command says that has neither a condition nor an event."""
     if command == "UNSUB":
         return (reader.name(),)
-    if command == "FETCH":
-        return (reader.count(ASKED),)
-    if command == "TAIL":
-        return reader.count((1 << 63) - 1), reader.count(ASKED)
+    if command in ("FETCH", "TAIL"):
+        said = (reader.count((1 << 63) - 1), reader.count(ASKED)) if command == "TAIL" else (reader.count(ASKED),)
+        reader.wait()  # how long it waited changes nothing of what it may answer
+        return said
     if command in ("LIST", "DUMP", "QUIT"):
         return ()
     raise model.Refusal("BAD")

@@ -22,6 +22,11 @@ class Mixed(model.Lines):
             return f"shared{pick.randint(1, 30)}"
         return f"f{self.session}.{pick.randint(1, 40)}"
 
+    def wait(self):
+        """Short ones, since `drill` and `serve` do wait."""
+        pick = self.random
+        return "" if pick.random() < 0.8 else " " + pick.choice(["0", "1", "2", "60001", "x", "1 2"])
+
     def picked(self):
         pick = self.random
         kind = pick.random()
@@ -36,11 +41,11 @@ class Mixed(model.Lines):
         if kind < 0.86:
             return f"SEND {self.event()}"
         if kind < 0.94:
-            return f"FETCH {pick.choice(['0', '1', '2', '5', '30', '007', '1000000'])}"
+            return f"FETCH {pick.choice(['0', '1', '2', '5', '30', '007', '1000000'])}{self.wait()}"
         if kind < 0.96:
             return "LIST"
         if kind < 0.995:
-            return f"TAIL {pick.randint(0, 20000)} {pick.choice(['0', '1', '3', '20'])}"
+            return f"TAIL {pick.randint(0, 20000)} {pick.choice(['0', '1', '3', '20'])}{self.wait()}"
         return pick.choice(["DUMP", "TAIL 0 1000", "TAIL 7 7 7", "x" * 65537, "x" * 65536, ""])
 
     def text(self, count):

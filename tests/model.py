@@ -19,6 +19,7 @@ SCHEMA = [
 ]
 BOX = 1024
 ASKED = 1000000
+WAITED = 60000
 TOKEN = re.compile(r"[A-Za-z0-9_.-]+|<=|>=|!=|[<>={},]")
 WORD = re.compile(r"[A-Za-z0-9_.-]+")
 
@@ -74,6 +75,11 @@ class Reader:
         if not re.fullmatch("[0-9]+", word) or int(word) > limit:
             raise Refusal("BAD")
         return int(word)
+
+    def wait(self):
+        """How many milliseconds a line may wait, where it says so. The model never waits."""
+        if self.left:
+            self.count(WAITED)
 
     def end(self):
         if self.left:
@@ -236,11 +242,13 @@ class Model:
             return [named("HIT", n, hits) if command == "PUB" else self.sent(event, hits)]
         if command == "FETCH":
             most = reader.count(ASKED)
+            reader.wait()
             reader.end()
             given, self.box = self.box[:most], self.box[most:]
             return [*given, f"END {len(given)}"]
         if command == "TAIL":
             first, most = reader.count((1 << 63) - 1), reader.count(ASKED)
+            reader.wait()
             reader.end()
             told = [f"AT {place} {self.log[place]}" for place in range(first, min(n, first + most))]
             return [*told, f"TAILED {n} {len(told)}"]
@@ -370,10 +378,14 @@ class Lines:
     def count(self):
         return self.random.choice(["0", "1", "2", "3", "5", "007", "40", "1000000", "1000001", "9" * 18, "9" * 20, "x", "-1", ""])
 
+    def wait(self):
+        pick = self.random
+        return "" if pick.random() < 0.6 else " " + pick.choice(["0", "1", "007", "60000", "60001", "9" * 20, "x", "-1", "1 2"])
+
     def line(self, sends):
         pick = self.random
         sub, pub, unsub = f"SUB {self.name()} {self.condition()}", f"PUB {self.event()}", f"UNSUB {self.name()}"
-        send, fetch, tail = f"SEND {self.event()}", f"FETCH {self.count()}", f"TAIL {self.count()} {self.count()}"
+        send, fetch, tail = f"SEND {self.event()}", f"FETCH {self.count()}{self.wait()}", f"TAIL {self.count()} {self.count()}{self.wait()}"
         few = [sub] * 4 + [pub] * 6 + [unsub] * 2 + ["LIST", "DUMP", "DUMP x", tail, fetch]
         return self.spoiled(pick.choice(few + [send] * sends), 0.05)
 

@@ -1,5 +1,6 @@
 """A server over TCP, clients that behave and clients that don't, and the judge of what they saw: a part of tests/serve.py and tests/mirror.py."""
 import contextlib
+import select
 import socket
 import struct
 import subprocess
@@ -112,6 +113,37 @@ class Client:
     def close(self):
         with contextlib.suppress(OSError):
             self.socket.close()
+
+
+class Link(Client):
+    """A client that reads what comes in pieces, and has whole replies."""
+
+    def __init__(self, server, within=WAIT):
+        super().__init__(server.port, server.process)
+        self.socket.settimeout(within)
+        self.came, self.at = bytearray(), 0
+
+    def line(self):
+        while (end := self.came.find(b"\n", self.at)) < 0:
+            data = self.socket.recv(1 << 16)
+            if not data:
+                raise EOFError("the server ended the link")
+            self.came += data
+        text, self.at = self.came[self.at : end].decode("ascii"), end + 1
+        return text
+
+    def reply(self):
+        lines = [self.line()]
+        while lines[-1].startswith(("NOTE ", "ROW ", "AT ")):
+            lines.append(self.line())
+        return lines
+
+    def asked(self, line):
+        self.send(line.encode() + b"\n")
+        return self.reply()
+
+    def is_quiet(self, seconds):
+        return self.at == len(self.came) and not select.select([self.socket], [], [], seconds)[0]
 
 
 class Cut(legal.Walk):

@@ -63,6 +63,7 @@ var (
 	refusals      = regexp.MustCompile(`^(BAD|LONG|NOMEM|SHUT|ATTR|DOM|TWICE|MANY|DUP|NONE|OTHER|SPLIT)$`)
 	beforeTheLast = regexp.MustCompile(`^(NOTE|ROW|AT) `)
 	names         = regexp.MustCompile(`^[A-Za-z0-9_.-]+$`)
+	waits         = regexp.MustCompile(`^[ \t]*(?:FETCH|TAIL[ \t]+[0-9]+)[ \t]+[0-9]+[ \t]+([0-9]{1,8})[ \t]*\r?$`)
 	changes       = regexp.MustCompile(`^[ \t]*(SUB|UNSUB|QUIT)\b[ \t]*([A-Za-z0-9_.-]*)[ \t]*(.*?)\r?$`)
 )
 
@@ -122,6 +123,24 @@ func understood(line string, reply Reply, wanted ...string) error {
 	return fmt.Errorf("%w: %.200q answers %.200q", ErrUnreadable, reply.Text, line)
 }
 
+// waiting is the line, with the wait behind it where one is given.
+func waiting(line string, waitMillis []int) string {
+	for _, millis := range waitMillis {
+		line += " " + strconv.Itoa(millis)
+	}
+	return line
+}
+
+// waitOf is how long the server may wait before it answers this line.
+func waitOf(line string) time.Duration {
+	found := waits.FindStringSubmatch(line)
+	if found == nil {
+		return 0
+	}
+	millis, _ := strconv.Atoi(found[1])
+	return time.Duration(millis) * time.Millisecond
+}
+
 // turns calls try until it says that it is done, or until that time, each after a longer pause than the one before.
 func turns(until time.Time, try func() (isDone bool)) {
 	pause := firstPause
@@ -153,7 +172,8 @@ type Client struct {
 	hasEnded bool
 }
 
-// Connect makes a client. It waits at most so long for a reply, and as long to be connected and subscribed again.
+// Connect makes a client. It waits at most so long for a reply, besides what the line may wait, and as long to be connected and
+// subscribed again.
 func Connect(address string, patience time.Duration) (*Client, error) {
 	client := &Client{Kept: map[string]Kept{}, address: address, patience: patience}
 	return client, client.connect()
@@ -189,17 +209,38 @@ func (client *Client) Send(event string) (Reply, error) {
 	return client.told(client.ask, "SEND "+event, "SENT")
 }
 
-// Fetch takes the next letters, at most so many. Each of the Rows is NOTE, a number, the name and the event.
-func (client *Client) Fetch(most int) (Reply, error) {
-	return client.told(client.ask, fmt.Sprint("FETCH ", most), "END")
+// Fetch takes the next letters, at most so many. Each of the Rows is NOTE, a number, the name and the event. Where there is none it
+// waits for one, at most so many milliseconds where these are given. There may be none before that.
+func (client *Client) Fetch(most int, waitMillis ...int) (Reply, error) {
+	return client.told(client.ask, waiting(fmt.Sprint("FETCH ", most), waitMillis), "END")
+}
+
+// EachLetter calls this with the name and the event of each letter, as they come, until the call returns false.
+func (client *Client) EachLetter(most, waitMillis int, call func(name, event string) bool) error {
+	for {
+		began := time.Now()
+		reply, err := client.Fetch(most, waitMillis)
+		if err != nil {
+			return err
+		}
+		for _, row := range reply.Rows {
+			if !call(row[2], row[3]) {
+				return nil
+			}
+		}
+		if len(reply.Rows) == 0 && time.Since(began) < firstPause {
+			time.Sleep(firstPause) // it was answered early
+		}
+	}
 }
 
 // Dump gives all live subscriptions. The text of the reply is a load file.
 func (client *Client) Dump() (Reply, error) { return client.told(client.askAgain, "DUMP", "# DUMP") }
 
-// Tail gives the changes from a place on, at most so many. Each of the Rows is AT, the place and the change.
-func (client *Client) Tail(place int64, most int) (Reply, error) {
-	return client.told(client.askAgain, fmt.Sprint("TAIL ", place, " ", most), "TAILED")
+// Tail gives the changes from a place on, at most so many. Each of the Rows is AT, the place and the change. Where the list has no
+// more than place it waits until it has, at most so many milliseconds where these are given.
+func (client *Client) Tail(place int64, most int, waitMillis ...int) (Reply, error) {
+	return client.told(client.askAgain, waiting(fmt.Sprint("TAIL ", place, " ", most), waitMillis), "TAILED")
 }
 
 // Quit ends the session. The reply's one number is that of its leave.
@@ -249,7 +290,7 @@ func (client *Client) told(ask func(string) (Reply, error), line string, wanted 
 // askAgain asks again after a loss. A DUP may then be of this very line, done just before the loss: it is waited out too.
 func (client *Client) askAgain(line string) (reply Reply, err error) {
 	wasLost := false
-	turns(time.Now().Add(2*client.patience), func() bool {
+	turns(time.Now().Add(2*client.patience+waitOf(line)), func() bool {
 		if err = client.connect(); err != nil {
 			return true
 		}
@@ -275,7 +316,7 @@ func (client *Client) exchange(lines []string) (replies []Reply, err error) {
 		writer.Flush() // where it fails the reader meets the end, and tells it
 	}(bufio.NewWriter(client.conn))
 	for _, line := range lines {
-		reply, err := client.reply()
+		reply, err := client.reply(waitOf(line))
 		if err != nil {
 			client.abandon() // which ends the sending
 			return replies, err
@@ -286,10 +327,11 @@ func (client *Client) exchange(lines []string) (replies []Reply, err error) {
 	return replies, nil
 }
 
-func (client *Client) reply() (Reply, error) {
+// reply reads one, for which the server may wait so long.
+func (client *Client) reply(wait time.Duration) (Reply, error) {
 	var text strings.Builder
 	for {
-		client.conn.SetDeadline(time.Now().Add(client.silence))
+		client.conn.SetDeadline(time.Now().Add(client.silence + wait))
 		line, err := client.reader.ReadString('\n')
 		if err != nil {
 			return Reply{}, fmt.Errorf("%w: %v", ErrLost, err)

@@ -17,7 +17,7 @@ import (
 
 // taken is how many words each call takes, of which the last is the rest of the line.
 var taken = map[string]int{
-	"subscribe": 2, "unsubscribe": 1, "publish": 1, "list": 0, "send": 1, "fetch": 1, "dump": 0, "tail": 2, "quit": 0, "kept": 0, "lines": 1,
+	"subscribe": 2, "unsubscribe": 1, "publish": 1, "list": 0, "send": 1, "fetch": 1, "letters": 1, "dump": 0, "tail": 2, "quit": 0, "kept": 0, "lines": 1,
 }
 
 // answer makes the call that the line names, and returns what is printed of it.
@@ -38,6 +38,12 @@ func answer(client *Client, line string) (any, error) {
 		}
 		return -1 // which the server refuses
 	}
+	numbers := func(words string) (all []int) {
+		for _, word := range strings.Split(words, " ") {
+			all = append(all, number(word))
+		}
+		return all
+	}
 	printed := []any{}
 	switch call {
 	case "subscribe":
@@ -51,19 +57,27 @@ func answer(client *Client, line string) (any, error) {
 	case "send":
 		return said(client.Send(rest))
 	case "fetch":
-		return said(client.Fetch(number(rest)))
+		asked := numbers(rest)
+		return said(client.Fetch(asked[0], asked[1:]...))
+	case "letters":
+		err := client.EachLetter(1, 10000, func(name, event string) bool {
+			printed = append(printed, []string{name, event})
+			return len(printed) < number(rest)
+		})
+		return printed, err
 	case "dump":
 		return said(client.Dump())
 	case "tail":
-		return said(client.Tail(int64(number(first)), number(second)))
+		asked := numbers(second)
+		return said(client.Tail(int64(number(first)), asked[0], asked[1:]...))
 	case "quit":
 		return said(client.Quit())
 	case "kept":
-		numbers := map[string]int64{}
-		for name, kept := range client.Kept {
-			numbers[name] = kept.N
+		kept := map[string]int64{}
+		for name, one := range client.Kept {
+			kept[name] = one.N
 		}
-		return numbers, nil
+		return kept, nil
 	case "lines":
 		replies, err := client.AskAll(strings.Split(rest, ";")...)
 		for _, reply := range replies {

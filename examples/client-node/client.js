@@ -34,6 +34,7 @@ const ACCEPTED = ['OK', 'HELD'];
 const BEFORE_THE_LAST = /^(NOTE|ROW|AT) /;
 const NUMBER = /^[0-9]+$/;
 const NAME = /^[A-Za-z0-9_.-]+$/;
+const WAITS = /^[ \t]*(?:FETCH|TAIL[ \t]+\d+)[ \t]+\d+[ \t]+(\d{1,8})[ \t]*\r?$/;
 const FIRST_PAUSE = 50; // milliseconds between two attempts
 const LONGEST_PAUSE = 1000;
 
@@ -82,6 +83,12 @@ function understood(line, reply, wanted) {
   throw new Unreadable(`${reply.text.slice(0, 200)} answers ${line.slice(0, 200)}`);
 }
 
+/** How many milliseconds the server may wait before it answers this line. */
+const waitOf = (line) => Number(WAITS.exec(line)?.[1] ?? 0);
+
+/** The words of a line, where those that aren't given are left out. */
+const lineOf = (...words) => words.filter((word) => word !== undefined).join(' ');
+
 function oneName(name) {
   if (!NAME.test(name)) throw new TypeError(`${name} is no name: it would be read as something else`);
   return name;
@@ -99,7 +106,7 @@ async function* turns(until) {
 }
 
 /** One connection: lines out, replies in, in the same order. It is lost where it is silent for so many milliseconds while a reply
- * is awaited, or while it isn't open. */
+ * is awaited, and for longer where the line may wait, or while it isn't open. */
 class Connection {
   #awaited = []; // the calls without a reply, the oldest first
   #parts = []; // of a line whose LF hasn't come
@@ -115,13 +122,20 @@ class Connection {
       if (this.socket.connecting || this.socket.writableEnded || this.#awaited.length > 0) this.socket.destroy(new Error('the server is silent'));
     });
     this.opened = once(this.socket, 'connect');
+    this.silence = silence;
+  }
+
+  /** The server may be silent for as long as the oldest line may wait. */
+  allow() {
+    this.socket.setTimeout(this.silence + (this.#awaited[0]?.wait ?? 0));
   }
 
   /** Sends one line. What it returns is settled by the reply. */
   ask(line) {
     return new Promise((resolve, reject) => {
       if (!this.isOpen) return reject(new Lost('the connection is closed'));
-      this.#awaited.push({ resolve, reject });
+      this.#awaited.push({ resolve, reject, wait: waitOf(line) });
+      this.allow();
       this.socket.write(line + '\n', 'utf8');
     });
   }
@@ -145,6 +159,7 @@ class Connection {
     if (!this.isOpen || BEFORE_THE_LAST.test(line)) return;
     const text = this.#lines.splice(0).join('\n');
     const call = this.#awaited.shift();
+    this.allow();
     try {
       const reply = parse(text);
       if (!call) throw new Unreadable(`nobody asked for ${text.slice(0, 200)}`);
@@ -164,7 +179,7 @@ class Client {
   #restoring = null;
   #hasEnded = false;
 
-  /** It waits at most `patience` seconds for a reply, and as long to be connected and subscribed again. */
+  /** It waits at most `patience` seconds for a reply, besides what the line may wait, and as long to be connected and subscribed again. */
   constructor(port, { host = '127.0.0.1', patience = 30 } = {}) {
     Object.assign(this, { port, host, patience: Math.max(1000 * patience, FIRST_PAUSE) });
     this.subscriptions = new Map(); // name to { condition, n }; an entry that is taken out isn't subscribed again
@@ -203,9 +218,20 @@ class Client {
     return { n, put, dropped };
   }
 
-  /** The next letters, at most so many. */
-  async fetch(most) {
-    return (await this.#told(`FETCH ${most}`, ['END'], true)).rows.map(([n, name, event]) => ({ n: Number(n), name, event }));
+  /** The next letters, at most so many. Where there is none it waits for one, at most so many milliseconds. There may be none before
+   * that, as where another line is sent meanwhile. */
+  async fetch(most, waitMs) {
+    return (await this.#told(lineOf('FETCH', most, waitMs), ['END'], true)).rows.map(([n, name, event]) => ({ n: Number(n), name, event }));
+  }
+
+  /** Calls this with each letter, as they come, and awaits what it returns, until that is false. */
+  async eachLetter(call, most = 100, waitMs = 10_000) {
+    for (;;) {
+      const began = Date.now();
+      const letters = await this.fetch(most, waitMs);
+      for (const letter of letters) if (await call(letter) === false) return;
+      if (!letters.length && Date.now() - began < FIRST_PAUSE) await sleep(FIRST_PAUSE); // it was answered early
+    }
   }
 
   /** All live subscriptions, as the text of a load file. */
@@ -213,9 +239,10 @@ class Client {
     return (await this.#told('DUMP', ['# DUMP'])).text + '\n';
   }
 
-  /** The changes from a place on, at most so many, as their texts; the list has n. */
-  async tail(place, most) {
-    const { numbers: [n], rows } = await this.#told(`TAIL ${place} ${most}`, ['TAILED']);
+  /** The changes from a place on, at most so many, as their texts; the list has n. Where it has no more than `place` it waits until
+   * it has, at most so many milliseconds. */
+  async tail(place, most, waitMs) {
+    const { numbers: [n], rows } = await this.#told(lineOf('TAIL', place, most, waitMs), ['TAILED']);
     return { n, changes: rows.map(([, change]) => change) };
   }
 
@@ -270,7 +297,7 @@ class Client {
     const orLost = (error) => { if (error instanceof Lost) return error; throw error; };
     let result = await this.#askOnce(this.#live() ?? await this.#connected(), line).catch(orLost);
     if (!(result instanceof Lost)) return result;
-    for await (const _ of turns(Date.now() + 2 * this.patience)) {
+    for await (const _ of turns(Date.now() + 2 * this.patience + waitOf(line))) {
       result = await this.#askOnce(await this.#connected(), line).catch(orLost);
       const isWaitedOut = result.kind === 'DUP' && !this.subscriptions.has(line.split(' ')[1]);
       if (!isWaitedOut && !(result instanceof Lost)) return result;
@@ -299,7 +326,8 @@ class Client {
       try {
         await connection.opened;
         await this.#subscribeAgain(connection, until);
-        connection.socket.setTimeout(this.patience);
+        connection.silence = this.patience;
+        connection.allow();
         this.#live(); // which throws where the session was closed meanwhile
         return this.#connection = connection;
       } catch (error) {
@@ -345,8 +373,13 @@ const CALLS = {
   publish: [1, async (client, event) => Object.values(await client.publish(event))],
   list: [0, async (client) => Object.values(await client.list())],
   send: [1, async (client, event) => Object.values(await client.send(event)).slice(1)],
-  fetch: [1, async (client, most) => (await client.fetch(most)).map(({ name, event }) => [name, event])],
-  tail: [2, async (client, place, most) => Object.values(await client.tail(place, most))],
+  fetch: [1, async (client, rest) => (await client.fetch(...fields(rest, 2))).map(({ name, event }) => [name, event])],
+  letters: [1, async (client, count) => {
+    const letters = [];
+    await client.eachLetter(({ name, event }) => letters.push([name, event]) < Number(count), 1);
+    return letters;
+  }],
+  tail: [2, async (client, place, rest) => Object.values(await client.tail(place, ...fields(rest, 2)))],
   dump: [0, (client) => client.dump()],
   quit: [0, (client) => client.quit()],
   lines: [1, async (client, rest) => (await Promise.all(rest.split(';').map((line) => client.ask(line)))).map((reply) => reply.text)],

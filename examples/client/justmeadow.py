@@ -36,6 +36,7 @@ SHAPES = {
 ROWS = {"END": ("NOTE", 4), "# DUMP": ("ROW", 3), "TAILED": ("AT", 3)}
 REFUSALS = {"BAD", "LONG", "NOMEM", "SHUT", "ATTR", "DOM", "TWICE", "MANY", "DUP", "NONE", "OTHER", "SPLIT"}
 NUMBER, NAME = re.compile(r"[0-9]+"), re.compile(r"[A-Za-z0-9_.-]+")
+WAITS = re.compile(r"[ \t]*(?:FETCH|TAIL[ \t]+[0-9]+)[ \t]+[0-9]+[ \t]+([0-9]+)[ \t]*\r?")
 
 FIRST_PAUSE, LONGEST_PAUSE = 0.05, 1.0  # seconds between two attempts
 
@@ -106,6 +107,16 @@ def one_line(line):
     return line.encode() + b"\n"
 
 
+def waiting(line, wait_ms):
+    return line if wait_ms is None else f"{line} {wait_ms}"
+
+
+def wait_of(line):
+    """How many seconds the server may wait before it answers this line."""
+    found = WAITS.fullmatch(line)
+    return int(found[1]) / 1000 if found and len(found[1]) < 9 else 0
+
+
 def one_name(name):
     if not NAME.fullmatch(name):
         raise ValueError(f"{name!r} is no name: it would be read as something else")
@@ -151,18 +162,31 @@ class Calls(contextlib.AbstractContextManager):
         """How many letters were put into boxes, and how many weren't."""
         return tuple(self._told(f"SEND {event}", "SENT").numbers[1:])
 
-    def fetch(self, most):
-        """The next letters, at most so many: the name and the event of each."""
-        return [(name, event) for _, name, event in self._told(f"FETCH {most}", "END").rows]
+    def fetch(self, most, wait_ms=None):
+        """The next letters, at most so many: the name and the event of each. Where there is none it waits for one, at most so many
+        milliseconds. There may be none before that."""
+        return [(name, event) for _, name, event in self._told(waiting(f"FETCH {most}", wait_ms), "END").rows]
+
+    def each_letter(self, call, most=100, wait_ms=10_000):
+        """Calls this with the name and the event of each letter, as they come, until the call returns False."""
+        while True:
+            began = time.monotonic()
+            letters = self.fetch(most, wait_ms)
+            for name, event in letters:
+                if call(name, event) is False:
+                    return
+            if not letters and time.monotonic() - began < FIRST_PAUSE:
+                time.sleep(FIRST_PAUSE)  # a program that doesn't wait, as `run`, isn't asked without a pause
 
     def dump(self):
         """All live subscriptions, as the text of a load file."""
         told = self._told("DUMP", "# DUMP")
         return "".join(f"ROW {name} {condition}\n" for name, condition in told.rows) + "# DUMP {} {}\n".format(*told.numbers)
 
-    def tail(self, place, most):
-        """The changes from a place on, at most so many, as their texts."""
-        told = self._told(f"TAIL {place} {most}", "TAILED")
+    def tail(self, place, most, wait_ms=None):
+        """The changes from a place on, at most so many, as their texts. Where the list has no more than `place` it waits until it has,
+        at most so many milliseconds."""
+        told = self._told(waiting(f"TAIL {place} {most}", wait_ms), "TAILED")
         return Told(told.numbers[0], [change for _, change in told.rows])
 
     def quit(self):
@@ -201,24 +225,35 @@ class Session(Calls):
 
     def ask(self, line):
         """Sends one line, and returns its reply."""
+        self.tell(line)
+        return self.reply()
+
+    def tell(self, line):
+        """Sends one line, whose `reply` is read later."""
         try:
             self.writer.write(one_line(line))
+            self._allow(line)
             self.writer.flush()
         except OSError as error:
             raise Ended("the program reads no more") from error
-        return self.reply()
 
     def ask_all(self, lines):
         """Sends these lines, and gives their replies in order. It reads all of them before the next `ask`."""
-        lines = [one_line(line) for line in lines]
-        threading.Thread(target=self._send, args=(lines,), daemon=True).start()
+        lines = list(lines)
+        sent = [one_line(line) for line in lines]
+        threading.Thread(target=self._send, args=(sent,), daemon=True).start()
         left = iter(lines)
         try:
-            for _ in left:
+            for line in left:
+                self._allow(line)
                 yield self.reply()
         finally:
-            for _ in left:  # a caller that stops early leaves no reply behind
+            for line in left:  # a caller that stops early leaves no reply behind
+                self._allow(line)
                 self.reply()
+
+    def _allow(self, line):
+        """A silence as long as this line may wait."""
 
     def _send(self, lines):
         with contextlib.suppress(OSError, ValueError):  # the reader meets the end, and says so
@@ -228,14 +263,21 @@ class Session(Calls):
 
 class Connection(Session):
     """A session of a server that runs, over a connection to it. While all its seats are taken, the first reply waits. Where
-    `within` is given, a connection is lost that is silent for so many seconds while a reply is awaited."""
+    `within` is given, a connection is lost that is silent for so many seconds while a reply is awaited, and for longer where the line
+    may wait."""
 
     def __init__(self, port, host="127.0.0.1", within=None):
         if not 1 <= port <= 65535:  # the system would take what is left of 65536
             raise ValueError(f"port {port} isn't from 1 to 65535")
+        self.within = within
         self.socket = socket.create_connection((host, port), timeout=within)
         self.socket.setsockopt(socket.IPPROTO_TCP, socket.TCP_NODELAY, 1)
         self.reader, self.writer = self.socket.makefile("rb"), self.socket.makefile("wb")
+
+    def _allow(self, line):
+        within = None if self.within is None else self.within + wait_of(line)
+        if within != self.socket.gettimeout():
+            self.socket.settimeout(within)
 
     def close(self):
         """Ends the input, at which the session leaves, and waits until it has."""
@@ -268,7 +310,8 @@ class Client(Calls):
     """A session that outlives its connections. The next call after a loss connects again, and subscribes again what
     `subscriptions` has, in its order. A name may still be live then, until the server sees that the old connection has ended:
     its `DUP` is waited out. A call that may be made twice is; `send`, `fetch`, `quit`, `ask` and `ask_all` raise `Lost`. Letters
-    that weren't fetched are gone. It waits at most `patience` seconds for a reply, and as long to be connected and subscribed again."""
+    that weren't fetched are gone. It waits at most `patience` seconds for a reply, besides what the line may wait, and as long to be
+    connected and subscribed again."""
 
     def __init__(self, port, host="127.0.0.1", patience=30.0):
         self.address, self.patience = (port, host), max(patience, FIRST_PAUSE)
@@ -322,7 +365,7 @@ class Client(Calls):
     def _ask_again(self, line):
         """Asks again after a loss. A `DUP` may then be of this very line, done just before the loss: it is waited out too."""
         lost = reply = None
-        for _ in turns(time.monotonic() + 2 * self.patience):
+        for _ in turns(time.monotonic() + 2 * self.patience + wait_of(line)):
             self._connect()
             try:
                 reply = self.ask(line)
@@ -350,7 +393,7 @@ class Client(Calls):
             try:
                 self.connection = Connection(*self.address, within=max(until - time.monotonic(), FIRST_PAUSE))
                 self._subscribe_again(until)
-                self.connection.socket.settimeout(self.patience)
+                self.connection.within = self.patience
                 return
             except Exception as error:
                 self._abandon()
@@ -380,12 +423,22 @@ class Client(Calls):
 
 
 CALLS = {  # the call, and how many words it takes, of which the last is the rest of the line
-    **{name: (getattr(Client, name), 1) for name in ("unsubscribe", "publish", "send", "fetch")},
-    **{name: (getattr(Client, name), 2) for name in ("subscribe", "tail")},
+    **{name: (getattr(Client, name), 1) for name in ("unsubscribe", "publish", "send")},
+    "subscribe": (Client.subscribe, 2),
+    "fetch": (lambda client, rest: client.fetch(*rest.split(" ", 1)), 1),
+    "letters": (lambda client, count: gathered(client, int(count)), 1),
+    "tail": (lambda client, place, rest: client.tail(place, *rest.split(" ", 1)), 2),
     **{"list": (Client.names, 0), "dump": (Client.dump, 0), "quit": (Client.quit, 0)},
     "lines": (lambda client, rest: client.ask_all(rest.split(";")), 1),
     "kept": (lambda client: {name: kept.n for name, kept in client.subscriptions.items()}, 0),
 }
+
+
+def gathered(client, count):
+    """So many letters, as they come."""
+    letters = []
+    client.each_letter(lambda *letter: letters.append(letter) or len(letters) < count, 1)
+    return letters
 
 
 def answer(client, line):

@@ -67,12 +67,16 @@ def writing():
         sys.exit(f"{name()}: {error}")
 
 
-def pause(length):
-    """Waits so many seconds, unless the reader goes away."""
-    watched = select.poll()
-    watched.register(sys.stdout.fileno(), 0)
-    if watched.poll(length * 1000):
+def pause(length, other=None):
+    """Waits so many seconds, or until this can be read, which it says, unless the reader goes away."""
+    watched, out = select.poll(), sys.stdout.fileno()
+    watched.register(out, 0)
+    if other is not None:
+        watched.register(other, select.POLLIN)
+    found = watched.poll(length * 1000)
+    if any(at == out for at, _ in found):
         raise Unwritten("nobody reads what is printed")
+    return bool(found)
 
 
 def show(lines):

@@ -1,6 +1,7 @@
 #!/usr/bin/env python3
 """Tells a leader's list of changes, from its first one on and for as long as it runs: asks `serve`, or a mirror, at PORT for
-`TAIL place 1000` again and again, and prints each reply that has new changes, whole and as it came. Its output is a feed.
+`TAIL place 1000 10000` again and again, which waits for a change, and prints each reply that has new changes, whole and as it came.
+Its output is a feed.
 
     examples/cluster/tell.py 7000
     examples/cluster/tell.py 7000 --beat 1 | ./justmeadow mirror examples/follower/schema.txt 7100 8 1000000
@@ -25,7 +26,8 @@ sys.path.insert(0, os.path.join(os.path.dirname(os.path.abspath(__file__)), ".."
 from justmeadow import Connection, Ended, turns  # noqa: E402
 
 STEP = 1000  # changes that are asked for at once
-SOON, LATER = 0.01, 0.25  # seconds until it asks again where nothing is new, from the first time on
+WAIT = 10.0  # seconds that the leader may wait for a change
+SOON, LATER = 0.01, 0.25  # seconds until it asks again where nothing is new and nobody waited, as a mirror, from the first time on
 FIRST_PAUSE = 0.05  # seconds between two tries to connect
 LONGEST_PAUSE = 1.0  # where the connection was refused
 LONGEST_OF_OPEN = 10.0  # where it was open, and so took one of the leader's LINKS
@@ -46,9 +48,9 @@ class Teller:
             within = self.words.patience if self.has_answered else until - began
             try:
                 session = Connection(self.words.port, self.words.host, within=max(within, FIRST_PAUSE))
-                asked(session, 0, 0)  # its answer says that there is a seat
+                asked(session, 0, 0, within)  # its answer says that there is a seat
                 self.has_answered, before = True, None
-                session.socket.settimeout(max(self.words.patience, FIRST_PAUSE))
+                session.within = max(self.words.patience, FIRST_PAUSE)
                 self.go_on(session)
             except (OSError, Ended) as error:
                 fault = self.fault(error)
@@ -74,8 +76,9 @@ class Teller:
         """Compares the list with what was printed, and prints what is new, until the connection breaks."""
         place, wait = 0, SOON
         while True:
-            known = len(self.told)
-            lines, length = asked(session, place, min(STEP, known - place) or STEP)
+            known, began = len(self.told), time.monotonic()
+            most = self.longest() if place >= known or self.is_short else 0
+            lines, length = asked(session, place, min(STEP, known - place) or STEP, session.within, most)
             if place < known:
                 self.compare(place, lines, length)
                 new = []
@@ -85,11 +88,16 @@ class Teller:
                 self.show([*new, b"TAILED %d %d" % (length, len(new))])
             self.told.extend(map(hash, new))
             place += len(lines)
-            if lines:
+            if lines or time.monotonic() - began >= max(most / 1000, SOON):
                 wait = SOON
             else:
                 pause(wait)
                 wait = min(2 * wait, LATER)
+
+    def longest(self):
+        """How many milliseconds the leader may wait: less than it may be silent, and no longer than until the next beat."""
+        until_beat = self.words.beat - (time.monotonic() - self.last) if self.words.beat else WAIT
+        return round(1000 * max(0, min(WAIT, self.words.patience / 2, until_beat)))
 
     def is_beat(self):
         return self.words.beat and time.monotonic() - self.last >= self.words.beat
@@ -115,10 +123,14 @@ class Teller:
         self.is_short = not lines or (self.is_short and place + len(lines) < len(self.told))
 
 
-def asked(session, place, most):
-    """The lines of these changes, and how many the leader has."""
+def asked(session, place, most, within, wait=0):
+    """The lines of these changes, and how many the leader has, which may wait so many milliseconds for one. It has to answer within
+    so many seconds."""
     for _ in turns(float("inf")):
-        *lines, last = session.ask(f"TAIL {place} {most}").split("\n")
+        session.tell(f"TAIL {place} {most} {wait}")
+        if not pause(max(within, FIRST_PAUSE), session.socket):
+            raise TimeoutError
+        *lines, last = session.reply().split("\n")
         if last.startswith("TAILED "):
             return [line.encode() for line in lines], int(last.split(" ")[1])
         if last not in ("NOMEM", "SHUT"):
