@@ -57,7 +57,15 @@ fn serve_file<T: Sheet<J>, J: Naming + BoxNames, S: Post, R: Wait + Clock, G: Ga
         source: FileSource::make(alloc, task),
         sink: Transcript::make(alloc),
     };
-    let end = serve_link(alloc, &hub.schema, &mut board, &mut link, gate, worker);
+    let end = serve_link(
+        alloc,
+        &hub.schema,
+        &mut board,
+        &mut link,
+        true,
+        gate,
+        worker,
+    );
     let (seat, asked, _) = board.take();
     FileEnd {
         seat,

@@ -202,7 +202,15 @@ fn serve_session<T: Sheet<J>, J: Naming + BoxNames, S: Post, R: Wait + Clock, L:
 {
     let mut link = link;
     let mut board = DeskBoard::<T, J, S, R, 1>::make(rt, hub, seat, asked, between);
-    let end = serve_link(alloc, &hub.schema, &mut board, &mut link, gate, worker);
+    let end = serve_link(
+        alloc,
+        &hub.schema,
+        &mut board,
+        &mut link,
+        false,
+        gate,
+        worker,
+    );
     let (seat, asked, between) = board.take();
     Visit {
         seat,

@@ -99,7 +99,7 @@ fn serve_pair<B: Board, S: Source, K: Sink>(
         source: input,
         sink: out,
     };
-    serve_link(alloc, schema, board, &mut peer, &NoGate, WORKER)
+    serve_link(alloc, schema, board, &mut peer, false, &NoGate, WORKER)
 }
 
 /// Serves one session, number 1, over the input and the output, with the schema in the file of this name, and over the opening

@@ -31,12 +31,14 @@ use std::alloc::Global;
 /// Serves the board's session over a link, until a QUIT, the end of the input, a SPLIT or a fault. Unless a reply ended it, or memory
 /// was wanting before the first line, the session leaves at its end. Replies are handed on before a read that may wait, and at the end.
 /// The gate is called by the worker's number before and after each line, and the board is asked to tend after every sixteenth reply that
-/// goes on.
+/// goes on. A line that may wait doesn't where more of the input was read ahead, unless `waits_ahead` says so, as of a file, all of
+/// which is there from the beginning.
 pub fn serve_link<B: Board, L: Link, G: Gate>(
     alloc: Global,
     schema: &Schema,
     board: &mut B,
     link: &mut L,
+    waits_ahead: bool,
     gate: &G,
     worker: u32,
 ) -> SessionEnd
@@ -61,6 +63,7 @@ pub fn serve_link<B: Board, L: Link, G: Gate>(
         schema,
         board,
         room: &mut room,
+        waits_ahead,
     };
     converse(alloc, &mut session, link, gate, worker)
 }
@@ -72,6 +75,7 @@ struct Session<'a, B: Board> {
     schema: &'a Schema,
     board: &'a mut B,
     room: &'a mut Room,
+    waits_ahead: bool,
 }
 
 impl<'a, B: Board> Replier for Session<'a, B> {
@@ -97,7 +101,7 @@ impl<'a, B: Board> Replier for Session<'a, B> {
             self.board,
             self.room,
             text,
-            ahead,
+            ahead && !self.waits_ahead,
             out,
         )
     }

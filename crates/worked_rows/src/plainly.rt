@@ -30,7 +30,7 @@ fn is_served<B: Board>(
     let source = MemSource::make(script, 18, Vec::new(alloc));
     let sink = MemSink::make(alloc, Vec::new(alloc));
     let mut peer = Pair { source, sink };
-    let end = serve_link(alloc, schema, board, &mut peer, &NoGate, 1);
+    let end = serve_link(alloc, schema, board, &mut peer, false, &NoGate, 1);
     Ok(end != SessionEnd::NoMemory && peer.sink.bytes() == want.as_bytes())
 }
 

@@ -42,12 +42,12 @@ pub fn serve<B: Board, G: Gate>(
     let sink = MemSink::make(alloc, vec![in alloc; setting.failing_write]?);
     if setting.gathers == 0 {
         let mut peer = Pair { source, sink };
-        let end = serve_link(alloc, schema, board, &mut peer, gate, WORKER);
+        let end = serve_link(alloc, schema, board, &mut peer, false, gate, WORKER);
         return Ok((parted(alloc, peer.sink.bytes())?, end));
     }
     let sink = Gathered::make(alloc, sink, setting.gathers)?;
     let mut peer = Pair { source, sink };
-    let end = serve_link(alloc, schema, board, &mut peer, gate, WORKER);
+    let end = serve_link(alloc, schema, board, &mut peer, false, gate, WORKER);
     Ok((parted(alloc, peer.sink.sink().bytes())?, end))
 }
 
