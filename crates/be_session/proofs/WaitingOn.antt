@@ -1,6 +1,5 @@
 -- What was handed on before a wait changes nothing of the reply behind it.
-use Rattle.std.proofs.Common.{◌≡◌, inl, inr, ◌<◌, true, false, List, [], ◌∷◌, ◌++◌, length, Option, Some, None, is_some, Result, Ok, Err, refl, sym, ap, ◌∙◌, subst, arith}
-use Rattle.std.specs.Prelude.{All}
+use Rattle.std.proofs.Common.{◌≡◌, inl, inr, ◌<◌, List, [], length, Option, None, Result, Ok, Err, refl, sym, ap, ◌∙◌, subst, arith}
 use Rattle.std.proofs.lemmas.List.{append-nil}
 use Rattle.std.proofs.lemmas.List.Elements.{All-nil}
 use Rattle.be_base.specs.Counts.{HasRisen}
@@ -11,9 +10,8 @@ use Rattle.be_io.specs.declared.faults.SinkFault.TheVariants.{Failed, NoMemory}
 use Rattle.be_io.proofs.ToldLemmas.{HoldsMore-nil}
 use Rattle.be_model.specs.Schemas.{Attributes}
 use Rattle.be_change.specs.Requests.{Request, fetching, tailing, notes, no_memory}
-use Rattle.be_protocol.specs.Conduct.{Refused, GivesReply, RepliedTo, RepliedInPartTo, WroteInPart}
+use Rattle.be_protocol.specs.Conduct.{Refused, GivesReply, RepliedInPartTo, WroteInPart}
 use Rattle.be_protocol.specs.Conversation.{RefusedOnce}
-use Rattle.be_protocol.specs.Ends.{end_after}
 use Rattle.be_protocol.specs.Replies.{reply_text}
 use Rattle.be_protocol.specs.declared.ends.SessionEnd.{SessionEnd}
 use Rattle.be_board.specs.State.{BoardState}
@@ -25,9 +23,6 @@ use Rattle.be_session.specs.Waiting.{HandsOn}
 use Rattle.be_session.proofs.FetchingEnds.{fetch_steps, part_tied}
 use Rattle.be_session.proofs.Said.{replies_in_part, unread_event}
 use Rattle.be_session.proofs.Tying.{puts_one}
-
-pub handed_none : (s : SinkState) → HandsOn s s (Ok tt)
-handed_none s = (refl, refl, refl)
 
 pub handed : (before after : SinkState) (result : Result (Unit {0}) SinkFault) → Flushed before after result → HandsOn before after result
 handed before after (Ok u) f = (ap (λ (s : SinkState). s.held) f, ap (λ (s : SinkState). s.faults) f, ap (λ (s : SinkState). s.refusals) f)
