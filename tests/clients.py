@@ -328,11 +328,9 @@ def waits(schema):
                 later(0.3 * (number + 1), watcher.send, f"price={number}")
             case("letters as they come", demo.call("letters 3"), [["a", f"price={number}"] for number in range(3)])
             later(0.3, relay.cut)
-            case("a FETCH that was lost while it waited", demo.call("fetch 5 20000"), "lost")
-            case("the next call", demo.call("list")[1:], [["a"]])
+            demo.calls([("fetch 5 20000", "lost"), ("kept", {"a": 1})])
             later(0.3, relay.cut)
-            n = watcher.tail(0, 0).n
-            case("a TAIL that was lost while it waited is asked again", len(demo.call(f"tail {n} 1 20000")[1]), 1)
+            case("a TAIL that was lost while it waited is asked again", len(demo.call(f"tail {watcher.tail(0, 0).n} 1 20000")[1]), 1)
 
 
 def rare():

@@ -46,7 +46,7 @@ class Mixed(model.Lines):
             return "LIST"
         if kind < 0.995:
             return f"TAIL {pick.randint(0, 20000)} {pick.choice(['0', '1', '3', '20'])}{self.wait()}"
-        return pick.choice(["DUMP", "TAIL 0 1000", "TAIL 7 7 7", "x" * 65537, "x" * 65536, ""])
+        return pick.choice(["DUMP", "TAIL 0 1000", "TAIL 7 7 7 7", "x" * 65537, "x" * 65536, ""])
 
     def text(self, count):
         lines = [self.spoiled(self.picked() or " ", 0.02) for _ in range(count)]
