@@ -29,7 +29,7 @@ use Rattle.be_event.specs.declared.schema_texts.SchemaFault.TheVariants.{Line}
 use Rattle.be_event.specs.declared.schema_texts.SchemaKind.{SchemaKind}
 use Rattle.be_event.specs.Events.{event_of}
 use Rattle.be_event.specs.SchemaTexts.{words, declares_nothing, int_domain, sym_domain, domain_of, declared, kind_of, attribute_or_fault, judge, declaration, after_declaration, schema_from, schema_of}
-use Rattle.be_protocol.specs.Readings.{subscribe_or_refused, subscription_asked, unsubscribe_or_refused, removal_asked, asking_of, of_event, number_asked, fetching_at_most, fetch, tailing_at_most, tail, alone, Command, commands, commanded_by, request_of, reading}
+use Rattle.be_protocol.specs.Readings.{subscribe_or_refused, subscription_asked, unsubscribe_or_refused, removal_asked, asking_of, of_event, number_asked, fetching_at_most, fetch, tailing_at_most, tail, alone, Command, commands, commanded_by, request_of, reading, wait_in, within}
 use Rattle.be_protocol.specs.Transcript.{requests, AnswersEach, AreExchanges}
 use Rattle.be_demand.specs.Texts.{is_whole}
 use Rattle.be_demand.specs.Whole.{words_are_whole, attribute_is_whole, names_are_whole, entry_is_whole}
@@ -153,8 +153,12 @@ removal_whole (Some (word name ∷ [])) = go (name_of name) refl
     go (Err fault) is = tt
 removal_whole ts = tt
 
+within_whole : (wait : Option ℕ) (r : Request) → NameWhole r → NameWhole (within wait r)
+within_whole (Some millis) r so = so
+within_whole None r so = tt
+
 fetch_whole : (ts : Option (List Lexeme)) → NameWhole (fetch ts)
-fetch_whole (Some (word max ∷ [])) = go (number_asked (count_of max))
+fetch_whole (Some (word max ∷ ts)) = within_whole (wait_in ts) (fetching_at_most (number_asked (count_of max))) (go (number_asked (count_of max)))
   where
     go : (o : Option ℕ) → NameWhole (fetching_at_most o)
     go (Some n) = tt
@@ -162,7 +166,8 @@ fetch_whole (Some (word max ∷ [])) = go (number_asked (count_of max))
 fetch_whole ts = tt
 
 tail_whole : (ts : Option (List Lexeme)) → NameWhole (tail ts)
-tail_whole (Some (word place ∷ word max ∷ [])) = go (count_of place) (number_asked (count_of max))
+tail_whole (Some (word place ∷ word max ∷ ts)) =
+    within_whole (wait_in ts) (tailing_at_most (count_of place) (number_asked (count_of max))) (go (count_of place) (number_asked (count_of max)))
   where
     go : (a b : Option ℕ) → NameWhole (tailing_at_most a b)
     go (Some m) (Some n) = tt
