@@ -168,8 +168,10 @@ impl<'a, T: Sheet<J>, J: Naming + BoxNames, S: Post, R: Wait + Clock, const TEND
     }
 
     fn await_change<K: Sink>(&mut self, place: u64, millis: u64, out: &K) {
-        let bed = SystemBed::make(self.rt, out);
-        let _ = self.hub.published.await_above(&bed, place, millis);
+        let hub = self.hub;
+        let _ = hub
+            .published
+            .await_above(&SystemBed::make(self.rt, out), place, millis);
     }
 
     fn tend(&mut self) {
