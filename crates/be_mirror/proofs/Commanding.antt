@@ -10,7 +10,7 @@ use Rattle.be_model.specs.Schemas.{Attributes}
 use Rattle.be_event.specs.declared.events.EventFault.{EventFault}
 use Rattle.be_event.specs.Events.{event_of}
 use Rattle.be_change.specs.Requests.{Request, subscribe, publish, costing, sending, dumping, quit}
-use Rattle.be_protocol.specs.Readings.{request_of, asking_of, of_event, alone, tail, tailing_at_most, number_asked}
+use Rattle.be_protocol.specs.Readings.{request_of, asking_of, of_event, alone, tail, tailing_at_most, number_asked, wait_in, within}
 use Rattle.be_protocol.specs.Requests.{TakesMemory}
 use Rattle.be_mirror.specs.Asked.{mirror_request_of, mirror_answered, is_mirror_command}
 use Rattle.be_mirror.proofs.Stepping.{is_reading}
@@ -36,8 +36,13 @@ numbers_kept (Some place) (Some max) = refl
 numbers_kept (Some place) None = refl
 numbers_kept None max = refl
 
+within_kept : (wait : Option ℕ) (r : Request) → mirror_answered r ≡ r → mirror_answered (within wait r) ≡ within wait r
+within_kept (Some millis) r e = e
+within_kept None r e = refl
+
 tail_kept : (ts : List Lexeme) → mirror_answered (tail (Some ts)) ≡ tail (Some ts)
-tail_kept (word place ∷ word max ∷ []) = numbers_kept (count_of place) (number_asked (count_of max))
+tail_kept (word place ∷ word max ∷ ts) =
+    within_kept (wait_in ts) (tailing_at_most (count_of place) (number_asked (count_of max))) (numbers_kept (count_of place) (number_asked (count_of max)))
 tail_kept _ = refl
 
 -- a command's words ask of a mirror what they ask of a session
