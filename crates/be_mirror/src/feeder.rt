@@ -148,9 +148,9 @@ impl<P: Printer + Send> Feeder<P> {
         let Feeder {
             alloc: _,
             ledger: _,
-            direct,
+            direct: Direct { press },
         } = self;
-        direct.press.end(rt);
+        press.end(rt);
     }
 }
 
