@@ -1,6 +1,6 @@
 //! Where the changes of a feed are put, a piece at a time: into the ring, or into a press at once.
 
-ghost use Rattle.std.specs.Prelude.{◌≡◌, List, length, IfOk};
+ghost use Rattle.std.specs.Prelude.{◌≡◌, List, length, IfOk, OnOk};
 ghost use Rattle.rtrb.specs.Ring.{sent, SameProducer};
 ghost use Rattle.be_base.specs.Lists.{BeginsWith};
 ghost use Rattle.be_change.specs.Entries.{entries_in};
@@ -33,7 +33,7 @@ pub(crate) trait Outlet {
     // the second is the first one, as it stands later
     ghost is_later: { Self → Self → Type 0 };
 
-    // Puts what is new in the list, of which so many changes stood in it, and says how many then did.
+    // Puts what is new in the list, of which so many changes stood in it, and says how many then do: all of them.
     fn put_new<R: Wait>(
         &mut self,
         rt: &R,
@@ -49,6 +49,7 @@ pub(crate) trait Outlet {
         ensures sound { is_sound self.new }
         ensures later { (first : Self) → is_later first self.old → is_later first self.new }
         ensures begins { BeginsWith ledger.now.fed.list (list self.new) }
+        ensures all { OnOk result (list self.new ≡ ledger.now.fed.list) }
         ensures stands { IfOk result (λ n. n ≡ length (list self.new)) };
 }
 
