@@ -30,6 +30,9 @@ pub(crate) trait Outlet {
     // what holds of it between two calls
     ghost is_sound: { Self → Type 0 };
 
+    // readers see all of it, where it is a press
+    ghost is_shown: { Self → Type 0 };
+
     // the second is the first one, as it stands later
     ghost is_later: { Self → Self → Type 0 };
 
@@ -50,6 +53,7 @@ pub(crate) trait Outlet {
         ensures later { (first : Self) → is_later first self.old → is_later first self.new }
         ensures begins { BeginsWith ledger.now.fed.list (list self.new) }
         ensures all { OnOk result (list self.new ≡ ledger.now.fed.list) }
+        ensures shown { OnOk result (is_shown self.new) }
         ensures stands { IfOk result (λ n. n ≡ length (list self.new)) };
 }
 
@@ -64,6 +68,8 @@ impl<P: Printer> Outlet for Giver<P> {
     ghost list = { λ giver. entries_in (sent giver) };
 
     ghost is_sound = { λ _. Unit {0} };
+
+    ghost is_shown = { λ _. Unit {0} };
 
     ghost is_later = { λ first giver. SameProducer first giver };
 
@@ -87,7 +93,7 @@ pub(crate) struct Direct<P: Printer> {
 }
 
 impl<P: Printer> Outlet for Direct<P> {
-    ghost use Rattle.std.specs.Prelude.{Unit};
+    ghost use Rattle.std.specs.Prelude.{Unit, ◌≡◌};
     ghost use Rattle.be_base.specs.Lists.{BeginsWith};
 
     ghost schema = { P.schema };
@@ -95,6 +101,8 @@ impl<P: Printer> Outlet for Direct<P> {
     ghost list = { λ direct. P.list direct.press };
 
     ghost is_sound = { λ direct. BeginsWith (P.list direct.press) (P.published direct.press) };
+
+    ghost is_shown = { λ direct. P.published direct.press ≡ P.list direct.press };
 
     ghost is_later = { λ _ _. Unit {0} };
 
