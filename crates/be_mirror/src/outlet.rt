@@ -59,7 +59,6 @@ pub(crate) trait Outlet {
 
 // The ring, out of which another thread takes them.
 impl<P: Printer> Outlet for Giver<P> {
-    ghost use Rattle.std.specs.Prelude.{Unit};
     ghost use Rattle.rtrb.specs.Ring.{sent, SameProducer};
     ghost use Rattle.be_change.specs.Entries.{entries_in};
 
@@ -93,7 +92,7 @@ pub(crate) struct Direct<P: Printer> {
 }
 
 impl<P: Printer> Outlet for Direct<P> {
-    ghost use Rattle.std.specs.Prelude.{Unit, ◌≡◌};
+    ghost use Rattle.std.specs.Prelude.{◌≡◌};
     ghost use Rattle.be_base.specs.Lists.{BeginsWith};
 
     ghost schema = { P.schema };
