@@ -18,7 +18,7 @@ invariant-loop-left g l = record {
   stood : l.stood ≡ length (g.O.Outlet.list l.outlet);
   begins : BeginsWith l.ledger.fed.list (g.O.Outlet.list l.outlet);
   fits : g.O.Outlet.is_sound l.outlet;
-  later : (first : g.O.self) → g.O.Outlet.is_later first l.fn.outlet → g.O.Outlet.is_later first l.outlet;
+  later : (first : g.row.O.Denot) → g.O.Outlet.is_later first l.fn.outlet → g.O.Outlet.is_later first l.outlet;
   room : length l.buffer.items ≡ READ_BYTES;
 }
 
