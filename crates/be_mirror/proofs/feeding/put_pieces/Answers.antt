@@ -127,3 +127,6 @@ returns-in-Err-put_new-clause-within g c =
       omega (arith, more.1, short, c.min-most.ensures, i.bound),
       rises-along (g.S.Source.taken c.args.source.now) (g.S.Source.taken c.loop-left.source) (g.S.Source.taken c.read_piece.new.source) (SOURCE_BYTES - c.loop-left.left) more.0 ((SOURCE_BYTES - c.loop-left.left) + more.0) i.taken more.2 refl,
     )
+
+pub returns-in-Err-put_new-clause-later : goal.returns-in-Err-put_new-clause-later
+returns-in-Err-put_new-clause-later g c = λ first is. c.put_new.ensures.later first (c.loop-left.invariant.later first is)

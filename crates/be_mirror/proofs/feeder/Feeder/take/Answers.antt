@@ -11,7 +11,7 @@ take_and_print-printed-requires-clause-empty g c κs within =
     let none = ap (λ (f : FeederState). f.took.fed.list) new in (
       c.in-Ok.ensures.producer.0,
       c.in-Ok.ensures.consumer.0,
-      BeginsWith-whole c.self.inside.ledger.fed.list (g.P.Printer.list c.self.inside.press) c.self.invariant.1 (omega (arith, ap (λ l. length l) none)) ∙ none,
+      BeginsWith-whole c.self.inside.ledger.fed.list (g.P.Printer.list c.self.inside.direct.press) c.self.invariant.1 (omega (arith, ap (λ l. length l) none)) ∙ none,
       ap (λ (f : FeederState). f.published) new,
     )
 
