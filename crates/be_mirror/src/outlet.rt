@@ -1,11 +1,7 @@
 //! Where the changes of a feed are put, a piece at a time: into the ring, or into a press at once.
 
-ghost use Rattle.std.specs.Prelude.{◌≡◌, List, length, IfOk, OnOk};
-ghost use Rattle.rtrb.specs.Ring.{sent, SameProducer};
+ghost use Rattle.std.specs.Prelude.{◌≡◌, length, IfOk, OnOk};
 ghost use Rattle.be_base.specs.Lists.{BeginsWith};
-ghost use Rattle.be_change.specs.Entries.{entries_in};
-ghost use Rattle.be_change.specs.History.{Entry};
-ghost use Rattle.be_model.specs.Schemas.{Attributes};
 
 use crate::bell::Bell;
 use crate::printing::{Printer, changes_from};

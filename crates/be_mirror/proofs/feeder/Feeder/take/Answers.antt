@@ -45,8 +45,8 @@ put_pieces-requires-clause-empty g c =
     let looked = c.slots_beside in
     let none = ap (λ (f : FollowerState). f.fed.list) (t.nothing c.in-Ok-None.is-1).0 ∙ ap (λ (f : FeederState). f.took.fed.list) (c.self.view_is ∙ c.requires.new.0) in
     BeginsWith-whole both.ledger.fed.list (g.P.Printer.list both.press) (
-      ring_begins both.ledger.fed.list (g.P.Printer.list both.press) (sent both.giver) (sent looked.new.producer) (received both.taker) (received looked.new.self) (known_items looked.new.self)
-          looked.ensures.looked.1 looked.ensures.producer.1 looked.ensures.fifo t.given.2 t.taken.1
+    ring_begins both.ledger.fed.list (g.P.Printer.list both.press) (sent both.giver) (sent looked.new.producer) (received both.taker) (received looked.new.self) (known_items looked.new.self)
+    looked.ensures.looked.1 looked.ensures.producer.1 looked.ensures.fifo t.given.2 t.taken.1
     ) (omega (arith, ap (λ l. length l) none))
     ∙ none
 
