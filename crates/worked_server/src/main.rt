@@ -24,6 +24,7 @@ use std::alloc::Global;
 use std::io;
 use std::sync::Wait;
 use std::thread::Threads;
+use std::time::Clock;
 use worked_help::answer_each;
 
 /// A row is served at most so often, where it names the outcome that it comes to.
@@ -32,7 +33,7 @@ const ATTEMPTS: u64 = 100;
 /// With each attempt workers wait so many turns longer.
 const TURNS_MORE: u64 = 100;
 
-fn call<R: Threads + Wait + Sync>(rt: &R, alloc: Global, stage: &mut Stage<R>) -> Status {
+fn call<R: Threads + Wait + Clock + Sync>(rt: &R, alloc: Global, stage: &mut Stage<R>) -> Status {
     be_main::<_, _, _, _, Metered<links::Peer>, _, _>(
         rt,
         alloc,
@@ -46,7 +47,11 @@ fn call<R: Threads + Wait + Sync>(rt: &R, alloc: Global, stage: &mut Stage<R>) -
 }
 
 // What came of a row.
-fn served<R: Threads + Wait + Sync + Copy>(rt: R, alloc: Global, line: &str) -> Option<String> {
+fn served<R: Threads + Wait + Clock + Sync + Copy>(
+    rt: R,
+    alloc: Global,
+    line: &str,
+) -> Option<String> {
     let row = row::read_row(alloc, line)?;
     for attempt in 1..ATTEMPTS {
         let shown = served_once(rt, alloc, &row, attempt * TURNS_MORE)?;
@@ -59,7 +64,7 @@ fn served<R: Threads + Wait + Sync + Copy>(rt: R, alloc: Global, line: &str) -> 
 }
 
 // The same, where workers that wait for a read wait so many turns more.
-fn served_once<R: Threads + Wait + Sync + Copy>(
+fn served_once<R: Threads + Wait + Clock + Sync + Copy>(
     rt: R,
     alloc: Global,
     row: &Row<'_>,
