@@ -1,6 +1,7 @@
 #!/usr/bin/env bash
-# Runs the program's `mirror`: its words and its schema with their faults, and then clients over TCP beside a feed, by
-# tests/mirror.py, which judges what each of them saw over the list that the feed means. Ends with 1 at the first difference.
+# Runs the program's `mirror`: its words and its schema with their faults; then clients over TCP beside a feed, by tests/mirror.py,
+# which judges what each of them saw over the list that the feed means; then starts with a feed that is there, by
+# tests/mirror_starts.py. Ends with 1 at the first difference.
 # shellcheck source=program.sh
 . "$(dirname "${BASH_SOURCE[0]}")/program.sh"
 began=$SECONDS
@@ -24,6 +25,7 @@ if ! command -v python3 >/dev/null; then
     exit 1
 fi
 part python3 "$top/tests/mirror.py" "$program"
+part python3 "$top/tests/mirror_starts.py" "$program"
 echo "mirror took $((SECONDS - began)) s"
 echo "$passed passed, $failed failed"
 [ $failed -eq 0 ]

@@ -5,9 +5,8 @@ use Rattle.std.proofs.lemmas.List.Folds.{list_all-append}
 use Rattle.std.proofs.lemmas.Bool.{and_parts}
 use Rattle.std.specs.Arc.{arc_value}
 use Rattle.std.specs.declared.sync.Arc.{Arc}
-use Rattle.rtrb.specs.Ring.{SameProducer, SameConsumer}
+use Rattle.rtrb.specs.Ring.{SameConsumer}
 use Rattle.rtrb.specs.declared.consumer.Consumer.{Consumer}
-use Rattle.rtrb.specs.declared.producer.Producer.{Producer}
 use Rattle.be_base.specs.Lists.{BeginsWith}
 use Rattle.be_base.proofs.Beginnings.{BeginsWith-same, BeginsWith-along}
 use Rattle.be_model.specs.Schemas.{Attributes}
@@ -81,8 +80,5 @@ module _ (list list' seen seen' : List Entry) (grows : BeginsWith list' list) (w
 
 -- an end of a ring that is the same after two steps
 module _ {T A P : Type 0} where
-  pub giver_along : (a b c : Producer T A P) → SameProducer a b → SameProducer b c → SameProducer a c
-  giver_along a b c p q = ((q.0.0 ∙ p.0.0, q.0.1 ∙ p.0.1, q.0.2 ∙ p.0.2, q.0.3 ∙ p.0.3), q.1 ∙ p.1)
-
   pub taker_along : (a b c : Consumer T A P) → SameConsumer a b → SameConsumer b c → SameConsumer a c
   taker_along a b c p q = ((q.0.0 ∙ p.0.0, q.0.1 ∙ p.0.1, q.0.2 ∙ p.0.2, q.0.3 ∙ p.0.3), q.1 ∙ p.1)

@@ -1,16 +1,16 @@
 //! What two threads wait by, where one hands to the other.
 
-use std::sync::atomic::{AtomicBool, Ordering};
 use std::sync::{Condvar, Mutex, Wait};
-use std::thread::yield_now;
+use std::time::{Clock, Duration};
 
-/// How often a thread gives way to the other one before that has begun.
-const YIELDS: u32 = 10000;
+/// How long a thread waits for the other one to begin, in milliseconds. Perhaps none can be made.
+const BEGINS_WITHIN: u64 = 2_000;
 
-// How often it was rung, and whether it is closed.
+// How often it was rung, whether the thread that takes has begun, and whether it is closed.
 #[derive(Drop)]
 struct Rings {
     count: u64,
+    has_taker: bool,
     is_closed: bool,
 }
 
@@ -20,7 +20,6 @@ struct Rings {
 pub(crate) struct Bell {
     rings: Mutex<Rings>,
     rung: Condvar,
-    has_taker: AtomicBool,
 }
 
 impl Bell {
@@ -28,30 +27,29 @@ impl Bell {
         Bell {
             rings: Mutex::new(Rings {
                 count: 0,
+                has_taker: false,
                 is_closed: false,
             }),
             rung: Condvar::new(),
-            has_taker: AtomicBool::new(false),
         }
     }
 
     // The thread that takes is there.
-    pub(crate) fn begin(&self) {
-        self.has_taker.store(true, Ordering::SeqCst);
+    pub(crate) fn begin<R: Wait>(&self, rt: &R) {
+        let mut rings = self.rings.lock(rt);
+        rings.has_taker = true;
+        self.rung.notify_all();
     }
 
-    // Gives the other thread time to begin. Perhaps none can be made.
-    pub(crate) fn await_taker(&self) {
-        for _ in 0..YIELDS {
-            if self.has_taker() {
-                return;
-            }
-            yield_now();
-        }
-    }
-
-    pub(crate) fn has_taker(&self) -> bool {
-        self.has_taker.load(Ordering::SeqCst)
+    // Waits until the thread that takes is there, but not for long, and says whether it is.
+    pub(crate) fn await_taker<R: Wait + Clock>(&self, rt: &R) -> bool {
+        let (rings, _) = self.rung.wait_timeout_while(
+            rt,
+            self.rings.lock(rt),
+            Duration::from_millis(BEGINS_WITHIN),
+            |rings| !rings.has_taker,
+        );
+        rings.has_taker
     }
 
     // How often it was rung.

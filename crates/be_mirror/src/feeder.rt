@@ -1,6 +1,6 @@
 //! The side of a mirror that is fed.
 
-ghost use Rattle.std.specs.Prelude.{◌≡◌, ◌≢◌, [], length, OnOk};
+ghost use Rattle.std.specs.Prelude.{◌≡◌, ◌≢◌, [], length, None, IfSome, OnOk};
 ghost use Rattle.rtrb.specs.Ring.{sent, received, SameProducer, SameConsumer};
 ghost use Rattle.std.specs.Arc.{arc_value};
 ghost use Rattle.be_base.specs.Lists.{BeginsWith};
@@ -13,7 +13,8 @@ ghost use Rattle.be_mirror.specs.Feeders.{new_feeder, IsAllPublished};
 ghost use Rattle.be_mirror.specs.Serving.{Feeds};
 
 use crate::bell::Bell;
-use crate::feeding::{FeedEnd, give_pieces};
+use crate::feeding::{FeedEnd, give_beside, put_pieces};
+use crate::outlet::Direct;
 use crate::printing::{Printer, changes_from};
 use crate::ring::{Giver, InOrder, Taker, print_taken};
 use be_base::NoMemory;
@@ -27,6 +28,7 @@ use std::marker::Model;
 use std::sync::atomic::AtomicBool;
 use std::sync::{Arc, Wait};
 use std::thread::{Threads, join_mut};
+use std::time::Clock;
 
 /// How many changes that were read may wait to be published. Those of a list that waits longer are read no faster than published.
 const RING_CHANGES: usize = 16384;
@@ -38,7 +40,7 @@ pub struct Feeder<P: Printer> {
     // The whole list, with a plain index: no event is looked for in it. It says what may come next.
     ledger: Follower<ListIndex>,
     // It has a beginning of the list, and readers see a beginning of that.
-    press: P,
+    direct: Direct<P>,
 }
 
 impl<P: Printer> Model for Feeder<P> {
@@ -48,9 +50,9 @@ impl<P: Printer> Model for Feeder<P> {
 
     ghost Value = { FeederState };
 
-    ghost view = { λ f. record { took = f.ledger; published = P.published f.press } };
+    ghost view = { λ f. record { took = f.ledger; published = P.published f.direct.press } };
 
-    ghost invariant = { λ f. (f.ledger.schema ≡ P.schema) × BeginsWith f.ledger.fed.list (P.list f.press) × BeginsWith (P.list f.press) (P.published f.press) };
+    ghost invariant = { λ f. (f.ledger.schema ≡ P.schema) × BeginsWith f.ledger.fed.list (P.list f.direct.press) × BeginsWith (P.list f.direct.press) (P.published f.direct.press) };
 }
 
 impl<P: Printer + Send> Feeder<P> {
@@ -66,14 +68,14 @@ impl<P: Printer + Send> Feeder<P> {
         Feeder {
             alloc,
             ledger: Follower::make(alloc, schema, index),
-            press,
+            direct: Direct { press },
         }
     }
 
     /// Takes a feed from the input, until it ends, fails or `over` is set, while another thread publishes what it brings. What that one
-    /// hasn't published by the end is left. Where no thread can be made nothing is published. It may wait for readers, and for the
-    /// input.
-    pub fn take<R: Threads + Wait + Sync, S: Source>(
+    /// hasn't published by the end is left. It reads nothing before that one has begun. Where that doesn't come within two seconds, as
+    /// where no thread can be made, this one publishes what it brings. It may wait for readers, and for the input.
+    pub fn take<R: Threads + Wait + Clock + Sync, S: Source>(
         &mut self,
         rt: &R,
         source: &mut S,
@@ -96,15 +98,24 @@ impl<P: Printer + Send> Feeder<P> {
             &mut giver,
             source,
             over,
-            &mut self.press,
+            &mut self.direct.press,
             &mut taker,
             &bell,
         );
         // What came out of the ring is a beginning of what was put in.
         taker.slots_beside(&mut giver);
-        match printed {
-            Ok(()) => end,
-            Err(NoMemory) => FeedEnd::NoMemory,
+        match (printed, end) {
+            (Err(NoMemory), _) => FeedEnd::NoMemory,
+            (Ok(()), Some(end)) => end,
+            (Ok(()), None) => put_pieces(
+                rt,
+                self.alloc,
+                &mut self.ledger,
+                &mut self.direct,
+                source,
+                over,
+                &bell,
+            ),
         }
     }
 
@@ -114,8 +125,8 @@ impl<P: Printer + Send> Feeder<P> {
         ensures kept { BeginsWith self.new.published self.old.published }
         ensures shown { OnOk result (IsAllPublished self.new) }
     {
-        let changes = changes_from(self.alloc, &self.ledger, self.press.handed())?;
-        self.press.print(rt, changes)
+        let changes = changes_from(self.alloc, &self.ledger, self.direct.press.handed())?;
+        self.direct.press.print(rt, changes)
     }
 
     /// How many changes the list has.
@@ -129,7 +140,7 @@ impl<P: Printer + Send> Feeder<P> {
     pub fn press(&self) -> &P
         ensures { P.published result.now ≡ self.now.published }
     {
-        &self.press
+        &self.direct.press
     }
 
     /// Gives it up. It may wait for readers.
@@ -137,14 +148,14 @@ impl<P: Printer + Send> Feeder<P> {
         let Feeder {
             alloc: _,
             ledger: _,
-            press,
+            direct: Direct { press },
         } = self;
         press.end(rt);
     }
 }
 
-// Takes a feed in this thread, and publishes what comes out of the ring in another one.
-fn take_and_print<R: Threads + Wait + Sync, S: Source, P: Printer + Send>(
+// Takes a feed in this thread, and publishes what comes out of the ring in another one. It takes none where that one doesn't begin.
+fn take_and_print<R: Threads + Wait + Clock + Sync, S: Source, P: Printer + Send>(
     rt: &R,
     alloc: Global,
     ledger: &mut Follower<ListIndex>,
@@ -154,10 +165,11 @@ fn take_and_print<R: Threads + Wait + Sync, S: Source, P: Printer + Send>(
     press: &mut P,
     taker: &mut Taker<P>,
     bell: &Bell,
-) -> (Result<(), NoMemory>, FeedEnd)
+) -> (Result<(), NoMemory>, Option<FeedEnd>)
     requires new { (ledger.old ≡ new_follower P.schema) × Follows [] ledger.old }
     requires empty { (sent giver.old ≡ []) × (received taker.old ≡ []) × (P.list press.old ≡ []) × (P.published press.old ≡ []) }
-    ensures feeds { result.1 ≢ FeedEnd.NoMemory → Feeds P.schema (source_state S.Source source.old) (source_state S.Source source.new) result.1 ledger.new.fed }
+    ensures feeds { IfSome result.1 (λ end. end ≢ FeedEnd.NoMemory → Feeds P.schema (source_state S.Source source.old) (source_state S.Source source.new) end ledger.new.fed) }
+    ensures nothing { result.1 ≡ None → (ledger.new ≡ ledger.old) × (source.new ≡ source.old) }
     ensures given { SameProducer giver.old giver.new × (ledger.new.schema ≡ P.schema) × BeginsWith ledger.new.fed.list (entries_in (sent giver.new)) }
     ensures taken { SameConsumer taker.old taker.new × BeginsWith (entries_in (received taker.new)) (P.list press.new) }
     ensures seen { BeginsWith (P.list press.new) (P.published press.new) }
@@ -171,7 +183,7 @@ fn take_and_print<R: Threads + Wait + Sync, S: Source, P: Printer + Send>(
             ensures taken { SameConsumer taker.entry.now taker.exit.now × BeginsWith (entries_in (received taker.exit.now)) (P.list press.exit.now) }
             ensures seen { BeginsWith (P.list press.exit.now) (P.published press.exit.now) }
         {
-            bell.begin();
+            bell.begin(rt);
             let printed = print_taken(rt, alloc, press, taker, bell);
             bell.close(rt);
             printed
@@ -187,7 +199,7 @@ fn take_and_print<R: Threads + Wait + Sync, S: Source, P: Printer + Send>(
 
 // Takes a feed beside the work.
 fn take_beside<
-    R: Threads + Wait + Sync,
+    R: Threads + Wait + Clock + Sync,
     W: FnMut() -> A + Send,
     A: Send,
     P: Printer + Send,
@@ -201,11 +213,12 @@ fn take_beside<
     source: &mut S,
     over: &AtomicBool,
     bell: &Bell,
-) -> (A, FeedEnd)
+) -> (A, Option<FeedEnd>)
     requires work { W.pre work.old }
     requires new { (ledger.old ≡ new_follower P.schema) × Follows [] ledger.old × (sent giver.old ≡ []) }
     ensures works { W.step work.old result.0 work.new }
-    ensures feeds { result.1 ≢ FeedEnd.NoMemory → Feeds P.schema (source_state S.Source source.old) (source_state S.Source source.new) result.1 ledger.new.fed }
+    ensures feeds { IfSome result.1 (λ end. end ≢ FeedEnd.NoMemory → Feeds P.schema (source_state S.Source source.old) (source_state S.Source source.new) end ledger.new.fed) }
+    ensures nothing { result.1 ≡ None → (ledger.new ≡ ledger.old) × (source.new ≡ source.old) }
     ensures given { SameProducer giver.old giver.new × (ledger.new.schema ≡ P.schema) × BeginsWith ledger.new.fed.list (entries_in (sent giver.new)) }
     ensures within { TakesWithin (S.taken source.old) (S.taken source.new) }
     ensures beside { S.kept_by_read source.new ≡ S.kept_by_read source.old }
@@ -213,15 +226,15 @@ fn take_beside<
     join_mut(
         rt,
         work,
-        &mut || -> FeedEnd
+        &mut || -> Option<FeedEnd>
             requires { (ledger.now ≡ new_follower P.schema) × Follows [] ledger.now × (sent giver.now ≡ []) }
-            ensures feeds { result ≢ FeedEnd.NoMemory → Feeds P.schema (source_state S.Source source.entry.now) (source_state S.Source source.exit.now) result ledger.exit.now.fed }
+            ensures feeds { IfSome result (λ end. end ≢ FeedEnd.NoMemory → Feeds P.schema (source_state S.Source source.entry.now) (source_state S.Source source.exit.now) end ledger.exit.now.fed) }
+            ensures nothing { result ≡ None → (ledger.exit.now ≡ ledger.entry.now) × (source.exit.now ≡ source.entry.now) }
             ensures given { SameProducer giver.entry.now giver.exit.now × (ledger.exit.now.schema ≡ P.schema) × BeginsWith ledger.exit.now.fed.list (entries_in (sent giver.exit.now)) }
             ensures within { TakesWithin (S.taken source.entry.now) (S.taken source.exit.now) }
             ensures beside { S.kept_by_read source.exit.now ≡ S.kept_by_read source.entry.now }
         {
-            bell.await_taker();
-            let end = give_pieces(rt, alloc, ledger, giver, source, over, bell);
+            let end = give_beside(rt, alloc, ledger, giver, source, over, bell);
             bell.close(rt);
             end
         },

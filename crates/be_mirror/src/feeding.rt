@@ -1,6 +1,6 @@
 //! How a feed is taken from an input.
 
-ghost use Rattle.std.specs.Prelude.{◌≡◌, ◌≢◌, ◌<◌, None, [], length, IfOk};
+ghost use Rattle.std.specs.Prelude.{◌≡◌, ◌≢◌, ◌<◌, None, [], length, IfSome};
 ghost use Rattle.rtrb.specs.Ring.{sent, SameProducer};
 ghost use Rattle.be_base.specs.Lists.{BeginsWith};
 ghost use Rattle.be_change.specs.Entries.{entries_in};
@@ -13,8 +13,9 @@ ghost use Rattle.be_mirror.specs.Serving.{Feeds};
 
 use crate::bell::Bell;
 use crate::feeder::Feeder;
-use crate::printing::{Printer, changes_from};
-use crate::ring::{Giver, give_all};
+use crate::outlet::Outlet;
+use crate::printing::Printer;
+use crate::ring::Giver;
 use be_base::{NoMemory, READ_BYTES, SOURCE_BYTES};
 use be_follow::{FeedFault, FeedKind, Follower};
 use be_index::ListIndex;
@@ -23,6 +24,7 @@ use std::alloc::Global;
 use std::sync::Wait;
 use std::sync::atomic::{AtomicBool, Ordering};
 use std::thread::Threads;
+use std::time::Clock;
 
 /// Why a feed was taken no further.
 #[derive(Clone, Copy, Debug, PartialEq, Eq)]
@@ -43,7 +45,7 @@ pub enum FeedEnd {
 
 // Takes a feed from the input, and publishes all that it brings, until it ends or all links are served. It looks for the latter
 // before each read.
-pub(crate) fn take_feed<P: Printer + Send, S: Source, R: Threads + Wait + Sync>(
+pub(crate) fn take_feed<P: Printer + Send, S: Source, R: Threads + Wait + Clock + Sync>(
     rt: &R,
     feeder: &mut Feeder<P>,
     source: &mut S,
@@ -62,8 +64,8 @@ pub(crate) fn take_feed<P: Printer + Send, S: Source, R: Threads + Wait + Sync>(
     }
 }
 
-// Takes a feed from the input, and puts its changes into the ring, but those of the last piece.
-pub(crate) fn give_pieces<P: Printer, S: Source, R: Wait>(
+// The same, once the thread that takes changes out of the ring is there. It takes nothing where that one doesn't begin.
+pub(crate) fn give_beside<P: Printer, S: Source, R: Wait + Clock>(
     rt: &R,
     alloc: Global,
     ledger: &mut Follower<ListIndex>,
@@ -71,18 +73,45 @@ pub(crate) fn give_pieces<P: Printer, S: Source, R: Wait>(
     source: &mut S,
     over: &AtomicBool,
     bell: &Bell,
-) -> FeedEnd
+) -> Option<FeedEnd>
     requires new { (ledger.old ≡ new_follower P.schema) × Follows [] ledger.old }
     requires empty { sent giver.old ≡ [] }
-    ensures feeds { result ≢ FeedEnd.NoMemory → Feeds P.schema (source_state S.Source source.old) (source_state S.Source source.new) result ledger.new.fed }
+    ensures feeds { IfSome result (λ end. end ≢ FeedEnd.NoMemory → Feeds P.schema (source_state S.Source source.old) (source_state S.Source source.new) end ledger.new.fed) }
+    ensures nothing { result ≡ None → (ledger.new ≡ ledger.old) × (source.new ≡ source.old) }
     ensures given { SameProducer giver.old giver.new × (ledger.new.schema ≡ P.schema) × BeginsWith ledger.new.fed.list (entries_in (sent giver.new)) }
+    ensures within { TakesWithin (S.taken source.old) (S.taken source.new) }
+    ensures beside { S.kept_by_read source.new ≡ S.kept_by_read source.old }
+{
+    if !bell.await_taker(rt) {
+        return None;
+    }
+    let end = put_pieces(rt, alloc, ledger, giver, source, over, bell);
+    Some(end)
+}
+
+// Takes a feed from the input, and puts its changes into the outlet, but those of the last piece.
+pub(crate) fn put_pieces<O: Outlet, S: Source, R: Wait>(
+    rt: &R,
+    alloc: Global,
+    ledger: &mut Follower<ListIndex>,
+    outlet: &mut O,
+    source: &mut S,
+    over: &AtomicBool,
+    bell: &Bell,
+) -> FeedEnd
+    requires new { (ledger.old ≡ new_follower O.schema) × Follows [] ledger.old }
+    requires empty { O.list outlet.old ≡ [] }
+    requires sound { O.is_sound outlet.old }
+    ensures feeds { result ≢ FeedEnd.NoMemory → Feeds O.schema (source_state S.Source source.old) (source_state S.Source source.new) result ledger.new.fed }
+    ensures put { (ledger.new.schema ≡ O.schema) × BeginsWith ledger.new.fed.list (O.list outlet.new) × O.is_sound outlet.new }
+    ensures later { (first : O) → O.is_later first outlet.old → O.is_later first outlet.new }
     ensures within { TakesWithin (S.taken source.old) (S.taken source.new) }
     ensures beside { S.kept_by_read source.new ≡ S.kept_by_read source.old }
 {
     let Ok(mut buffer) = vec![in alloc; 0; READ_BYTES] else {
         return FeedEnd::NoMemory;
     };
-    let mut given = 0;
+    let mut stood = 0;
     let mut left = SOURCE_BYTES;
     while left > 0 {
         if over.load(Ordering::SeqCst) {
@@ -93,37 +122,12 @@ pub(crate) fn give_pieces<P: Printer, S: Source, R: Wait>(
             Ok(count) => left -= count as u64,
             Err(end) => return end,
         }
-        match give_new(rt, alloc, &*ledger, giver, given, bell) {
-            Ok(count) => given = count,
+        match outlet.put_new(rt, alloc, &*ledger, stood, bell) {
+            Ok(count) => stood = count,
             Err(NoMemory) => return FeedEnd::NoMemory,
         }
     }
     FeedEnd::Spent
-}
-
-// Puts what is new in the list into the ring, of which so many changes stood there, and says how many then did. Where no thread takes
-// them out it puts none.
-fn give_new<P: Printer, R: Wait>(
-    rt: &R,
-    alloc: Global,
-    ledger: &Follower<ListIndex>,
-    giver: &mut Giver<P>,
-    given: u64,
-    bell: &Bell,
-) -> Result<u64, NoMemory>
-    requires schema { ledger.now.schema ≡ P.schema }
-    requires given { given ≡ length (entries_in (sent giver.old)) }
-    requires begins { BeginsWith ledger.now.fed.list (entries_in (sent giver.old)) }
-    ensures ring { SameProducer giver.old giver.new }
-    ensures begins { BeginsWith ledger.now.fed.list (entries_in (sent giver.new)) }
-    ensures given { IfOk result (λ n. n ≡ length (entries_in (sent giver.new))) }
-{
-    if !bell.has_taker() {
-        return Ok(given);
-    }
-    let changes = changes_from(alloc, ledger, given)?;
-    give_all(rt, giver, changes, bell)?;
-    Ok(ledger.len())
 }
 
 // Reads the next piece of a feed into the buffer and takes it, and says how long it was, or why there is none or no more.

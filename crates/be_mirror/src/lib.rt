@@ -15,6 +15,7 @@ mod bell;
 mod feeder;
 mod feeding;
 mod links;
+mod outlet;
 mod printing;
 mod reads;
 mod ring;

@@ -32,6 +32,7 @@ use std::alloc::Global;
 use std::sync::atomic::{AtomicBool, Ordering};
 use std::sync::{Arc, Wait};
 use std::thread::{Threads, join_mut};
+use std::time::Clock;
 
 /// What is left once all links of a door were served.
 #[derive(Drop)]
@@ -94,7 +95,7 @@ impl From<NoMemory> for MirrorFault {
 pub fn run_mirror<
     T: Sheet<J> + Send + Sync,
     J: Naming + Send + Sync,
-    R: Threads + Wait + Sync,
+    R: Threads + Wait + Clock + Sync,
     S: Source,
     L: Link + Drop + Send,
     D: Door<L> + Sync,
@@ -152,7 +153,7 @@ pub fn run_mirror<
 fn mirror<
     T: Sheet<J> + Send + Sync,
     J: Naming + Send + Sync,
-    R: Threads + Wait + Sync,
+    R: Threads + Wait + Clock + Sync,
     S: Source,
     L: Link + Drop + Send,
     D: Door<L> + Sync,
@@ -210,7 +211,7 @@ fn run_beside<
     P: Printer + Send,
     T: Sheet<J> + Send + Sync,
     J: Naming + Send + Sync,
-    R: Threads + Wait + Sync,
+    R: Threads + Wait + Clock + Sync,
     S: Source,
     L: Link + Drop + Send,
     D: Door<L> + Sync,
@@ -259,7 +260,7 @@ fn run_beside<
 
 // Takes the feed beside the work.
 fn take_beside<
-    R: Threads + Wait + Sync,
+    R: Threads + Wait + Clock + Sync,
     W: FnMut() -> A + Send,
     A: Send,
     P: Printer + Send,

@@ -34,6 +34,7 @@ use std::alloc::Global;
 use std::marker::Brand;
 use std::sync::{Arc, Wait};
 use std::thread::Threads;
+use std::time::Clock;
 
 /// Serves so many links of a door by so many workers while it takes the input for a feed, and writes how many links there were and
 /// the length of the list.
@@ -51,7 +52,7 @@ pub fn mirror<R, F, S, K, L, D, G>(
     gate: &G,
 ) -> Status
 where
-    R: Threads + Wait + Sync,
+    R: Threads + Wait + Clock + Sync,
     F: Shelf,
     S: Source,
     K: Sink,
@@ -75,7 +76,7 @@ where
 
 // Serves the links in this schema, and writes what came of it.
 fn run_links<
-    R: Threads + Wait + Sync,
+    R: Threads + Wait + Clock + Sync,
     S: Source,
     K: Sink,
     L: Link + Drop + Send,
@@ -117,7 +118,7 @@ fn run_links<
 // Makes the two sides of the mirror, and serves. Which history it has is picked where this was opened.
 fn run_pair<
     J: Naming + Send + Sync,
-    R: Threads + Wait + Sync,
+    R: Threads + Wait + Clock + Sync,
     S: Source,
     L: Link + Drop + Send,
     D: Door<L> + Sync,
